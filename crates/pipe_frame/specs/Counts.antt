@@ -1,0 +1,14 @@
+-- Counts of 64 bits that stand still at their last value.
+use Rattle.std.specs.Prelude.{◌≡◌, ℕ, ◌+◌, ◌-◌, ◌^◌, ◌<◌, ◌≤◌, ◌⊎◌}
+
+-- the last value of a count
+abbrev pub last_count : ℕ
+last_count = 2 ^ 64 - 1
+
+-- a count has risen by n, or as far as it can
+abbrev pub Counts : ℕ → ℕ → ℕ → Type 0
+Counts n old new = (new ≡ old + n) ⊎ (last_count ≤ new)
+
+-- a count has risen, or stands at its last value
+abbrev pub Rises : ℕ → ℕ → Type 0
+Rises old new = (old < new) ⊎ (last_count ≤ new)

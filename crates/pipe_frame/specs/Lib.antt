@@ -1,0 +1,14 @@
+-- cells: their types, when two are the same, and the order of values
+pub mod Cell
+-- rows, and when two lists have the same rows
+pub mod Rows
+-- a column of values of one type, some of them missing
+pub mod Column
+-- a column with a name and a type
+pub mod Series
+-- schemas
+pub mod Schema
+-- frames as a schema and a list of rows
+pub mod Frame
+-- counts that stand still at their last value
+pub mod Counts

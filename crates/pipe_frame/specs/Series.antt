@@ -1,0 +1,41 @@
+-- A series: a column of cells with a name and a type.
+use Rattle.std.specs.Prelude.{ℕ, List, map, slice_index_or}
+use Rattle.pipe_frame.specs.Cell.{int32_cell, int64_cell, uint32_cell, uint64_cell, boolean_cell, string_cell, binary_cell}
+use Rattle.pipe_frame.specs.declared.any_value.AnyValue.{AnyValue}
+use Rattle.pipe_frame.specs.declared.any_value.AnyValue.TheVariants as cell
+use Rattle.pipe_frame.specs.declared.data_type.DataType.{DataType}
+use Rattle.pipe_frame.specs.declared.data_type.DataType.TheVariants as dtype
+use Rattle.pipe_frame.specs.declared.series.Values.{Values}
+use Rattle.pipe_frame.specs.declared.series.Values.TheVariants as values
+
+-- a series as its reader sees it
+pub record Cells : Type 0 where
+  pub name : List ℕ
+  pub dtype : DataType
+  pub cells : List AnyValue
+
+abbrev pub dtype_of_values : Values → DataType
+dtype_of_values (values.Int32 _) = dtype.Int32
+dtype_of_values (values.Int64 _) = dtype.Int64
+dtype_of_values (values.UInt32 _) = dtype.UInt32
+dtype_of_values (values.UInt64 _) = dtype.UInt64
+dtype_of_values (values.Boolean _) = dtype.Boolean
+dtype_of_values (values.String _) = dtype.String
+dtype_of_values (values.Binary _) = dtype.Binary
+
+abbrev pub cells_of : Values → List AnyValue
+cells_of (values.Int32 column) = map int32_cell column
+cells_of (values.Int64 column) = map int64_cell column
+cells_of (values.UInt32 column) = map uint32_cell column
+cells_of (values.UInt64 column) = map uint64_cell column
+cells_of (values.Boolean column) = map boolean_cell column
+cells_of (values.String column) = map string_cell column
+cells_of (values.Binary column) = map binary_cell column
+
+-- the cell at a place
+abbrev pub cell_at : List AnyValue → ℕ → AnyValue
+cell_at cells i = slice_index_or cells i cell.Null
+
+-- the cells at these places
+abbrev pub chosen_cells : List AnyValue → List ℕ → List AnyValue
+chosen_cells cells rows = map (cell_at cells) rows

@@ -1,0 +1,37 @@
+//! Frames: typed columns of one height, seen as a schema and a list of rows.
+//!
+//! The one contract used above is the frame law: a frame is a schema and a list of rows, and each of its
+//! calls is the plain list operation on them.
+#![tactic(auto)]
+
+mod any_value;
+mod bytes_column;
+mod chunk;
+mod column;
+mod data_frame;
+mod data_type;
+mod error;
+mod field;
+mod gate;
+mod list;
+mod schema;
+mod series;
+mod stop;
+mod text;
+mod try_clone;
+
+pub use any_value::AnyValue;
+pub use bytes_column::{BinaryColumn, StringColumn};
+pub use chunk::DataChunk;
+pub use column::Column;
+pub use data_frame::{DataFrame, Row};
+pub use data_type::DataType;
+pub use error::FrameError;
+pub use field::Field;
+pub use gate::{Gate, OpenGate};
+pub use list::List;
+pub use schema::Schema;
+pub use series::Series;
+pub use stop::{NeverStop, StopCheck};
+pub use text::{Bytes, Text};
+pub use try_clone::TryClone;
