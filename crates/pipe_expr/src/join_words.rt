@@ -1,0 +1,48 @@
+//! The words of joins and functions that the layers share.
+
+use pipe_frame::{List, Text};
+
+/// Which rows a join gives beside the pairs.
+#[derive(Clone, Copy, Debug, PartialEq, Eq)]
+pub enum JoinType {
+    /// The pairs alone.
+    Inner,
+    /// Also each left row without a match.
+    Left,
+    /// Also each left row and each right row without a match.
+    Full,
+    /// Every pair of a left and a right row.
+    Cross,
+}
+
+/// Whether a join's right key columns are dropped from its output.
+#[derive(Clone, Copy, Debug, PartialEq, Eq)]
+pub enum JoinCoalesce {
+    /// They are dropped in inner and left joins.
+    JoinSpecific,
+    /// They are dropped.
+    CoalesceColumns,
+    /// They are kept.
+    KeepColumns,
+}
+
+/// A column's name and the name that it gets.
+#[derive(Debug, Drop)]
+pub struct RenamePair {
+    pub existing: Text,
+    pub new_name: Text,
+}
+
+/// A function over a frame.
+#[derive(Debug, Drop)]
+pub enum FunctionIR {
+    /// Per row and per column of `on`: the `index` columns, the column's name under `variable`, its cell under `value`.
+    Unpivot {
+        on: List<Text>,
+        index: List<Text>,
+        variable: Text,
+        value: Text,
+    },
+    /// All renamings at once.
+    Rename { pairs: List<RenamePair> },
+}
