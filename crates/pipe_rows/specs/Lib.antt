@@ -1,0 +1,2 @@
+-- the order of rows under a sort
+pub mod SortOrder
