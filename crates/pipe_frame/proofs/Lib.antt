@@ -2,3 +2,4 @@ pub mod Slots
 pub mod Cells
 pub mod SeriesCells
 pub mod Tables
+pub mod Weights

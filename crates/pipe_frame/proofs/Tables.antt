@@ -97,8 +97,8 @@ even_all height [] h = let Even : Cells → Type 0 = λ c. length c.cells ≡ he
 even_all height (column ∷ columns) h =
     let Even : Cells → Type 0 = λ c. length c.cells ≡ height in
     let split : (b : Bool) → (length column.cells == height) ≡ b → cond b (other_height height columns) (Some (length column.cells)) ≡ None → AllOfHeight height (column ∷ columns) = elim [
-      true ↦ λ e rest. All-cons Even column columns ((Decides-eqb (length column.cells) height).0 e) (even_all height columns rest)
-    | false ↦ λ e none. cc
+      | true ↦ λ e rest. All-cons Even column columns ((Decides-eqb (length column.cells) height).0 e) (even_all height columns rest)
+      | false ↦ λ e none. cc
     ] in split (length column.cells == height) refl h
 
 pub even_columns : (height : ℕ) (columns : List Cells) → None ≡ other_height height columns → AllOfHeight height columns

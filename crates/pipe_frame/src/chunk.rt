@@ -13,7 +13,10 @@ pub struct DataChunk {
 
 impl Drop for DataChunk {
     fn drop(self) {
-        let DataChunk { chunk_index: _, frame } = self;
+        let DataChunk {
+            chunk_index: _,
+            frame,
+        } = self;
         drop(frame);
     }
 }

@@ -28,7 +28,11 @@ pub struct DataFrame {
 
 impl Drop for DataFrame {
     fn drop(self) {
-        let DataFrame { schema, columns, height: _ } = self;
+        let DataFrame {
+            schema,
+            columns,
+            height: _,
+        } = self;
         drop(schema);
         drop(columns);
     }
@@ -60,7 +64,12 @@ fn row_of(alloc: Global, columns: &[Series], height: usize, i: usize) -> Result<
 }
 
 /// The rows at these places of some columns.
-fn take_columns(alloc: Global, columns: &[Series], height: usize, rows: &[u32]) -> Result<Vec<Series>, AllocError>
+fn take_columns(
+    alloc: Global,
+    columns: &[Series],
+    height: usize,
+    rows: &[u32],
+) -> Result<Vec<Series>, AllocError>
     requires inside { All (λ i. i < height) rows.now }
     requires even { AllOfHeight height columns.now }
     ensures { IfOk result (λ taken. taken.items ≡ chosen_columns columns.now rows.now) }
@@ -122,8 +131,15 @@ impl DataFrame {
         let schema = Schema::new(fields_of(alloc, columns.as_slice())?)?;
         let height = first_height(columns.as_slice());
         match differing_height(columns.as_slice(), height) {
-            Some(other) => Err(FrameError::Height { first: height, other }),
-            None => Ok(DataFrame { schema, columns, height }),
+            Some(other) => Err(FrameError::Height {
+                first: height,
+                other,
+            }),
+            None => Ok(DataFrame {
+                schema,
+                columns,
+                height,
+            }),
         }
     }
 
