@@ -1,0 +1,8 @@
+-- the type of an expression, and the columns that it names
+pub mod Types
+-- the value of an expression at a row
+pub mod Values
+-- what filters, projections and functions make of a row
+pub mod Projections
+-- what a join makes of two lists of rows
+pub mod Joins
