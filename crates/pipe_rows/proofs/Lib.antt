@@ -1,0 +1,3 @@
+pub mod EncodedLemmas
+pub mod EqualityLemmas
+pub mod EqualityLaw

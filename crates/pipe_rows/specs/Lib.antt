@@ -1,2 +1,8 @@
 -- the order of rows under a sort
 pub mod SortOrder
+-- FNV-1a
+pub mod Fnv
+-- rows as bytes that tell them apart
+pub mod Equality
+-- rows in one buffer
+pub mod Encoded

@@ -1,6 +1,12 @@
 //! Keys as bytes: equal keys exactly where the bytes are equal, and the order of keys is the order of bytes.
 #![tactic(auto)]
 
+mod equality;
+mod hasher;
+mod rows_encoded;
 mod sort_field;
 
+pub use equality::{convert_columns_no_order, equal_encodings};
+pub use hasher::{ConstHash, Fnv, KeyHasher, partition_of};
+pub use rows_encoded::RowsEncoded;
 pub use sort_field::SortField;
