@@ -168,6 +168,7 @@ impl DataFrame {
     /// The columns.
     pub fn get_columns(&self) -> &[Series]
         ensures columns { result.now ≡ columns_of self.now }
+        ensures rows { self.now.rows ≡ rows_of result.now (length self.now.rows) }
         ensures even { AllOfHeight (length self.now.rows) result.now }
     {
         self.columns.as_slice()
