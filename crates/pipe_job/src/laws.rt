@@ -1,0 +1,13 @@
+//! Laws of the definitions.
+
+ghost use Rattle.std.specs.Prelude.{◌≡◌, ◌∷◌, ◌++◌, List, map, flat_map};
+ghost use Rattle.pipe_frame.specs.declared.field.Field.{Field as Column};
+ghost use Rattle.pipe_frame.specs.Rows.{Row as Cells};
+ghost use Rattle.pipe_job.specs.Line.{head_line, row_line, lines};
+
+/// The text of a frame is cut into the line of its column names and the lines of its rows.
+#[tactic(auto, using(crate::proofs::Cut::cut_rules))]
+pub fn lines_of_frame()
+    ensures { (fields : List Column) (rows : List Cells)
+        → lines (head_line fields ++ flat_map row_line rows) ≡ head_line fields ∷ map row_line rows }
+{}

@@ -1,0 +1,11 @@
+//! Jobs in JSON: their spelling, their reader, and the lines of rows.
+//!
+//! The one contract used above: a value spells a job exactly where the reader gives that job.
+#![tactic(auto)]
+
+mod cell_texts;
+mod laws;
+mod lines;
+
+pub use laws::lines_of_frame;
+pub use lines::{head_line, push_head_line, push_rows, row_line};

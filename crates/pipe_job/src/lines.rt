@@ -1,0 +1,102 @@
+//! The lines of frames: the column names, and the cells of each row.
+
+ghost use Rattle.std.specs.Prelude.{◌≡◌, ◌<◌, ◌++◌, length, flat_map, OnOk, IfOk, slice_index_or, []};
+ghost use Rattle.pipe_frame.specs.Frame.{row_at, AllOfHeight};
+ghost use Rattle.pipe_frame.specs.Schema.{names_of};
+ghost use Rattle.serde_json.specs.Data.{string};
+ghost use Rattle.serde_json.specs.Written.{compact_text};
+ghost use Rattle.pipe_job.specs.Spelling.{list, cell_spelling};
+ghost use Rattle.pipe_job.specs.Line.{head_line, row_line};
+
+use crate::cell_texts::{push_byte, push_cell, push_comma, push_quoted};
+use pipe_frame::{Bytes, DataFrame, Field, Schema, Series};
+use std::alloc::{AllocError, Global};
+
+/// Appends the array of some fields' names.
+fn push_names(out: &mut Vec<u8>, fields: &[Field]) -> Result<(), AllocError>
+    ensures { OnOk result (out.new.items ≡ out.old.items ++ compact_text (list string (names_of fields.now))) }
+{
+    push_byte(out, b'[')?;
+    let mut later = false;
+    for field in fields {
+        push_comma(out, later)?;
+        push_quoted(out, field.name.as_str())?;
+        later = true;
+    }
+    push_byte(out, b']')
+}
+
+/// Appends the array of a row's cells.
+fn push_cells(
+    out: &mut Vec<u8>,
+    columns: &[Series],
+    height: usize,
+    i: usize,
+) -> Result<(), AllocError>
+    requires inside { i < height }
+    requires even { AllOfHeight height columns.now }
+    ensures { OnOk result (out.new.items ≡ out.old.items ++ compact_text (list cell_spelling (row_at columns.now i))) }
+{
+    push_byte(out, b'[')?;
+    let mut later = false;
+    for column in columns {
+        push_comma(out, later)?;
+        push_cell(out, column, i)?;
+        later = true;
+    }
+    push_byte(out, b']')
+}
+
+/// Appends the line of a row of some columns.
+fn push_row(
+    out: &mut Vec<u8>,
+    columns: &[Series],
+    height: usize,
+    i: usize,
+) -> Result<(), AllocError>
+    requires inside { i < height }
+    requires even { AllOfHeight height columns.now }
+    ensures { OnOk result (out.new.items ≡ out.old.items ++ row_line (row_at columns.now i)) }
+{
+    push_cells(out, columns, height, i)?;
+    push_byte(out, b'\n')
+}
+
+/// Appends the line of the column names. After an error, a part of it may stand there.
+pub fn push_head_line(out: &mut Vec<u8>, schema: &Schema) -> Result<(), AllocError>
+    ensures { OnOk result (out.new.items ≡ out.old.items ++ head_line schema.now) }
+{
+    push_names(out, schema.fields())?;
+    push_byte(out, b'\n')
+}
+
+/// Appends the lines of all rows in order. After an error, a part of them may stand there.
+pub fn push_rows(out: &mut Vec<u8>, frame: &DataFrame) -> Result<(), AllocError>
+    ensures { OnOk result (out.new.items ≡ out.old.items ++ flat_map row_line frame.now.rows) }
+{
+    let columns = frame.get_columns();
+    let height = frame.height();
+    for i in 0..height {
+        push_row(out, columns, height, i)?;
+    }
+    Ok(())
+}
+
+/// The line of the column names.
+pub fn head_line(alloc: Global, schema: &Schema) -> Result<Bytes, AllocError>
+    ensures { IfOk result (λ line. line ≡ head_line schema.now) }
+{
+    let mut out = Vec::new(alloc);
+    push_head_line(&mut out, schema)?;
+    Ok(Bytes::from_vec(out))
+}
+
+/// The line of the row at a place.
+pub fn row_line(alloc: Global, frame: &DataFrame, i: usize) -> Result<Bytes, AllocError>
+    requires { i < length frame.now.rows }
+    ensures { IfOk result (λ line. line ≡ row_line (slice_index_or frame.now.rows i [])) }
+{
+    let mut out = Vec::new(alloc);
+    push_row(&mut out, frame.get_columns(), frame.height(), i)?;
+    Ok(Bytes::from_vec(out))
+}
