@@ -3,7 +3,7 @@
 ghost use Rattle.std.specs.Prelude.{◌≡◌, ◌<◌, ◌⊎◌, length, All, map, IfOk, IfErr, OnOk, Some, slice_get};
 ghost use Rattle.std.specs.Option.{option_copied};
 ghost use Rattle.pipe_frame.specs.Schema.{IsSchema, names_of, names_fault};
-ghost use Rattle.pipe_frame.specs.Frame.{row_at, rows_of, field_of, chosen_rows, chosen_columns, columns_of, height_of, other_height, frame_fault, AllOfHeight};
+ghost use Rattle.pipe_frame.specs.Frame.{row_at, rows_of, field_of, chosen_rows, chosen_columns, columns_of, height_of, other_height, frame_fault, table_of, AllOfHeight};
 
 use crate::any_value::AnyValue;
 use crate::error::FrameError;
@@ -141,6 +141,17 @@ impl DataFrame {
                 height,
             }),
         }
+    }
+
+    /// The frame of these columns, whose names and types are those of a schema. It takes no memory.
+    pub fn from_columns(schema: Schema, columns: Vec<Series>) -> DataFrame
+        requires fields { map field_of columns.items ≡ schema }
+        requires even { AllOfHeight (height_of columns.items) columns.items }
+        ensures { result ≡ table_of columns.items (height_of columns.items) }
+    {
+        let _ = schema.len();
+        let height = first_height(columns.as_slice());
+        DataFrame { schema, columns, height }
     }
 
     /// How many rows there are.
