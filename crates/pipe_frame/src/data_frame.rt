@@ -179,6 +179,7 @@ impl DataFrame {
     /// The columns.
     pub fn get_columns(&self) -> &[Series]
         ensures columns { result.now ≡ columns_of self.now }
+        ensures width { length result.now ≡ length self.now.schema }
         ensures rows { self.now.rows ≡ rows_of result.now (length self.now.rows) }
         ensures even { AllOfHeight (length self.now.rows) result.now }
     {

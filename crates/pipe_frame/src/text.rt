@@ -1,6 +1,6 @@
 //! Texts and byte strings: small types over `String` and `Vec`, which a contract sees as lists of bytes.
 
-ghost use Rattle.std.specs.Prelude.{◌≡◌, [], IfOk, IsUtf8};
+ghost use Rattle.std.specs.Prelude.{◌≡◌, [], IfOk, IsUtf8, string_bytes};
 ghost use Rattle.std.specs.Str.{bytes_eq};
 
 use crate::try_clone::TryClone;
@@ -37,6 +37,13 @@ impl Text {
     {
         let inner = String::from_str(alloc, s)?;
         Ok(Text { inner })
+    }
+
+    /// This text, which takes no further memory.
+    pub fn from_string(text: String) -> Text
+        ensures { result ≡ string_bytes text }
+    {
+        Text { inner: text }
     }
 
     /// The text itself.
