@@ -3,3 +3,4 @@ pub mod Cells
 pub mod SeriesCells
 pub mod Tables
 pub mod Weights
+pub mod Names

@@ -28,7 +28,7 @@ slice_get-rows_of columns height i lt = slice_get-get_or (rows_of columns height
 
 -- ---- choosing rows
 
-row_at-chosen : (columns : List Cells) (places : List ℕ) (k : ℕ) → k < length places → row_at (chosen_columns columns places) k ≡ row_at columns (get_or places k 0)
+pub row_at-chosen : (columns : List Cells) (places : List ℕ) (k : ℕ) → k < length places → row_at (chosen_columns columns places) k ≡ row_at columns (get_or places k 0)
 row_at-chosen [] places k lt = refl
 row_at-chosen (column ∷ columns) places k lt =
     let here : cell_at (chosen_cells column.cells places) k ≡ cell_at column.cells (get_or places k 0) = get_or-map (cell_at column.cells) places k 0 cell.Null lt
