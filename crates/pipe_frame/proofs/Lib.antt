@@ -1,4 +1,5 @@
 pub mod Slots
+pub mod Pieces
 pub mod Cells
 pub mod SeriesCells
 pub mod Tables

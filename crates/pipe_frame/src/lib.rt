@@ -6,6 +6,7 @@
 
 mod any_value;
 mod bytes_column;
+mod bytes_list;
 mod chunk;
 mod column;
 mod data_frame;
@@ -14,6 +15,7 @@ mod error;
 mod field;
 mod gate;
 mod list;
+mod place;
 mod schema;
 mod series;
 mod stop;
@@ -22,6 +24,7 @@ mod try_clone;
 
 pub use any_value::AnyValue;
 pub use bytes_column::{BinaryColumn, StringColumn};
+pub use bytes_list::BytesList;
 pub use chunk::DataChunk;
 pub use column::Column;
 pub use data_frame::{DataFrame, Row};
