@@ -1,4 +1,5 @@
 pub mod Slots
+pub mod Texts
 pub mod Pieces
 pub mod Cells
 pub mod SeriesCells

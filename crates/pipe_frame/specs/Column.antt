@@ -1,4 +1,5 @@
 -- A column of values of one type: at each place a value, or none where it is missing.
+use Rattle.std.specs.Str.{IsUtf8}
 use Rattle.std.specs.Prelude.{◌≡◌, ℕ, ◌+◌, ◌-◌, ◌≤◌, Bool, true, false, List, [], ◌∷◌, Option, Some, None, slice_index_or, slice_range}
 
 -- at each place the value, or none where it isn't marked as there
@@ -37,3 +38,9 @@ less start end = end - start
 
 abbrev pub more : ℕ → ℕ → ℕ
 more start end = start + end
+
+-- each value that isn't missing is UTF-8
+abbrev pub AreTexts : List (Option (List ℕ)) → Type 0
+AreTexts [] = Unit {0}
+AreTexts (Some text ∷ column) = IsUtf8 text × AreTexts column
+AreTexts (None ∷ column) = AreTexts column

@@ -1,5 +1,5 @@
 -- A series: a column of cells with a name and a type.
-use Rattle.std.specs.Prelude.{ℕ, List, map, slice_index_or}
+use Rattle.std.specs.Prelude.{ℕ, List, Option, Some, None, map, slice_index_or}
 use Rattle.pipe_frame.specs.Cell.{int32_cell, int64_cell, uint32_cell, uint64_cell, boolean_cell, string_cell, binary_cell}
 use Rattle.pipe_frame.specs.declared.any_value.AnyValue.{AnyValue}
 use Rattle.pipe_frame.specs.declared.any_value.AnyValue.TheVariants as cell
@@ -39,3 +39,8 @@ cell_at cells i = slice_index_or cells i cell.Null
 -- the cells at these places
 abbrev pub chosen_cells : List AnyValue → List ℕ → List AnyValue
 chosen_cells cells rows = map (cell_at cells) rows
+
+-- the cell at a place, or null where there is none
+abbrev pub cell_or_null : List AnyValue → Option ℕ → AnyValue
+cell_or_null cells (Some i) = cell_at cells i
+cell_or_null cells None = cell.Null

@@ -1,49 +1,62 @@
-//! Columns of byte strings and of texts.
+//! Columns of byte strings and of texts, each in one buffer of bytes with the nulls beside it.
 
-ghost use Rattle.std.specs.Prelude.{◌≡◌, ◌<◌, [], ◌∷◌, ◌++◌, length, IfOk, OnOk, OnErr, Some, None, All, map};
+ghost use Rattle.std.specs.Prelude.{◌≡◌, ℕ, ◌<◌, ◌≤◌, ◌+◌, [], ◌∷◌, ◌++◌, length, IfOk, OnOk, OnErr, Some, None, map, take, drop, if◌then◌else◌};
 ghost use Rattle.std.specs.Option.{option_copied};
-ghost use Rattle.pipe_frame.specs.Column.{slot_at};
+ghost use Rattle.pipe_frame.specs.Column.{slot_at, slot_in};
 
-use crate::column::Column;
-use crate::text::{Bytes, Text};
-use crate::try_clone::TryClone;
+use crate::bytes_list::BytesList;
+use crate::place::{Place, gather};
 use std::alloc::{AllocError, Global};
 use std::marker::Model;
 
-/// A column of byte strings, seen as a list of what may be byte strings.
+/// A column of byte strings, seen as a list of what may be byte strings. Where one is missing an empty one stands.
 #[derive(Debug, Drop)]
 pub struct BinaryColumn {
-    inner: Column<Bytes>,
+    marks: Vec<bool>,
+    pieces: BytesList,
 }
 
 impl Model for BinaryColumn {
-    ghost use Rattle.std.specs.Prelude.{ℕ, List, Option};
+    ghost use Rattle.std.specs.Prelude.{◌≡◌, ℕ, List, Option, length};
+    ghost use Rattle.pipe_frame.specs.Column.{slots};
 
     ghost Value = { List (Option (List ℕ)) };
 
-    ghost view = { λ c. c.inner };
+    ghost view = { λ c. slots c.marks.items c.pieces };
+
+    ghost invariant = { λ c. length c.marks.items ≡ length c.pieces };
 }
 
+#[tactic(auto, using(crate::proofs::Slots::slots_rules))]
 impl BinaryColumn {
     /// A column with no place, which takes no memory.
     pub fn new(alloc: Global) -> BinaryColumn
         ensures { result ≡ [] }
     {
         BinaryColumn {
-            inner: Column::new(alloc),
+            marks: Vec::new(alloc),
+            pieces: BytesList::new(alloc),
         }
     }
 
     /// The allocator of the column.
     pub(crate) fn allocator(&self) -> Global {
-        self.inner.allocator()
+        self.pieces.allocator()
     }
 
     /// How many places there are.
     pub fn len(&self) -> usize
         ensures { result ≡ length self.now }
     {
-        self.inner.len()
+        self.pieces.len()
+    }
+
+    /// The mark and the bytes at a place.
+    fn slot(&self, i: usize) -> (bool, &[u8])
+        requires { i < length self.now }
+        ensures { slot_at self.now i ≡ (if result.0 then Some result.1.now else None) }
+    {
+        (self.marks[i], self.pieces.get(i))
     }
 
     /// The bytes at a place, or none where they are missing.
@@ -51,10 +64,19 @@ impl BinaryColumn {
         requires { i < length self.now }
         ensures { option_copied result ≡ slot_at self.now i }
     {
-        match self.inner.get(i) {
-            Some(bytes) => Some(bytes.as_slice()),
-            None => None,
-        }
+        let (present, bytes) = self.slot(i);
+        if present { Some(bytes) } else { None }
+    }
+
+    /// Puts bytes at the end, which count as missing where they aren't marked as present.
+    fn put(&mut self, present: bool, bytes: &[u8]) -> Result<(), AllocError>
+        ensures ok { OnOk result (self.new ≡ self.old ++ (if present then Some bytes.now else None) ∷ []) }
+        ensures err { OnErr result (self.new ≡ self.old) }
+    {
+        self.marks.reserve(1)?;
+        self.pieces.push(bytes)?;
+        self.marks.push_reserved(present);
+        Ok(())
     }
 
     /// Puts bytes at the end, or a missing value.
@@ -62,120 +84,63 @@ impl BinaryColumn {
         ensures ok { OnOk result (self.new ≡ self.old ++ option_copied bytes.entry ∷ []) }
         ensures err { OnErr result (self.new ≡ self.old) }
     {
-        let alloc = self.inner.allocator();
         match bytes {
-            Some(bytes) => self.inner.push(Bytes::from_slice(alloc, bytes)?),
-            None => self.inner.push_missing(Bytes::new(alloc)),
+            Some(bytes) => self.put(true, bytes),
+            None => self.put(false, &[]),
         }
     }
 }
 
-/// A column of texts, seen as a list of what may be the bytes of texts.
-#[derive(Debug, Drop)]
-pub struct StringColumn {
-    inner: Column<Text>,
-}
-
-impl Model for StringColumn {
-    ghost use Rattle.std.specs.Prelude.{ℕ, List, Option};
-
-    ghost Value = { List (Option (List ℕ)) };
-
-    ghost view = { λ c. c.inner };
-}
-
-impl StringColumn {
-    /// A column with no place, which takes no memory.
-    pub fn new(alloc: Global) -> StringColumn
-        ensures { result ≡ [] }
-    {
-        StringColumn {
-            inner: Column::new(alloc),
-        }
-    }
-
-    /// The allocator of the column.
-    pub(crate) fn allocator(&self) -> Global {
-        self.inner.allocator()
-    }
-
-    /// How many places there are.
-    pub fn len(&self) -> usize
-        ensures { result ≡ length self.now }
-    {
-        self.inner.len()
-    }
-
-    /// The text at a place, or none where it is missing.
-    pub fn get(&self, i: usize) -> Option<&str>
-        requires { i < length self.now }
-        ensures { option_copied result ≡ slot_at self.now i }
-    {
-        match self.inner.get(i) {
-            Some(text) => Some(text.as_str()),
-            None => None,
-        }
-    }
-
-    /// Puts a text at the end, or a missing value.
-    pub fn push(&mut self, text: Option<&str>) -> Result<(), AllocError>
-        ensures ok { OnOk result (self.new ≡ self.old ++ option_copied text.entry ∷ []) }
-        ensures err { OnErr result (self.new ≡ self.old) }
-    {
-        let alloc = self.inner.allocator();
-        match text {
-            Some(text) => self.inner.push(Text::from_str(alloc, text)?),
-            None => self.inner.push_missing(Text::new(alloc)),
-        }
-    }
-}
-
+#[tactic(auto, using(crate::proofs::Slots::slots_rules))]
 impl BinaryColumn {
     /// The byte strings at these places.
-    pub fn take(&self, alloc: Global, rows: &[u32]) -> Result<BinaryColumn, AllocError>
-        requires { All (λ i. i < length self.now) rows.now }
-        ensures { IfOk result (λ taken. taken ≡ map (slot_at self.now) rows.now) }
+    pub(crate) fn take_at<P: Place>(&self, alloc: Global, places: &[P]) -> Result<BinaryColumn, AllocError>
+        ensures { IfOk result (λ taken. taken ≡ map (slot_in self.now) (map P.place places.now)) }
     {
-        let mut taken = BinaryColumn::new(alloc);
-        for row in rows {
-            taken.push(self.get(*row as usize))?;
-        }
-        Ok(taken)
+        Ok(BinaryColumn {
+            marks: gather(alloc, self.marks.as_slice(), places, false)?,
+            pieces: self.pieces.take_at(alloc, places)?,
+        })
+    }
+
+    /// So many places from a place on.
+    pub(crate) fn slice(&self, from: usize, count: usize) -> Result<BinaryColumn, AllocError>
+        requires { from + count ≤ length self.now }
+        ensures { IfOk result (λ part. part ≡ take count (drop from self.now)) }
+    {
+        let alloc = self.allocator();
+        Ok(BinaryColumn {
+            marks: Vec::from_slice(alloc, &self.marks[from..from + count])?,
+            pieces: self.pieces.slice(from, count)?,
+        })
+    }
+
+    /// Puts the places of another column at the end.
+    pub(crate) fn append(&mut self, other: &BinaryColumn) -> Result<(), AllocError>
+        ensures ok { OnOk result (self.new ≡ self.old ++ other.now) }
+        ensures err { OnErr result (self.new ≡ self.old) }
+    {
+        self.marks.reserve(other.marks.len())?;
+        self.pieces.append(&other.pieces)?;
+        self.marks.extend_from_slice(other.marks.as_slice())?;
+        Ok(())
+    }
+
+    /// Keeps so many places, from the front.
+    pub(crate) fn truncate(&mut self, count: usize)
+        ensures { self.new ≡ take count self.old }
+    {
+        self.marks.truncate(count);
+        self.pieces.truncate(count);
     }
 
     /// A copy.
     pub(crate) fn copied(&self) -> Result<BinaryColumn, AllocError>
         ensures { IfOk result (λ copy. copy ≡ self.now) }
     {
-        let mut made = BinaryColumn::new(self.inner.allocator());
-        for i in 0..self.len() {
-            made.push(self.get(i))?;
-        }
-        Ok(made)
-    }
-}
-
-impl StringColumn {
-    /// The texts at these places.
-    pub fn take(&self, alloc: Global, rows: &[u32]) -> Result<StringColumn, AllocError>
-        requires { All (λ i. i < length self.now) rows.now }
-        ensures { IfOk result (λ taken. taken ≡ map (slot_at self.now) rows.now) }
-    {
-        let mut taken = StringColumn::new(alloc);
-        for row in rows {
-            taken.push(self.get(*row as usize))?;
-        }
-        Ok(taken)
-    }
-
-    /// A copy.
-    pub(crate) fn copied(&self) -> Result<StringColumn, AllocError>
-        ensures { IfOk result (λ copy. copy ≡ self.now) }
-    {
-        let mut made = StringColumn::new(self.inner.allocator());
-        for i in 0..self.len() {
-            made.push(self.get(i))?;
-        }
-        Ok(made)
+        Ok(BinaryColumn {
+            marks: Vec::from_slice(self.allocator(), self.marks.as_slice())?,
+            pieces: self.pieces.copied()?,
+        })
     }
 }

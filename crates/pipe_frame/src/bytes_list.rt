@@ -157,9 +157,11 @@ impl BytesList {
 
     /// Keeps so many byte strings, from the front.
     pub(crate) fn truncate(&mut self, count: usize)
-        requires { count ≤ length self.old }
         ensures { self.new ≡ take count self.old }
     {
+        if count >= self.len() {
+            return;
+        }
         let end = start_of(self.ends.as_slice(), count);
         self.bytes.truncate(end);
         self.ends.truncate(count);

@@ -1,9 +1,10 @@
 //! One column of values of one type, some of them missing: typed vectors with the nulls beside them.
 
-ghost use Rattle.std.specs.Prelude.{◌≡◌, ◌<◌, [], ◌∷◌, ◌++◌, length, IfOk, OnOk, OnErr, Some, None, All, map, if◌then◌else◌};
+ghost use Rattle.std.specs.Prelude.{◌≡◌, ℕ, ◌<◌, ◌≤◌, ◌+◌, [], ◌∷◌, ◌++◌, length, IfOk, OnOk, OnErr, Some, None, map, take, drop, if◌then◌else◌};
 ghost use Rattle.std.specs.Option.{option_copied};
-ghost use Rattle.pipe_frame.specs.Column.{slot_at};
+ghost use Rattle.pipe_frame.specs.Column.{slot_at, slot_in};
 
+use crate::place::{Place, gather};
 use std::alloc::{AllocError, Global};
 use std::marker::Model;
 
@@ -120,27 +121,54 @@ impl<T: Copy + Drop> Column<T> {
     }
 
     /// The values at these places.
-    pub fn take(&self, alloc: Global, rows: &[u32]) -> Result<Column<T>, AllocError>
-        requires { All (λ i. i < length self.now) rows.now }
-        ensures { IfOk result (λ taken. taken ≡ map (slot_at self.now) rows.now) }
+    pub(crate) fn take_at<P: Place>(&self, alloc: Global, places: &[P], filler: T) -> Result<Column<T>, AllocError>
+        ensures { IfOk result (λ taken. taken ≡ map (slot_in self.now) (map P.place places.now)) }
     {
-        let mut taken = Column::new(alloc);
-        for row in rows {
-            let (present, value) = self.slot(*row as usize);
-            taken.put(present, *value)?;
-        }
-        Ok(taken)
+        Ok(Column {
+            marks: gather(alloc, self.marks.as_slice(), places, false)?,
+            values: gather(alloc, self.values.as_slice(), places, filler)?,
+        })
+    }
+
+    /// So many places from a place on.
+    pub(crate) fn slice(&self, from: usize, count: usize) -> Result<Column<T>, AllocError>
+        requires { from + count ≤ length self.now }
+        ensures { IfOk result (λ part. part ≡ take count (drop from self.now)) }
+    {
+        let alloc = self.allocator();
+        Ok(Column {
+            marks: Vec::from_slice(alloc, &self.marks[from..from + count])?,
+            values: Vec::from_slice(alloc, &self.values[from..from + count])?,
+        })
+    }
+
+    /// Puts the places of another column at the end.
+    pub(crate) fn append(&mut self, other: &Column<T>) -> Result<(), AllocError>
+        ensures ok { OnOk result (self.new ≡ self.old ++ other.now) }
+        ensures err { OnErr result (self.new ≡ self.old) }
+    {
+        self.marks.reserve(other.marks.len())?;
+        self.values.extend_from_slice(other.values.as_slice())?;
+        self.marks.extend_from_slice(other.marks.as_slice())?;
+        Ok(())
+    }
+
+    /// Keeps so many places, from the front.
+    pub(crate) fn truncate(&mut self, count: usize)
+        ensures { self.new ≡ take count self.old }
+    {
+        self.marks.truncate(count);
+        self.values.truncate(count);
     }
 
     /// A copy.
     pub(crate) fn copied(&self) -> Result<Column<T>, AllocError>
         ensures { IfOk result (λ copy. copy ≡ self.now) }
     {
-        let mut made = Column::new(self.allocator());
-        for i in 0..self.len() {
-            let (present, value) = self.slot(i);
-            made.put(present, *value)?;
-        }
-        Ok(made)
+        let alloc = self.allocator();
+        Ok(Column {
+            marks: Vec::from_slice(alloc, self.marks.as_slice())?,
+            values: Vec::from_slice(alloc, self.values.as_slice())?,
+        })
     }
 }

@@ -1,15 +1,17 @@
 //! Columns with a name and a type.
 
-ghost use Rattle.std.specs.Prelude.{All, map, ◌≡◌, ◌<◌, [], ◌∷◌, ◌++◌, length, IsTrue, IfSome, IfOk, OnOk, OnErr, is_some};
+ghost use Rattle.std.specs.Prelude.{All, map, take, drop, ◌+◌, ◌≤◌, ◌≡◌, ◌<◌, [], ◌∷◌, ◌++◌, length, IsTrue, IfSome, IfOk, OnOk, OnErr, is_some};
 ghost use Rattle.std.specs.Option.{option_copied};
 ghost use Rattle.pipe_frame.specs.Cell.{eq_dtype, fits_dtype, is_null_cell, int32_cell, int64_cell, uint32_cell, uint64_cell, boolean_cell, string_cell, binary_cell};
-ghost use Rattle.pipe_frame.specs.Series.{cells_of, dtype_of_values, chosen_cells, cell_at};
+ghost use Rattle.pipe_frame.specs.Series.{cells_of, dtype_of_values, chosen_cells, cell_at, cell_or_null};
 
 use crate::any_value::AnyValue;
-use crate::bytes_column::{BinaryColumn, StringColumn};
+use crate::bytes_column::BinaryColumn;
 use crate::column::Column;
 use crate::data_type::DataType;
-use crate::text::{Bytes, Text};
+use crate::place::Place;
+use crate::string_column::StringColumn;
+use crate::text::Text;
 use crate::try_clone::TryClone;
 use std::alloc::{AllocError, Global};
 use std::marker::Model;
@@ -143,20 +145,74 @@ impl Values {
 
 #[tactic(auto, using(crate::proofs::SeriesCells::series_rules))]
 impl Values {
-    /// The cells at these places.
-    fn take(&self, alloc: Global, rows: &[u32]) -> Result<Values, AllocError>
-        requires { All (λ i. i < length (cells_of self.now)) rows.now }
+    /// The cells at these places, null where there is none.
+    fn take_at<P: Place>(&self, alloc: Global, places: &[P]) -> Result<Values, AllocError>
         ensures dtype { IfOk result (λ taken. dtype_of_values taken ≡ dtype_of_values self.now) }
-        ensures cells { IfOk result (λ taken. cells_of taken ≡ chosen_cells (cells_of self.now) rows.now) }
+        ensures cells { IfOk result (λ taken. cells_of taken ≡ map (cell_or_null (cells_of self.now)) (map P.place places.now)) }
     {
         match self {
-            Values::Int32(column) => Ok(Values::Int32(column.take(alloc, rows)?)),
-            Values::Int64(column) => Ok(Values::Int64(column.take(alloc, rows)?)),
-            Values::UInt32(column) => Ok(Values::UInt32(column.take(alloc, rows)?)),
-            Values::UInt64(column) => Ok(Values::UInt64(column.take(alloc, rows)?)),
-            Values::Boolean(column) => Ok(Values::Boolean(column.take(alloc, rows)?)),
-            Values::String(column) => Ok(Values::String(column.take(alloc, rows)?)),
-            Values::Binary(column) => Ok(Values::Binary(column.take(alloc, rows)?)),
+            Values::Int32(column) => Ok(Values::Int32(column.take_at(alloc, places, 0)?)),
+            Values::Int64(column) => Ok(Values::Int64(column.take_at(alloc, places, 0)?)),
+            Values::UInt32(column) => Ok(Values::UInt32(column.take_at(alloc, places, 0)?)),
+            Values::UInt64(column) => Ok(Values::UInt64(column.take_at(alloc, places, 0)?)),
+            Values::Boolean(column) => Ok(Values::Boolean(column.take_at(alloc, places, false)?)),
+            Values::String(column) => Ok(Values::String(column.take_at(alloc, places)?)),
+            Values::Binary(column) => Ok(Values::Binary(column.take_at(alloc, places)?)),
+        }
+    }
+}
+
+#[tactic(auto, using(crate::proofs::SeriesCells::series_rules))]
+impl Values {
+    /// So many cells from a place on.
+    fn slice(&self, from: usize, count: usize) -> Result<Values, AllocError>
+        requires { from + count ≤ length (cells_of self.now) }
+        ensures dtype { IfOk result (λ part. dtype_of_values part ≡ dtype_of_values self.now) }
+        ensures cells { IfOk result (λ part. cells_of part ≡ take count (drop from (cells_of self.now))) }
+    {
+        match self {
+            Values::Int32(column) => Ok(Values::Int32(column.slice(from, count)?)),
+            Values::Int64(column) => Ok(Values::Int64(column.slice(from, count)?)),
+            Values::UInt32(column) => Ok(Values::UInt32(column.slice(from, count)?)),
+            Values::UInt64(column) => Ok(Values::UInt64(column.slice(from, count)?)),
+            Values::Boolean(column) => Ok(Values::Boolean(column.slice(from, count)?)),
+            Values::String(column) => Ok(Values::String(column.slice(from, count)?)),
+            Values::Binary(column) => Ok(Values::Binary(column.slice(from, count)?)),
+        }
+    }
+
+    /// Keeps so many cells, from the front.
+    fn truncate(&mut self, count: usize)
+        ensures dtype { dtype_of_values self.new ≡ dtype_of_values self.old }
+        ensures cells { cells_of self.new ≡ take count (cells_of self.old) }
+    {
+        match self {
+            Values::Int32(column) => column.truncate(count),
+            Values::Int64(column) => column.truncate(count),
+            Values::UInt32(column) => column.truncate(count),
+            Values::UInt64(column) => column.truncate(count),
+            Values::Boolean(column) => column.truncate(count),
+            Values::String(column) => column.truncate(count),
+            Values::Binary(column) => column.truncate(count),
+        }
+    }
+
+    /// Puts the cells of values of the same type at the end.
+    fn append(&mut self, other: &Values) -> Result<(), AllocError>
+        requires { dtype_of_values self.old ≡ dtype_of_values other.now }
+        ensures dtype { dtype_of_values self.new ≡ dtype_of_values self.old }
+        ensures ok { OnOk result (cells_of self.new ≡ cells_of self.old ++ cells_of other.now) }
+        ensures err { OnErr result (cells_of self.new ≡ cells_of self.old) }
+    {
+        match (self, other) {
+            (Values::Int32(column), Values::Int32(more)) => column.append(more),
+            (Values::Int64(column), Values::Int64(more)) => column.append(more),
+            (Values::UInt32(column), Values::UInt32(more)) => column.append(more),
+            (Values::UInt64(column), Values::UInt64(more)) => column.append(more),
+            (Values::Boolean(column), Values::Boolean(more)) => column.append(more),
+            (Values::String(column), Values::String(more)) => column.append(more),
+            (Values::Binary(column), Values::Binary(more)) => column.append(more),
+            _ => unreachable!(),
         }
     }
 }
@@ -248,15 +304,49 @@ impl Series {
         self.name = name;
     }
 
+    /// The cells at these places, null where there is none, under the same name.
+    pub(crate) fn take_at<P: Place>(&self, alloc: Global, places: &[P]) -> Result<Series, AllocError>
+        ensures { IfOk result (λ taken. taken ≡ record self.now { cells = map (cell_or_null self.now.cells) (map P.place places.now) }) }
+    {
+        Ok(Series {
+            name: self.name.try_clone()?,
+            values: self.values.take_at(alloc, places)?,
+        })
+    }
+
     /// The cells at these places, under the same name.
     pub fn take(&self, alloc: Global, rows: &[u32]) -> Result<Series, AllocError>
         requires { All (λ i. i < length self.now.cells) rows.now }
         ensures { IfOk result (λ taken. taken ≡ record self.now { cells = chosen_cells self.now.cells rows.now }) }
     {
+        Ok(self.take_at(alloc, rows)?)
+    }
+
+    /// So many cells from a place on, under the same name.
+    pub(crate) fn slice(&self, from: usize, count: usize) -> Result<Series, AllocError>
+        requires { from + count ≤ length self.now.cells }
+        ensures { IfOk result (λ part. part ≡ record self.now { cells = take count (drop from self.now.cells) }) }
+    {
         Ok(Series {
             name: self.name.try_clone()?,
-            values: self.values.take(alloc, rows)?,
+            values: self.values.slice(from, count)?,
         })
+    }
+
+    /// Puts the cells of a column of the same type at the end.
+    pub(crate) fn append(&mut self, other: &Series) -> Result<(), AllocError>
+        requires { self.old.dtype ≡ other.now.dtype }
+        ensures ok { OnOk result (self.new ≡ record self.old { cells = self.old.cells ++ other.now.cells }) }
+        ensures err { OnErr result (self.new ≡ self.old) }
+    {
+        self.values.append(&other.values)
+    }
+
+    /// Keeps so many cells, from the front.
+    pub(crate) fn truncate(&mut self, count: usize)
+        ensures { self.new ≡ record self.old { cells = take count self.old.cells } }
+    {
+        self.values.truncate(count);
     }
 }
 
