@@ -4,5 +4,6 @@ pub mod Pieces
 pub mod Cells
 pub mod SeriesCells
 pub mod Tables
+pub mod RowOps
 pub mod Weights
 pub mod Names

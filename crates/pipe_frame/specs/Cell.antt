@@ -49,6 +49,10 @@ abbrev pub is_null_cell : AnyValue → Bool
 is_null_cell cell.Null = true
 is_null_cell _ = false
 
+abbrev pub is_true_cell : AnyValue → Bool
+is_true_cell (cell.Boolean true) = true
+is_true_cell _ = false
+
 -- whether two cells are the same, null being the same as null
 abbrev pub eq_cell : AnyValue → AnyValue → Bool
 eq_cell cell.Null cell.Null = true

@@ -1,10 +1,12 @@
 -- Frames (relational algebra): a frame stands for its schema and its list of rows.
-use Rattle.std.specs.Prelude.{◌≡◌, ℕ, ◌+◌, List, [], ◌∷◌, ◌==◌, if◌then◌else◌, Option, Some, None, map, All, length, slice_index_or}
+use Rattle.std.specs.Prelude.{◌≡◌, ℕ, ◌+◌, ◌<◌, List, [], ◌∷◌, ◌==◌, if◌then◌else◌, Option, Some, None, map, All, length, replicate, slice_get, slice_index_or, filter_map, option_map}
 use Rattle.std.specs.List.{range_with_len}
 use Rattle.pipe_frame.specs.Rows.{Row}
 use Rattle.pipe_frame.specs.Series.{Cells, cell_at, chosen_cells}
-use Rattle.pipe_frame.specs.Schema.{names_of, names_fault}
+use Rattle.pipe_frame.specs.Cell.{is_true_cell}
+use Rattle.pipe_frame.specs.Schema.{names_of, names_fault, place_of, first_unknown}
 use Rattle.pipe_frame.specs.declared.any_value.AnyValue.{AnyValue}
+use Rattle.pipe_frame.specs.declared.any_value.AnyValue.TheVariants as cell
 use Rattle.pipe_frame.specs.declared.field.Field.{Field}
 use Rattle.pipe_frame.specs.declared.error.FrameError.{FrameError}
 use Rattle.pipe_frame.specs.declared.error.FrameError.TheVariants as fault
@@ -83,3 +85,42 @@ else_fault None later = later
 -- why some columns are no frame, if they aren't: the least of the errors
 abbrev pub frame_fault : List Cells → Option FrameError
 frame_fault columns = else_fault (names_fault (names_of (map field_of columns))) (differing (height_of columns) (other_height (height_of columns) columns))
+
+-- a row number that is there, or none
+abbrev pub IsRowOrNone : ℕ → Option ℕ → Type 0
+IsRowOrNone height (Some i) = i < height
+IsRowOrNone height None = Unit {0}
+
+-- the row at a place, or a row of nulls where there is none
+abbrev pub row_or_nulls : Table → Option ℕ → Row
+row_or_nulls table (Some i) = slice_index_or table.rows i []
+row_or_nulls table None = replicate (length table.schema) cell.Null
+
+-- the rows whose mark is true (a null mark isn't)
+abbrev pub kept_rows : List AnyValue → List Row → List Row
+kept_rows (mark ∷ marks) (row ∷ rows) = if is_true_cell mark then row ∷ kept_rows marks rows else kept_rows marks rows
+kept_rows _ _ = []
+
+-- what stands at these places of a list
+abbrev pub at_places : {X : Type 0} → List X → List ℕ → List X
+at_places xs places = filter_map (slice_get xs) places
+
+-- where the first field of a name stands
+abbrev pub place_named : List Field → List ℕ → Option ℕ
+place_named fields name = place_of name fields
+
+-- where the fields of these names stand
+abbrev pub places_named : List Field → List (List ℕ) → List ℕ
+places_named fields names = filter_map (place_named fields) names
+
+-- a row's cells at these places
+abbrev pub row_at_places : List ℕ → Row → Row
+row_at_places places row = at_places row places
+
+-- the frame of the columns of these names, in the order of the names (projection)
+abbrev pub selected : Table → List (List ℕ) → Table
+selected table names = record { schema = at_places table.schema (places_named table.schema names); rows = map (row_at_places (places_named table.schema names)) table.rows }
+
+-- why columns of these names can't be selected, if they can't: the least of the errors
+abbrev pub select_fault : List Field → List (List ℕ) → Option FrameError
+select_fault fields names = else_fault (names_fault names) (option_map fault.UnknownColumn (first_unknown fields names))

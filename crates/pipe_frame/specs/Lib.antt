@@ -10,5 +10,11 @@ pub mod Series
 pub mod Schema
 -- frames as a schema and a list of rows
 pub mod Frame
+-- columns of a frame, column by column
+pub mod Columns
+-- sizes of frames
+pub mod Sizes
+-- what a vertical stacker holds and gives out
+pub mod Stacker
 -- counts that stand still at their last value
 pub mod Counts

@@ -1,5 +1,5 @@
 -- A schema: one field or more, each name once.
-use Rattle.std.specs.Prelude.{◌≡◌, ℕ, ◌+◌, List, [], ◌∷◌, Bool, false, ◌||◌, if◌then◌else◌, Option, Some, None, map, option_map}
+use Rattle.std.specs.Prelude.{◌≡◌, ℕ, ◌+◌, List, [], ◌∷◌, Bool, false, ◌||◌, if◌then◌else◌, Option, Some, None, is_some, map, option_map}
 use Rattle.std.specs.Str.{bytes_eq}
 use Rattle.pipe_frame.specs.declared.field.Field.{Field}
 use Rattle.pipe_frame.specs.declared.error.FrameError.{FrameError}
@@ -38,3 +38,8 @@ place_from n name (field ∷ fields) = if bytes_eq field.name name then Some n e
 -- where the first field of a name stands
 abbrev pub place_of : List ℕ → List Field → Option ℕ
 place_of name fields = place_from 0 name fields
+
+-- the first of some names that no field has
+abbrev pub first_unknown : List Field → List (List ℕ) → Option (List ℕ)
+first_unknown fields [] = None
+first_unknown fields (name ∷ names) = if is_some (place_of name fields) then first_unknown fields names else Some name

@@ -1,15 +1,16 @@
 //! Frames: columns of one height, each name once.
 
-ghost use Rattle.std.specs.Prelude.{◌≡◌, ◌<◌, ◌⊎◌, length, All, map, IfOk, IfErr, OnOk, Some, slice_get};
-ghost use Rattle.std.specs.Option.{option_copied};
-ghost use Rattle.pipe_frame.specs.Schema.{IsSchema, names_of, names_fault};
-ghost use Rattle.pipe_frame.specs.Frame.{row_at, rows_of, field_of, chosen_rows, chosen_columns, columns_of, height_of, other_height, frame_fault, table_of, AllOfHeight};
+ghost use Rattle.std.specs.Prelude.{◌≡◌, ℕ, ◌<◌, ◌≤◌, ◌+◌, ◌⊎◌, [], ◌++◌, length, All, map, take, drop, IfOk, IfErr, OnOk, OnErr, Some, slice_get};
+ghost use Rattle.pipe_frame.specs.Schema.{IsSchema};
+ghost use Rattle.pipe_frame.specs.Frame.{rows_of, field_of, chosen_rows, columns_of, height_of, frame_fault, table_of, AllOfHeight, IsRowOrNone, row_or_nulls, kept_rows};
 
 use crate::any_value::AnyValue;
+use crate::columns::{append_columns, differing_height, empty_columns, fields_of, first_height, places_of_true, row_of, slice_columns, take_columns};
+use crate::data_type::DataType;
 use crate::error::FrameError;
-use crate::field::Field;
-use crate::list::List;
-use crate::schema::{Schema, check_names};
+use crate::list::{List, copy_items};
+use crate::place::Place;
+use crate::schema::Schema;
 use crate::series::Series;
 use crate::try_clone::TryClone;
 use std::alloc::{AllocError, Global};
@@ -48,73 +49,6 @@ impl Model for DataFrame {
     ghost view = { λ f. table_of f.columns.items f.height };
 
     ghost invariant = { λ f. (f.schema ≡ map field_of f.columns.items) × IsSchema f.schema × AllOfHeight f.height f.columns.items };
-}
-
-/// The row at a place of some columns.
-fn row_of(alloc: Global, columns: &[Series], height: usize, i: usize) -> Result<Row, AllocError>
-    requires inside { i < height }
-    requires even { AllOfHeight height columns.now }
-    ensures { IfOk result (λ row. row ≡ row_at columns.now i) }
-{
-    let mut row = List::new(alloc);
-    for column in columns {
-        row.push(column.get(i)?)?;
-    }
-    Ok(row)
-}
-
-/// The rows at these places of some columns.
-fn take_columns(
-    alloc: Global,
-    columns: &[Series],
-    height: usize,
-    rows: &[u32],
-) -> Result<Vec<Series>, AllocError>
-    requires inside { All (λ i. i < height) rows.now }
-    requires even { AllOfHeight height columns.now }
-    ensures { IfOk result (λ taken. taken.items ≡ chosen_columns columns.now rows.now) }
-{
-    let mut taken = Vec::new(alloc);
-    for column in columns {
-        taken.push(column.take(alloc, rows)?)?;
-    }
-    Ok(taken)
-}
-
-/// The fields of some columns.
-fn fields_of(alloc: Global, columns: &[Series]) -> Result<List<Field>, AllocError>
-    ensures { IfOk result (λ fields. fields ≡ map field_of columns.now) }
-{
-    let mut fields = List::new(alloc);
-    for column in columns {
-        fields.push(Field {
-            name: column.name().try_clone()?,
-            dtype: column.dtype(),
-        })?;
-    }
-    Ok(fields)
-}
-
-/// The first height that isn't this one.
-fn differing_height(columns: &[Series], height: usize) -> Option<usize>
-    ensures { result ≡ other_height height columns.now }
-{
-    for column in columns {
-        if column.len() != height {
-            return Some(column.len());
-        }
-    }
-    None
-}
-
-/// The height of the first column.
-fn first_height(columns: &[Series]) -> usize
-    ensures { result ≡ height_of columns.now }
-{
-    match columns {
-        [] => 0,
-        [column, ..] => column.len(),
-    }
 }
 
 #[tactic(auto, using(crate::proofs::Tables::table_rules))]
@@ -194,15 +128,97 @@ impl DataFrame {
         row_of(alloc, self.columns.as_slice(), self.height, i)
     }
 
+    /// The rows at these places, and a row of nulls where there is none.
+    fn taken<P: Place>(&self, alloc: Global, places: &[P]) -> Result<DataFrame, AllocError>
+        requires { All (IsRowOrNone (length self.now.rows)) (map P.place places.now) }
+        ensures { IfOk result (λ taken. taken ≡ record self.now { rows = map (row_or_nulls self.now) (map P.place places.now) }) }
+    {
+        Ok(DataFrame {
+            schema: self.schema.try_clone()?,
+            columns: take_columns(alloc, self.columns.as_slice(), places)?,
+            height: places.len(),
+        })
+    }
+
     /// The rows at these places.
     pub fn take(&self, alloc: Global, rows: &[u32]) -> Result<DataFrame, AllocError>
         requires { All (λ i. i < length self.now.rows) rows.now }
         ensures { IfOk result (λ taken. taken ≡ record self.now { rows = chosen_rows self.now.rows rows.now }) }
     {
+        Ok(self.taken(alloc, rows)?)
+    }
+
+    /// The rows at these places, and a row of nulls where there is none.
+    pub fn take_opt(&self, rows: &[Option<u32>]) -> Result<DataFrame, AllocError>
+        requires { All (IsRowOrNone (length self.now.rows)) rows.now }
+        ensures { IfOk result (λ taken. taken ≡ record self.now { rows = map (row_or_nulls self.now) rows.now }) }
+    {
+        Ok(self.taken(*self.columns.allocator(), rows)?)
+    }
+
+    /// The rows whose mark is true.
+    pub fn filter(&self, mask: &Series) -> Result<DataFrame, AllocError>
+        requires boolean { mask.now.dtype ≡ DataType.Boolean }
+        requires even { length mask.now.cells ≡ length self.now.rows }
+        ensures { IfOk result (λ kept. kept ≡ record self.now { rows = kept_rows mask.now.cells self.now.rows }) }
+    {
+        let alloc = *self.columns.allocator();
+        let Some(marks) = mask.as_boolean() else {
+            unreachable!()
+        };
+        let places = places_of_true(alloc, marks)?;
+        Ok(self.taken(alloc, places.as_slice())?)
+    }
+
+    /// So many rows from a place on.
+    pub fn slice(&self, offset: usize, len: usize) -> Result<DataFrame, AllocError>
+        requires { offset + len ≤ length self.now.rows }
+        ensures { IfOk result (λ part. part ≡ record self.now { rows = take len (drop offset self.now.rows) }) }
+    {
+        let alloc = *self.columns.allocator();
         Ok(DataFrame {
             schema: self.schema.try_clone()?,
-            columns: take_columns(alloc, self.columns.as_slice(), self.height, rows)?,
-            height: rows.len(),
+            columns: slice_columns(alloc, self.columns.as_slice(), self.height, offset, len)?,
+            height: len,
+        })
+    }
+
+    /// A frame of the same schema with no row.
+    pub fn clear(&self) -> Result<DataFrame, AllocError>
+        ensures { IfOk result (λ cleared. cleared ≡ record self.now { rows = [] }) }
+    {
+        Ok(self.slice(0, 0)?)
+    }
+
+    /// A frame of this schema with no row.
+    pub fn empty(alloc: Global, schema: &Schema) -> Result<DataFrame, AllocError>
+        ensures { IfOk result (λ frame. frame ≡ record { schema = schema.now; rows = [] }) }
+    {
+        Ok(DataFrame {
+            schema: schema.try_clone()?,
+            columns: empty_columns(alloc, schema.fields())?,
+            height: 0,
+        })
+    }
+
+    /// Puts the rows of a frame of the same schema behind these.
+    pub fn vstack_mut(&mut self, other: &DataFrame) -> Result<(), AllocError>
+        requires { self.old.schema ≡ other.now.schema }
+        ensures ok { OnOk result (self.new ≡ record self.old { rows = self.old.rows ++ other.now.rows }) }
+        ensures err { OnErr result (self.new ≡ self.old) }
+    {
+        append_columns(self.columns.as_mut_slice(), other.columns.as_slice(), self.height)?;
+        self.height = first_height(self.columns.as_slice());
+        Ok(())
+    }
+}
+
+impl TryClone for DataFrame {
+    fn try_clone(&self) -> Result<DataFrame, AllocError> {
+        Ok(DataFrame {
+            schema: self.schema.try_clone()?,
+            columns: copy_items(*self.columns.allocator(), self.columns.as_slice())?,
+            height: self.height,
         })
     }
 }

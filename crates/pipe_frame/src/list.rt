@@ -72,10 +72,10 @@ impl<T: Drop> List<T> {
 }
 
 /// Copies of some items.
-fn copy_items<T: TryClone>(alloc: Global, items: &[T]) -> Result<Vec<T>, AllocError>
+pub(crate) fn copy_items<T: TryClone>(alloc: Global, items: &[T]) -> Result<Vec<T>, AllocError>
     ensures { IfOk result (λ copies. copies.items ≡ items.now) }
 {
-    let mut copies = Vec::new(alloc);
+    let mut copies = Vec::with_capacity(alloc, items.len())?;
     for item in items {
         copies.push(item.try_clone()?)?;
     }

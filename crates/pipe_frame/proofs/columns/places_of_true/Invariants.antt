@@ -1,0 +1,6 @@
+use Rattle.std.proofs.Common.{◌≡◌, ◌++◌, drop}
+use Rattle.pipe_frame.specs.Columns.{true_places}
+use Rattle.pipe_frame.proofs.columns.places_of_true.Given as goal
+
+abbrev pub invariant-loop-i : goal.invariant-loop-i
+invariant-loop-i l = l.places.items ++ true_places l.i (drop l.i l.marks) ≡ true_places 0 l.marks
