@@ -50,8 +50,8 @@ cell_apart dtype.Boolean (cell.Boolean true) (cell.Boolean true) x y ha hb e = (
 cell_apart dtype.Boolean (cell.Boolean false) (cell.Boolean false) x y ha hb e = (refl, ap (drop 2) e)
 cell_apart dtype.Boolean (cell.Boolean true) (cell.Boolean false) x y ha hb e = cc
 cell_apart dtype.Boolean (cell.Boolean false) (cell.Boolean true) x y ha hb e = cc
-cell_apart dtype.String (cell.String s) (cell.String t) x y ha hb e = let both = sized_apart s t x y ha.1 hb.1 (ap (drop 1) e) in (ap cell.String both.0, both.1)
-cell_apart dtype.Binary (cell.Binary s) (cell.Binary t) x y ha hb e = let both = sized_apart s t x y ha.1 hb.1 (ap (drop 1) e) in (ap cell.Binary both.0, both.1)
+cell_apart dtype.String (cell.String s) (cell.String t) x y ha hb e = let both = sized_apart s t x y ha.1.0 hb.1.0 (ap (drop 1) e) in (ap cell.String both.0, both.1)
+cell_apart dtype.Binary (cell.Binary s) (cell.Binary t) x y ha hb e = let both = sized_apart s t x y ha.1.0 hb.1.0 (ap (drop 1) e) in (ap cell.Binary both.0, both.1)
 cell_apart _ _ _ x y ha hb e = cc
 
 -- a row's bytes tell the row

@@ -1,7 +1,7 @@
 -- The equality encoding: rows as bytes that are equal exactly where the rows are equal, null with null.
-use Rattle.std.specs.Prelude.{ℕ, ◌<◌, ◌^◌, List, [], ◌∷◌, ◌++◌, Bool, false, ◌||◌, if◌then◌else◌, IsTrue, length, map, FitsSigned}
+use Rattle.std.specs.Prelude.{ℕ, ◌<◌, ◌^◌, List, [], ◌∷◌, ◌++◌, Bool, false, ◌||◌, if◌then◌else◌, IsTrue, length, map, FitsSigned, IsUtf8}
 use Rattle.std.specs.Int.{w32, w64, to_le_bytes, cast_unsigned}
-use Rattle.std.specs.List.{flat_map}
+use Rattle.std.specs.List.{flat_map, AllByRecursion}
 use Rattle.pipe_frame.specs.Cell.{fits_dtype, is_null_cell}
 use Rattle.pipe_frame.specs.Rows.{Row}
 use Rattle.pipe_frame.specs.Series.{Cells}
@@ -33,14 +33,18 @@ abbrev pub has_null_cell : Row → Bool
 has_null_cell [] = false
 has_null_cell (x ∷ row) = is_null_cell x || has_null_cell row
 
--- a value within the range of its type, a length being below 2 ^ 64
+-- each is a byte
+abbrev pub IsBytes : List ℕ → Type 0
+IsBytes bytes = AllByRecursion (λ byte. byte < 256) bytes
+
+-- a value within the range of its type, a length being below 2 ^ 64 and a text UTF-8
 abbrev pub InRange : AnyValue → Type 0
 InRange (cell.Int32 x) = FitsSigned w32 x
 InRange (cell.Int64 x) = FitsSigned w64 x
 InRange (cell.UInt32 x) = x < 2 ^ 32
 InRange (cell.UInt64 x) = x < 2 ^ 64
-InRange (cell.String text) = length text < 2 ^ 64
-InRange (cell.Binary bytes) = length bytes < 2 ^ 64
+InRange (cell.String text) = (length text < 2 ^ 64) × IsBytes text × IsUtf8 text
+InRange (cell.Binary bytes) = (length bytes < 2 ^ 64) × IsBytes bytes
 InRange _ = Unit {0}
 
 -- a cell is one of a column of a type: null, or of the type and within its range

@@ -6,3 +6,5 @@ pub mod Fnv
 pub mod Equality
 -- rows in one buffer
 pub mod Encoded
+-- rows as bytes that are ordered as the rows
+pub mod Ordered

@@ -13,7 +13,7 @@ ghost use Rattle.pipe_rows.specs.Encoded.{equality_encoded};
 ghost use Rattle.pipe_rows.specs.Equality.{equality_cell, equality_row, has_null_cell, sized_bytes, IsCell, InRange, IsRow, dtypes_of};
 
 use crate::rows_encoded::{RowWriter, RowsEncoded};
-use pipe_frame::Series;
+use pipe_frame::{AnyValue, Series};
 use std::alloc::{AllocError, Global};
 
 /// The byte before a value.
@@ -111,6 +111,35 @@ fn write_boolean(x: Option<bool>, writer: &mut RowWriter) -> Result<bool, AllocE
     }
 }
 
+/// Writes a length of eight bytes and some bytes after the mark of a value.
+fn write_sized(bytes: &[u8], writer: &mut RowWriter) -> Result<(), AllocError>
+    ensures bytes { OnOk result (writer.new ≡ record writer.old { open_bytes = writer.old.open_bytes ++ equality_cell (AnyValue.Binary bytes.now) }) }
+    ensures range { InRange (AnyValue.Binary bytes.now) }
+{
+    writer.write(&[VALUE])?;
+    writer.write(&(bytes.len() as u64).to_le_bytes())?;
+    writer.write(bytes)?;
+    Ok(())
+}
+
+/// Writes what may be a text, its length first, and answers whether it was missing.
+fn write_string(x: Option<&str>, writer: &mut RowWriter) -> Result<bool, AllocError>
+    ensures bytes { OnOk result (writer.new ≡ record writer.old { open_bytes = writer.old.open_bytes ++ equality_cell (string_cell (option_copied x.entry)) }) }
+    ensures null { IfOk result (λ null. null ≡ is_null_cell (string_cell (option_copied x.entry))) }
+    ensures range { OnOk result (InRange (string_cell (option_copied x.entry))) }
+{
+    match x {
+        Some(text) => {
+            write_sized(text.as_bytes(), writer)?;
+            Ok(false)
+        }
+        None => {
+            writer.write(&[NULL])?;
+            Ok(true)
+        }
+    }
+}
+
 /// Writes what may be a byte string, its length first, and answers whether it was missing.
 fn write_binary(x: Option<&[u8]>, writer: &mut RowWriter) -> Result<bool, AllocError>
     ensures bytes { OnOk result (writer.new ≡ record writer.old { open_bytes = writer.old.open_bytes ++ equality_cell (binary_cell (option_copied x.entry)) }) }
@@ -119,9 +148,7 @@ fn write_binary(x: Option<&[u8]>, writer: &mut RowWriter) -> Result<bool, AllocE
 {
     match x {
         Some(bytes) => {
-            writer.write(&[VALUE])?;
-            writer.write(&(bytes.len() as u64).to_le_bytes())?;
-            writer.write(bytes)?;
+            write_sized(bytes, writer)?;
             Ok(false)
         }
         None => {
@@ -143,7 +170,7 @@ fn write_cell(column: &Series, i: usize, writer: &mut RowWriter) -> Result<bool,
         return write_int64(values.get(i).copied(), writer);
     }
     if let Some(values) = column.as_string() {
-        return write_binary(values.get(i).map(str::as_bytes), writer);
+        return write_string(values.get(i), writer);
     }
     if let Some(values) = column.as_int32() {
         return write_int32(values.get(i).copied(), writer);
