@@ -1,5 +1,5 @@
 -- Numbers that are bytes.
-use Rattle.std.proofs.Common.{◌≡◌, ℕ, ◌<◌, List, [], ◌∷◌, ◌++◌, suc, get_or, Fits, w8, arith}
+use Rattle.std.proofs.Common.{ℕ, List, [], ◌∷◌, ◌++◌, suc, get_or, Fits, w8, arith}
 use Rattle.pipe_rows.specs.Equality.{IsBytes}
 
 -- what a slice of bytes holds are bytes

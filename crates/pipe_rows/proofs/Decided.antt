@@ -1,5 +1,5 @@
 -- Byte strings of which a byte decides the order, whatever follows them.
-use Rattle.std.proofs.Common.{◌≡◌, ℕ, zero, suc, ◌+◌, ◌-◌, ◌*◌, ◌/◌, ◌%◌, ◌^◌, ◌<◌, ◌≤◌, List, [], ◌∷◌, ◌++◌, map, drop, refl, ap, sym, ◌∙◌, subst, arith}
+use Rattle.std.proofs.Common.{◌≡◌, ℕ, zero, suc, ◌+◌, ◌*◌, ◌/◌, ◌%◌, ◌^◌, ◌<◌, ◌≤◌, List, [], ◌∷◌, ◌++◌, map, drop, refl, ap, sym, ◌∙◌, subst, arith}
 use Rattle.std.specs.Int.{byte_at, bytes_high_first}
 use Rattle.std.specs.Ordering.{nat_cmp, ordering_then, ordering_reverse, MatchOrdering}
 use Rattle.std.specs.Cmp.{nat_cmp_is, ranks}
@@ -8,7 +8,7 @@ use Rattle.std.specs.declared.cmp.Ordering.{Ordering}
 use Rattle.std.specs.declared.cmp.Ordering.TheVariants.{Less, Equal, Greater}
 use Rattle.std.proofs.Math.Nat.{div-add-mod, add-mul-mod_self_left, mod-eq_of_lt, mod-lt, mul-add, mul_assoc, mul-le-mul_left, pow-suc, div-one}
 use Rattle.pipe_rows.specs.Equality.{IsBytes}
-use Rattle.pipe_rows.specs.Ordered.{complement, ended_bytes, escaped_byte}
+use Rattle.pipe_rows.specs.Ordered.{complement, ended_bytes}
 
 -- the two are the same, or the first byte in which they differ decides
 pub data Decided : Ordering → List ℕ → List ℕ → Type 0 where
@@ -58,7 +58,7 @@ low_digits n p h =
     let q : ℕ = n / p in
     let whole : p * q + n % p ≡ n = div-add-mod n p in
     let parts : p * q ≡ p * 256 * (q / 256) + p * (q % 256) =
-        ap (λ z. p * z) (sym (div-add-mod q 256)) ∙ mul-add p (256 * (q / 256)) (q % 256) ∙ ap (λ z. z + p * (q % 256)) (sym (mul_assoc p 256 (q / 256))) in
+    ap (λ z. p * z) (sym (div-add-mod q 256)) ∙ mul-add p (256 * (q / 256)) (q % 256) ∙ ap (λ z. z + p * (q % 256)) (sym (mul_assoc p 256 (q / 256))) in
     let again : n ≡ p * (q % 256) + n % p + p * 256 * (q / 256) = omega arith in
     let small : q % 256 ≤ 255 = omega arith in
     let most : p * (q % 256) ≤ p * 255 = mul-le-mul_left p small in
@@ -81,7 +81,7 @@ more_digits k n = rw (pow-suc 256 k, byte_is k n) (low_digits n (256 ^ k) (power
 shared_cmp : (c x y : ℕ) → nat_cmp (c + x) (c + y) ≡ nat_cmp x y
 shared_cmp c x y =
     let split : (o : Ordering) → MatchOrdering o (x < y) (x ≡ y) (y < x) → MatchOrdering o (c + x < c + y) (c + x ≡ c + y) (c + y < c + x) =
-        elim [ Less ↦ λ h. omega arith | Equal ↦ λ h. omega arith | Greater ↦ λ h. omega arith ]
+    elim [ Less ↦ λ h. omega arith | Equal ↦ λ h. omega arith | Greater ↦ λ h. omega arith ]
     in sym (nat_cmp_is (c + x) (c + y) (nat_cmp x y) (split (nat_cmp x y) (ranks x y)))
 
 -- a higher digit decides
@@ -97,12 +97,12 @@ numbers_decided (suc k) n m =
     let a : ℕ = byte_at k n in
     let b : ℕ = byte_at k m in
     let split : (o : Ordering) → MatchOrdering o (a < b) (a ≡ b) (b < a) → Decided (nat_cmp (p * a + n % p) (p * b + m % p)) (a ∷ bytes_high_first k n) (b ∷ bytes_high_first k m) =
-        elim [
-          Less ↦ λ h. decided_as Less (nat_cmp (p * a + n % p) (p * b + m % p)) (a ∷ bytes_high_first k n) (b ∷ bytes_high_first k m) (less_is (p * a + n % p) (p * b + m % p) (higher_digit p a b (n % p) (m % p) h (mod-lt n (power_pos k)))) (less h)
-        | Equal ↦ λ h. (let D : ℕ → Type 0 = λ c. Decided (nat_cmp (p * a + n % p) (p * c + m % p)) (a ∷ bytes_high_first k n) (c ∷ bytes_high_first k m) in
-              subst D h (decided_as (nat_cmp (n % p) (m % p)) (nat_cmp (p * a + n % p) (p * a + m % p)) (a ∷ bytes_high_first k n) (a ∷ bytes_high_first k m) (shared_cmp (p * a) (n % p) (m % p)) (same (numbers_decided k n m))))
-        | Greater ↦ λ h. decided_as Greater (nat_cmp (p * a + n % p) (p * b + m % p)) (a ∷ bytes_high_first k n) (b ∷ bytes_high_first k m) (greater_is (p * a + n % p) (p * b + m % p) (higher_digit p b a (m % p) (n % p) h (mod-lt m (power_pos k)))) (greater h)
-        ]
+    elim [
+      | Less ↦ λ h. decided_as Less (nat_cmp (p * a + n % p) (p * b + m % p)) (a ∷ bytes_high_first k n) (b ∷ bytes_high_first k m) (less_is (p * a + n % p) (p * b + m % p) (higher_digit p a b (n % p) (m % p) h (mod-lt n (power_pos k)))) (less h)
+      | Equal ↦ λ h. (let D : ℕ → Type 0 = λ c. Decided (nat_cmp (p * a + n % p) (p * c + m % p)) (a ∷ bytes_high_first k n) (c ∷ bytes_high_first k m) in
+          subst D h (decided_as (nat_cmp (n % p) (m % p)) (nat_cmp (p * a + n % p) (p * a + m % p)) (a ∷ bytes_high_first k n) (a ∷ bytes_high_first k m) (shared_cmp (p * a) (n % p) (m % p)) (same (numbers_decided k n m))))
+      | Greater ↦ λ h. decided_as Greater (nat_cmp (p * a + n % p) (p * b + m % p)) (a ∷ bytes_high_first k n) (b ∷ bytes_high_first k m) (greater_is (p * a + n % p) (p * b + m % p) (higher_digit p b a (m % p) (n % p) h (mod-lt m (power_pos k)))) (greater h)
+    ]
     in rw (more_digits k n, more_digits k m) (split (nat_cmp a b) (ranks a b))
 
 -- ---- texts
@@ -118,9 +118,9 @@ texts_decided (zero ∷ s) (suc b ∷ t) = rw (less_is 0 (suc b) (omega arith)) 
 texts_decided (suc a ∷ s) (zero ∷ t) = rw (greater_is (suc a) 0 (omega arith)) (greater {x = suc a} {y = 0} (omega arith))
 texts_decided (suc a ∷ s) (suc b ∷ t) =
     let split : (o : Ordering) → MatchOrdering o (suc a < suc b) (suc a ≡ suc b) (suc b < suc a) → Decided (ordering_then o (slice_cmp nat_cmp s t)) (suc a ∷ ended_bytes s) (suc b ∷ ended_bytes t) =
-        elim [
-          Less ↦ λ h. less h
-        | Equal ↦ λ h. (let D : ℕ → Type 0 = λ c. Decided (slice_cmp nat_cmp s t) (suc a ∷ ended_bytes s) (c ∷ ended_bytes t) in subst D h (same (texts_decided s t)))
-        | Greater ↦ λ h. greater h
-        ]
+    elim [
+      | Less ↦ λ h. less h
+      | Equal ↦ λ h. (let D : ℕ → Type 0 = λ c. Decided (slice_cmp nat_cmp s t) (suc a ∷ ended_bytes s) (c ∷ ended_bytes t) in subst D h (same (texts_decided s t)))
+      | Greater ↦ λ h. greater h
+    ]
     in split (nat_cmp (suc a) (suc b)) (ranks (suc a) (suc b))

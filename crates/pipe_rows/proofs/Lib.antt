@@ -4,3 +4,4 @@ pub mod EqualityLaw
 pub mod BytesLemmas
 pub mod Decided
 pub mod OrderedLaw
+pub mod OrderedLemmas

@@ -3,10 +3,12 @@
 
 mod equality;
 mod hasher;
+mod ordered;
 mod rows_encoded;
 mod sort_field;
 
 pub use equality::{convert_columns_no_order, equal_encodings};
 pub use hasher::{ConstHash, Fnv, KeyHasher, partition_of};
+pub use ordered::{convert_columns, ordered_encodings};
 pub use rows_encoded::RowsEncoded;
 pub use sort_field::SortField;

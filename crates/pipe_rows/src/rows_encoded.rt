@@ -144,6 +144,14 @@ impl RowWriter {
         Ok(())
     }
 
+    /// Writes a byte of the open row.
+    pub(crate) fn push(&mut self, byte: u8) -> Result<(), AllocError>
+        ensures { OnOk result (self.new ≡ record self.old { open_bytes = self.old.open_bytes ++ byte ∷ [] }) }
+    {
+        self.bytes.push(byte)?;
+        Ok(())
+    }
+
     /// Ends the open row.
     pub(crate) fn end_row(&mut self, mark: bool) -> Result<(), AllocError>
         ensures { OnOk result (self.new ≡ record { done = self.old.done ++ record { bytes = self.old.open_bytes; has_null = mark } ∷ []; open_bytes = [] }) }
