@@ -5,3 +5,5 @@ pub mod BytesLemmas
 pub mod Decided
 pub mod OrderedLaw
 pub mod OrderedLemmas
+pub mod DecodingLemmas
+pub mod ValueLemmas

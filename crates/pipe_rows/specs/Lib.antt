@@ -8,3 +8,5 @@ pub mod Equality
 pub mod Encoded
 -- rows as bytes that are ordered as the rows
 pub mod Ordered
+-- which bytes are ordered encodings
+pub mod Decoding

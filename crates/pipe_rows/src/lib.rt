@@ -1,6 +1,7 @@
 //! Keys as bytes: equal keys exactly where the bytes are equal, and the order of keys is the order of bytes.
 #![tactic(auto)]
 
+mod decode_value;
 mod equality;
 mod hasher;
 mod ordered;

@@ -18,7 +18,7 @@ use pipe_frame::{AnyValue, Series};
 use std::alloc::{AllocError, Global};
 
 /// The byte before a value.
-const VALUE: u8 = 1;
+pub(crate) const VALUE: u8 = 1;
 
 /// What stands for a null where nulls are first.
 const NULL_FIRST: u8 = 0;
@@ -27,13 +27,13 @@ const NULL_FIRST: u8 = 0;
 const NULL_LAST: u8 = 255;
 
 /// The top bit of a number of 32 bits. Adding it flips it.
-const TOP_BIT_32: u32 = 1 << 31;
+pub(crate) const TOP_BIT_32: u32 = 1 << 31;
 
 /// The top bit of a number of 64 bits.
-const TOP_BIT_64: u64 = 1 << 63;
+pub(crate) const TOP_BIT_64: u64 = 1 << 63;
 
 /// A byte, complemented where it is descending.
-fn directed(descending: bool, byte: u8) -> u8
+pub(crate) fn directed(descending: bool, byte: u8) -> u8
     ensures { result ∷ [] ≡ directed_bytes descending (byte ∷ []) }
 {
     if descending { u8::MAX - byte } else { byte }
@@ -53,11 +53,18 @@ fn write_value(bytes: &[u8], descending: bool, writer: &mut RowWriter) -> Result
     Ok(())
 }
 
+/// What stands for a null.
+pub(crate) fn null_mark(nulls_last: bool) -> u8
+    ensures { result ≡ (if nulls_last then 255 else 0) }
+{
+    if nulls_last { NULL_LAST } else { NULL_FIRST }
+}
+
 /// Writes what stands for a null.
 fn write_null(nulls_last: bool, writer: &mut RowWriter) -> Result<(), AllocError>
     ensures { OnOk result (writer.new ≡ record writer.old { open_bytes = writer.old.open_bytes ++ (if nulls_last then 255 else 0) ∷ [] }) }
 {
-    writer.push(if nulls_last { NULL_LAST } else { NULL_FIRST })
+    writer.push(null_mark(nulls_last))
 }
 
 /// Writes the mark of a value and a text or byte string: each byte 0 as 0, 255, and at the end 0, 0.

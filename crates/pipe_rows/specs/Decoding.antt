@@ -1,0 +1,91 @@
+-- Decoding: which byte strings are ordered encodings, and of which cells.
+use Rattle.std.specs.Prelude.{◌≡◌, ℕ, ◌<◌, ◌≤◌, List, [], ◌∷◌, ◌++◌, Bool, false, Option, length, drop, slice_index_or}
+use Rattle.std.specs.Option.{MatchOption}
+use Rattle.pipe_frame.specs.Cell.{is_null_cell}
+use Rattle.pipe_frame.specs.Rows.{Row}
+use Rattle.pipe_frame.specs.declared.any_value.AnyValue.{AnyValue}
+use Rattle.pipe_frame.specs.declared.data_type.DataType.{DataType}
+use Rattle.pipe_rows.specs.declared.sort_field.SortField.{SortField}
+use Rattle.pipe_rows.specs.declared.decode_value.Decoded.{Decoded}
+use Rattle.pipe_rows.specs.declared.decode_value.Unescaped.{Unescaped}
+use Rattle.pipe_rows.specs.declared.decode_value.Step.{Step}
+use Rattle.pipe_rows.specs.declared.decode_value.Step.TheVariants as step
+use Rattle.pipe_rows.specs.Encoded.{Encoded, unmarked}
+use Rattle.pipe_rows.specs.Equality.{IsCell, IsRow}
+use Rattle.pipe_rows.specs.Ordered.{ended_bytes, directed_bytes, value_bytes, ordered_cell, ordered_row}
+
+-- the bytes are the ordered encoding of the row
+abbrev pub Encodes : List SortField → List DataType → Row → List ℕ → Type 0
+Encodes fields dtypes row bytes = IsRow dtypes row × (ordered_row fields row ≡ bytes)
+
+-- the bytes are the ordered encoding of some row of these types
+pub record IsEncoding (fields : List SortField) (dtypes : List DataType) (bytes : List ℕ) : Type 0 where
+  pub row : Row
+  pub encodes : Encodes fields dtypes row bytes
+
+-- the bytes of a row
+abbrev pub bytes_at : List Encoded → ℕ → List ℕ
+bytes_at rows i = (slice_index_or rows i (unmarked [])).bytes
+
+-- row i is the first that is no ordered encoding of a row of these types
+pub record IsFirstFault (fields : List SortField) (dtypes : List DataType) (rows : List Encoded) (i : ℕ) : Type 0 where
+  pub within : i < length rows
+  pub before : (k : ℕ) → k < i → IsEncoding fields dtypes (bytes_at rows k)
+  pub here : ¬ IsEncoding fields dtypes (bytes_at rows i)
+
+-- ---- the parts of a row
+
+-- the bytes begin with a text and its end
+pub record IsEnded (bytes : List ℕ) : Type 0 where
+  pub text : List ℕ
+  pub more : List ℕ
+  pub is : ended_bytes text ++ more ≡ bytes
+
+-- what stands at the front of an escaped text: a byte that isn't 0, a byte 0, the end, or nothing of these
+abbrev pub StepIs : Step → List ℕ → Type 0
+StepIs (step.Byte byte) tail = (0 < byte) × (tail ≡ byte ∷ drop 1 tail)
+StepIs step.Zero tail = tail ≡ 0 ∷ 255 ∷ drop 2 tail
+StepIs step.End tail = tail ≡ 0 ∷ 0 ∷ drop 2 tail
+StepIs step.Fault tail = ¬ IsEnded tail
+
+-- a text and its end were taken from the front
+pub record TakesText (bytes text : List ℕ) (used : ℕ) : Type 0 where
+  pub within : used ≤ length bytes
+  pub is : ended_bytes text ++ drop used bytes ≡ bytes
+
+abbrev pub FindsText : List ℕ → Option Unescaped → Type 0
+FindsText bytes found = MatchOption found (¬ IsEnded bytes) (λ u. TakesText bytes u.text.items u.used)
+
+-- the bytes begin with a value of the type
+pub record IsValue (dtype : DataType) (descending : Bool) (bytes : List ℕ) : Type 0 where
+  pub value : AnyValue
+  pub more : List ℕ
+  pub fits : IsCell dtype value
+  pub not_null : is_null_cell value ≡ false
+  pub is : directed_bytes descending (value_bytes value) ++ more ≡ bytes
+
+-- a value of the type was taken from the front
+pub record TakesValue (dtype : DataType) (descending : Bool) (bytes : List ℕ) (value : AnyValue) (used : ℕ) : Type 0 where
+  pub fits : IsCell dtype value
+  pub not_null : is_null_cell value ≡ false
+  pub within : used ≤ length bytes
+  pub is : directed_bytes descending (value_bytes value) ++ drop used bytes ≡ bytes
+
+abbrev pub FindsValue : DataType → Bool → List ℕ → Option Decoded → Type 0
+FindsValue dtype descending bytes found = MatchOption found (¬ IsValue dtype descending bytes) (λ d. TakesValue dtype descending bytes d.value d.used)
+
+-- the bytes begin with a cell of the type
+pub record StartsWithCell (field : SortField) (dtype : DataType) (bytes : List ℕ) : Type 0 where
+  pub value : AnyValue
+  pub more : List ℕ
+  pub fits : IsCell dtype value
+  pub is : ordered_cell field.descending field.nulls_last value ++ more ≡ bytes
+
+-- a cell of the type was taken from the front
+pub record TakesCell (field : SortField) (dtype : DataType) (bytes : List ℕ) (value : AnyValue) (used : ℕ) : Type 0 where
+  pub fits : IsCell dtype value
+  pub within : used ≤ length bytes
+  pub is : ordered_cell field.descending field.nulls_last value ++ drop used bytes ≡ bytes
+
+abbrev pub FindsCell : SortField → DataType → List ℕ → Option Decoded → Type 0
+FindsCell field dtype bytes found = MatchOption found (¬ StartsWithCell field dtype bytes) (λ d. TakesCell field dtype bytes d.value d.used)
