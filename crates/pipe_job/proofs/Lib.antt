@@ -1,3 +1,5 @@
 pub mod Texts
 pub mod Rows
 pub mod Cut
+pub mod SoFar
+pub mod Depths

@@ -1,6 +1,14 @@
 -- the texts of cells
 pub mod Text
--- cells and what may be missing
+-- the spelling of cells, and what may be missing
 pub mod Spelling
+-- the spelling of expressions
+pub mod ExprSpelling
+-- the spelling of nodes
+pub mod PlanSpelling
 -- the lines of rows
 pub mod Line
+-- whether a value spells something of a kind
+pub mod Shape
+-- what a reader answers
+pub mod Reads

@@ -2,7 +2,7 @@
 use Rattle.std.specs.Prelude.{ℕ, ◌^◌, ◌<◌, List, Option, Some, None, ⊤, codes, FitsSigned, map}
 use Rattle.std.specs.Int.{w32, w64}
 use Rattle.hex.specs.Hex.{encode_lower, IsBytes}
-use Rattle.serde_json.specs.Data.{Data, null, boolean, number, unsigned, string, array}
+use Rattle.serde_json.specs.Data.{Data, null, boolean, number, unsigned, string, array, item, no_items, object, member, no_members}
 use Rattle.serde_json.specs.Find.{of_integer}
 use Rattle.serde_json.specs.View.{items_of}
 use Rattle.pipe_frame.specs.declared.any_value.AnyValue.{AnyValue}
@@ -23,6 +23,14 @@ MaybeFits Fits (Some x) = Fits x
 -- an array of the spellings
 abbrev pub list : {A : Type 0} → (A → Data) → List A → Data
 list spell xs = array (items_of (map spell xs))
+
+-- an object with one member
+abbrev pub single : List ℕ → Data → Data
+single name d = object (member name d no_members)
+
+-- an array of two
+abbrev pub couple : Data → Data → Data
+couple a b = array (item a (item b no_items))
 
 -- a whole number
 abbrev pub whole : ℕ → Data

@@ -6,6 +6,12 @@
 mod cell_texts;
 mod laws;
 mod lines;
+mod lists;
+mod members;
+mod misread;
+mod spelled;
 
 pub use laws::lines_of_frame;
 pub use lines::{head_line, push_head_line, push_rows, row_line};
+pub use misread::Misread;
+pub use spelled::Spelled;

@@ -1,0 +1,142 @@
+-- Whether a value spells something of a kind: a test for each kind.
+use Rattle.std.specs.Prelude.{ℕ, ℤ, ◌^◌, ◌==◌, pos, negsuc, codes, List, [], ◌∷◌, ◌||◌, if◌then◌else◌, Option, Some, None, option_and_then, Result, Ok, Err, Bool, true, false, ◌&&◌, nat_lt}
+use Rattle.std.specs.Str.{bytes_eq}
+use Rattle.serde_json.specs.Find.{get, as_str}
+use Rattle.hex.specs.Hex.{decode_of, encode_lower}
+use Rattle.hex.specs.declared.error.FromHexError.{FromHexError}
+use Rattle.serde_json.specs.Data.{Num, unsigned, negative, float, Data, null, boolean, number, string, array, object, Items, no_items, item, Members, no_members, member}
+use Rattle.pipe_frame.specs.declared.data_type.DataType.{DataType}
+use Rattle.pipe_frame.specs.declared.data_type.DataType.TheVariants as dtype
+
+-- ---- objects, member by member
+
+abbrev pub is_object : Data → Bool
+is_object (object ms) = true
+is_object _ = false
+
+-- whether the first member has this name
+abbrev pub begins : List ℕ → Members → Bool
+begins name no_members = false
+begins name (member k d ms) = bytes_eq k name
+
+abbrev pub is_end : Members → Bool
+is_end no_members = true
+is_end (member k d ms) = false
+
+-- whether the first member has this name, and a value of this shape
+abbrev pub has : List ℕ → (Data → Bool) → Members → Bool
+has name shape no_members = false
+has name shape (member k d ms) = bytes_eq k name && shape d
+
+-- one member of this name and shape, and then others
+abbrev pub after : List ℕ → (Data → Bool) → (Members → Bool) → Members → Bool
+after name shape rest no_members = false
+after name shape rest (member k d ms) = bytes_eq k name && shape d && rest ms
+
+abbrev pub on_object : (Members → Bool) → Data → Bool
+on_object shape (object ms) = shape ms
+on_object shape _ = false
+
+-- an object with one member
+abbrev pub is_single : Data → Bool
+is_single (object (member k d no_members)) = true
+is_single _ = false
+
+-- ---- arrays
+
+abbrev pub all_items : (Data → Bool) → Items → Bool
+all_items shape no_items = true
+all_items shape (item d ds) = shape d && all_items shape ds
+
+abbrev pub is_list : (Data → Bool) → Data → Bool
+is_list shape (array ds) = all_items shape ds
+is_list shape _ = false
+
+abbrev pub is_maybe : (Data → Bool) → Data → Bool
+is_maybe shape null = true
+is_maybe shape d = shape d
+
+-- an array of two
+abbrev pub is_couple : Data → Bool
+is_couple (array (item a (item b no_items))) = true
+is_couple _ = false
+
+abbrev pub on_couple : (Data → Bool) → (Data → Bool) → Data → Bool
+on_couple first second (array (item a (item b no_items))) = first a && second b
+on_couple first second _ = false
+
+-- ---- numbers, texts and truth values
+
+abbrev pub is_unsigned : ℕ → Data → Bool
+is_unsigned bits (number (unsigned n)) = nat_lt n (2 ^ bits)
+is_unsigned bits _ = false
+
+-- a whole number, with this many bits beside the sign
+abbrev pub is_signed : ℕ → Data → Bool
+is_signed bits (number (unsigned n)) = nat_lt n (2 ^ bits)
+is_signed bits (number (negative (negsuc n))) = nat_lt n (2 ^ bits)
+is_signed bits _ = false
+
+abbrev pub is_exactly : ℕ → Data → Bool
+is_exactly n (number (unsigned m)) = m == n
+is_exactly n _ = false
+
+abbrev pub is_text : Data → Bool
+is_text (string s) = true
+is_text _ = false
+
+abbrev pub is_truth : Data → Bool
+is_truth (boolean b) = true
+is_truth _ = false
+
+abbrev pub is_word : List ℕ → Data → Bool
+is_word word (string s) = bytes_eq s word
+is_word word _ = false
+
+abbrev pub contains_text : List (List ℕ) → List ℕ → Bool
+contains_text [] s = false
+contains_text (w ∷ ws) s = bytes_eq s w || contains_text ws s
+
+abbrev pub is_one_of : List (List ℕ) → Data → Bool
+is_one_of words (string s) = contains_text words s
+is_one_of words _ = false
+
+-- whether the bytes that a text decodes to are spelled so
+abbrev pub is_encoded : List ℕ → Result (List ℕ) FromHexError → Bool
+is_encoded s (Ok b) = bytes_eq (encode_lower b) s
+is_encoded s (Err e) = false
+
+abbrev pub is_hex : Data → Bool
+is_hex (string s) = is_encoded s (decode_of s)
+is_hex _ = false
+
+-- ---- cells and their types
+
+abbrev pub type_named : List ℕ → Option DataType
+type_named s =
+    if bytes_eq s (codes "Int32") then Some dtype.Int32
+    else if bytes_eq s (codes "Int64") then Some dtype.Int64
+    else if bytes_eq s (codes "UInt32") then Some dtype.UInt32
+    else if bytes_eq s (codes "UInt64") then Some dtype.UInt64
+    else if bytes_eq s (codes "Boolean") then Some dtype.Boolean
+    else if bytes_eq s (codes "String") then Some dtype.String
+    else if bytes_eq s (codes "Binary") then Some dtype.Binary
+    else None
+
+abbrev pub type_words : List (List ℕ)
+type_words = codes "Int32" ∷ codes "Int64" ∷ codes "UInt32" ∷ codes "UInt64" ∷ codes "Boolean" ∷ codes "String" ∷ codes "Binary" ∷ []
+
+abbrev pub is_type : Data → Bool
+is_type d = is_one_of type_words d
+
+abbrev pub is_value : DataType → Data → Bool
+is_value dtype.Int32 = is_signed 31
+is_value dtype.Int64 = is_signed 63
+is_value dtype.UInt32 = is_unsigned 32
+is_value dtype.UInt64 = is_unsigned 64
+is_value dtype.Boolean = is_truth
+is_value dtype.String = is_text
+is_value dtype.Binary = is_hex
+
+abbrev pub is_cell : DataType → Data → Bool
+is_cell t = is_maybe (is_value t)
