@@ -8,6 +8,8 @@ pub mod ExprSpelling
 pub mod PlanSpelling
 -- the lines of rows
 pub mod Line
+-- the names of operators
+pub mod Operators
 -- whether a value spells something of a kind
 pub mod Shape
 -- what a reader answers

@@ -140,3 +140,66 @@ is_value dtype.Binary = is_hex
 
 abbrev pub is_cell : DataType → Data → Bool
 is_cell t = is_maybe (is_value t)
+
+abbrev pub is_cell_at : Option DataType → Data → Bool
+is_cell_at (Some t) d = is_cell t d
+is_cell_at None d = false
+
+-- ---- expressions
+
+abbrev pub type_at : Data → Option DataType
+type_at (string s) = type_named s
+type_at _ = None
+
+-- a member of this name with a type, and then members that are so for that type
+abbrev pub after_type : List ℕ → (Option DataType → Members → Bool) → Members → Bool
+after_type name rest no_members = false
+after_type name rest (member k d ms) = bytes_eq k name && rest (type_at d) ms
+
+abbrev pub is_literal_value : Option DataType → Members → Bool
+is_literal_value t ms = after (codes "value") (is_cell_at t) is_end ms
+
+abbrev pub is_literal : Data → Bool
+is_literal d = on_object (after_type (codes "type") is_literal_value) d
+
+abbrev pub unary_words : List (List ℕ)
+unary_words = codes "not" ∷ codes "is_null" ∷ codes "is_not_null" ∷ []
+
+abbrev pub binary_words : List (List ℕ)
+binary_words = codes "add" ∷ codes "sub" ∷ codes "mul" ∷ codes "eq" ∷ codes "not_eq" ∷ codes "lt" ∷ codes "lt_eq" ∷ codes "gt" ∷ codes "gt_eq" ∷ codes "and" ∷ codes "or" ∷ []
+
+-- whether the value of a member of this name makes an expression
+abbrev pub is_form : List ℕ → Bool → Bool → Bool → Bool → Bool
+is_form name column literal one two =
+    if bytes_eq name (codes "col") then column
+    else if bytes_eq name (codes "lit") then literal
+    else if contains_text unary_words name then one
+    else contains_text binary_words name && two
+
+abbrev mutual
+  pub is_expr : Data → Bool
+  is_expr null = false
+  is_expr (boolean b) = false
+  is_expr (number n) = false
+  is_expr (string s) = false
+  is_expr (array ds) = false
+  is_expr (object ms) = is_expr_member ms
+
+  pub is_expr_member : Members → Bool
+  is_expr_member no_members = false
+  is_expr_member (member k d no_members) = is_form k (is_text d) (is_literal d) (is_expr d) (is_expr_pair d)
+  is_expr_member (member k d (member l e ms)) = false
+
+  pub is_expr_pair : Data → Bool
+  is_expr_pair null = false
+  is_expr_pair (boolean b) = false
+  is_expr_pair (number n) = false
+  is_expr_pair (string s) = false
+  is_expr_pair (array ds) = are_two_exprs ds
+  is_expr_pair (object ms) = false
+
+  pub are_two_exprs : Items → Bool
+  are_two_exprs no_items = false
+  are_two_exprs (item a no_items) = false
+  are_two_exprs (item a (item b no_items)) = is_expr a && is_expr b
+  are_two_exprs (item a (item b (item c ds))) = false

@@ -4,11 +4,14 @@
 #![tactic(auto)]
 
 mod cell_texts;
+mod cells;
+mod exprs;
 mod laws;
 mod lines;
 mod lists;
 mod members;
 mod misread;
+mod ops;
 mod spelled;
 
 pub use laws::lines_of_frame;
