@@ -4,10 +4,19 @@
 //! its end, and what was written is the answer to it. Every other status has its cause as a clause.
 #![tactic(auto)]
 
+mod adapters;
+mod answer;
 mod memory;
 mod outside;
+mod program;
+mod status;
 mod whole;
+mod words;
 
+pub use adapters::{StreamWriter, SystemReader};
 pub use memory::{MemReader, MemWriter, NamedBytes, SureReader, SureWriter};
 pub use outside::{JobReader, ReadFailed, RowWriter, WriteFailed};
+pub use program::run_program;
+pub use status::Refusal;
 pub use whole::{LIMIT, WholeError, read_whole, write_whole};
+pub use words::{Command, command_of};

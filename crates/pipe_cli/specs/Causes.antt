@@ -1,0 +1,15 @@
+-- Why bytes have no answer.
+use Rattle.std.specs.Prelude.{ℕ, List}
+use Rattle.pipe_cli.specs.Answer.{NotFirstJob, NotJson}
+use Rattle.pipe_cli.specs.declared.status.Refusal.{Refusal}
+use Rattle.pipe_cli.specs.declared.status.Refusal.TheVariants as refusal
+
+-- what a refusal says of the bytes; those of reading and writing say that it doesn't come
+abbrev pub Causes : Refusal → List ℕ → Type 0
+Causes refusal.NotJson bytes = NotJson bytes
+Causes refusal.Unbuilt bytes = NotFirstJob bytes
+Causes refusal.Memory bytes = Unit {0}
+Causes refusal.BadWords bytes = ⊥
+Causes refusal.ReadFault bytes = ⊥
+Causes refusal.TooLong bytes = ⊥
+Causes refusal.WriteFault bytes = ⊥

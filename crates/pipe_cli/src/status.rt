@@ -1,0 +1,68 @@
+//! Why the program gives no rows: the status that it ends with, and the line that it notes.
+
+ghost use Rattle.std.specs.Prelude.{◌≡◌};
+ghost use Rattle.pipe_cli.specs.Status.{status_of, status_line};
+
+use std::alloc::AllocError;
+
+/// Why there are no rows.
+#[derive(Clone, Copy, Debug)]
+pub enum Refusal {
+    /// The words are none of the commands.
+    BadWords,
+    /// A call on the input failed.
+    ReadFault,
+    /// The input is longer than a job may be.
+    TooLong,
+    /// The input is not JSON.
+    NotJson,
+    /// The input is no job of the form that is built so far.
+    Unbuilt,
+    /// A call on the output failed.
+    WriteFault,
+    /// Want of memory.
+    Memory,
+}
+
+impl From<AllocError> for Refusal {
+    ghost use Rattle.std.specs.Prelude.{◌≡◌};
+    ghost use Rattle.pipe_cli.specs.declared.status.Refusal.TheVariants.{Memory};
+
+    ghost from_gives = { λ _ refusal. refusal ≡ Memory };
+
+    fn from(_error: AllocError) -> Refusal {
+        Refusal::Memory
+    }
+}
+
+impl Refusal {
+    /// The status that the program ends with.
+    pub fn status(&self) -> u8
+        ensures { result ≡ status_of self.now }
+    {
+        match self {
+            Refusal::BadWords => 1,
+            Refusal::ReadFault => 2,
+            Refusal::TooLong => 3,
+            Refusal::NotJson => 4,
+            Refusal::WriteFault => 9,
+            Refusal::Memory => 10,
+            Refusal::Unbuilt => 11,
+        }
+    }
+
+    /// The line that the program notes.
+    pub fn line(&self) -> &'static str
+        ensures { result.now ≡ status_line (status_of self.now) }
+    {
+        match self {
+            Refusal::BadWords => "error 1: bad words\n",
+            Refusal::ReadFault => "error 2: read fault\n",
+            Refusal::TooLong => "error 3: job too long\n",
+            Refusal::NotJson => "error 4: not JSON\n",
+            Refusal::WriteFault => "error 9: write fault\n",
+            Refusal::Memory => "error 10: out of memory\n",
+            Refusal::Unbuilt => "error 11: unbuilt\n",
+        }
+    }
+}
