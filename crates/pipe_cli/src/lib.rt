@@ -20,3 +20,6 @@ pub use program::run_program;
 pub use status::Refusal;
 pub use whole::{LIMIT, WholeError, read_whole, write_whole};
 pub use words::{Command, command_of};
+
+#[cfg(test)]
+mod tests;
