@@ -6,4 +6,4 @@ pub mod SeriesCells
 pub mod Tables
 pub mod RowOps
 pub mod Weights
-pub mod Names
+pub mod NamePlaces
