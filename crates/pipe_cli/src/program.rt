@@ -45,6 +45,7 @@ fn job_answer<R: JobReader>(
     ensures reading { IfErr result (λ refusal. OfReading refusal (R.left input.old) (R.taken input.old) (R.taken input.new) (R.faults input.old) (R.faults input.new)) }
     ensures text { IfErr result (λ refusal. OfText refusal (R.left input.old)) }
     ensures never_written { IsErrOf result Refusal.WriteFault → ⊥ }
+    ensures unread { IsErrOf result Refusal.BadWords → input.new ≡ input.old }
 {
     let Some(Command::Run) = command_of(words) else {
         return Err(Refusal::BadWords);
@@ -67,6 +68,7 @@ fn attempt<R: JobReader, W: RowWriter>(
     ensures reading { IfErr result (λ refusal. OfReading refusal (R.left input.old) (R.taken input.old) (R.taken input.new) (R.faults input.old) (R.faults input.new)) }
     ensures text { IfErr result (λ refusal. OfText refusal (R.left input.old)) }
     ensures writing { IfErr result (λ refusal. OfWriting refusal (R.left input.old) (W.written out.old) (W.written out.new) (W.faults out.old) (W.faults out.new)) }
+    ensures unread { IsErrOf result Refusal.BadWords → input.new ≡ input.old }
 {
     let text = job_answer(alloc, words, input)?;
     match write_whole(out, text.as_slice()) {
@@ -112,7 +114,8 @@ pub fn run_program<R: JobReader, W: RowWriter, N: RowWriter, C: StopCheck, G: Ga
     ensures if_unbuilt { IfSome (R.left input.old) (λ bytes. NotFirstJob bytes → OneOf (1 ∷ 2 ∷ 3 ∷ 10 ∷ 11 ∷ []) result) }
     ensures complete { IsGood words.now (R.left input.old) → ¬ Rises (R.faults input.old) (R.faults input.new) → ¬ Rises (W.faults out.old) (W.faults out.new) → OneOf (0 ∷ 10 ∷ []) result }
 
-    // What is written.
+    // What is read and written.
+    ensures unread { result ≡ 1 → input.new ≡ input.old }
     ensures front { result ≡ 9 → RanInPart (R.left input.old) (W.written out.old) (W.written out.new) }
     ensures nothing { result ≢ 0 → result ≢ 9 → W.written out.new ≡ W.written out.old }
     ensures noted { result ≢ 0 → Noted (status_line result) (N.written notes.old) (N.written notes.new) (N.faults notes.old) (N.faults notes.new) }
