@@ -1,8 +1,11 @@
 //! What no clause says: that calls succeed, that lines read as they should, and what real streams do.
 
-ghost use Rattle.std.specs.Prelude.{◌<◌, ◌≡◌, IfOk};
+ghost use Rattle.std.specs.Prelude.{◌<◌};
 
-use super::{JobReader, MemReader, MemWriter, NamedBytes, RowWriter, StreamWriter, SureReader, SureWriter, SystemReader};
+use super::{
+    JobReader, MemReader, MemWriter, NamedBytes, RowWriter, StreamWriter, SureReader, SureWriter,
+    SystemReader,
+};
 use crate::{read_whole, run_program, write_whole};
 use pipe_frame::{Bytes, List, NeverStop, OpenGate, Text};
 use std::alloc::{AllocError, Global};
@@ -10,6 +13,7 @@ use std::test::Fail;
 use std::{env, fs, io, process};
 
 const JOB: &str = "{\"version\":1}";
+
 const ROWS: &str = "{\"version\":1}";
 
 fn numbers(alloc: Global, items: &[u64]) -> Result<List<u64>, AllocError> {
@@ -44,11 +48,24 @@ struct Ended {
 }
 
 /// Runs the program, the writes of which with given numbers fail.
-fn run<R: JobReader>(alloc: Global, words: &[&str], input: &mut R, failing: &[u64]) -> Result<Ended, AllocError> {
+fn run<R: JobReader>(
+    alloc: Global,
+    words: &[&str],
+    input: &mut R,
+    failing: &[u64],
+) -> Result<Ended, AllocError> {
     let words = words_of(alloc, words)?;
     let mut out = MemWriter::new(alloc, 5, numbers(alloc, failing)?);
     let mut notes = MemWriter::new(alloc, 1000, List::new(alloc));
-    let status = run_program(alloc, words.as_slice(), input, &mut out, &mut notes, &mut NeverStop::new(), &OpenGate);
+    let status = run_program(
+        alloc,
+        words.as_slice(),
+        input,
+        &mut out,
+        &mut notes,
+        &mut NeverStop::new(),
+        &OpenGate,
+    );
     Ok(Ended { status, out, notes })
 }
 
@@ -61,7 +78,13 @@ fn ends_with_its_status(rt: HostRuntime) -> Result<(), Fail> {
         (&["run", "a", "b"], JOB, 1, "", "error 1: bad words\n"),
         (&["Run"], JOB, 1, "", "error 1: bad words\n"),
         (&["run"], "", 4, "", "error 4: not JSON\n"),
-        (&["run"], "{\"version\":1,\"frames\":[", 4, "", "error 4: not JSON\n"),
+        (
+            &["run"],
+            "{\"version\":1,\"frames\":[",
+            4,
+            "",
+            "error 4: not JSON\n",
+        ),
         (&["run"], "[]", 11, "", "error 11: unbuilt\n"),
         (&["run"], "null", 11, "", "error 11: unbuilt\n"),
     ];
@@ -98,7 +121,10 @@ fn fails_at_each_call(rt: HostRuntime) -> Result<(), Fail> {
         let ended = run(alloc, &["run"], &mut input, &[call])?;
         assert_eq!(rt; ended.status, 9, "write {call}");
         assert!(rt; ended.out.bytes() == front.as_bytes(), "write {call}");
-        assert!(rt; ended.notes.bytes() == b"error 9: write fault\n".as_slice(), "write {call}");
+        assert!(rt;
+            ended.notes.bytes() == b"error 9: write fault\n".as_slice(),
+            "write {call}"
+        );
     }
     // A call that fails takes nothing, so that a second run reads all.
     let mut input = reader(alloc, JOB, 500, &[1])?;
@@ -155,17 +181,39 @@ fn text_named<R: JobReader>(alloc: Global, input: &mut R, name: &str) -> Option<
 #[test]
 fn holds_its_bytes(rt: HostRuntime) -> Result<(), Fail> {
     let alloc = rt.alloc();
-    let mut input = MemReader::new(Bytes::new(alloc), files_of(alloc)?, 2, numbers(alloc, &[1])?);
+    let mut input = MemReader::new(
+        Bytes::new(alloc),
+        files_of(alloc)?,
+        2,
+        numbers(alloc, &[1])?,
+    );
     let mut sure = SureReader::new(Bytes::new(alloc), files_of(alloc)?);
     assert!(rt; input.open_named(b"a").is_err());
-    for (name, mem_text, sure_text) in [("a", Some("first"), "first"), ("b", Some("third"), "third"), ("c", None, "")] {
+    for (name, mem_text, sure_text) in [
+        ("a", Some("first"), "first"),
+        ("b", Some("third"), "third"),
+        ("c", None, ""),
+    ] {
         let found = text_named(alloc, &mut input, name);
-        assert_eq!(rt; found.as_ref().map(|text| text.as_slice()), mem_text.map(|text| text.as_bytes()), "{name}");
+        assert_eq!(rt;
+            found.as_ref().map(|text| text.as_slice()),
+            mem_text.map(|text| text.as_bytes()),
+            "{name}"
+        );
         let found = text_named(alloc, &mut sure, name);
-        assert_eq!(rt; found.as_ref().map(|text| text.as_slice()), Some(sure_text.as_bytes()), "{name}");
+        assert_eq!(rt;
+            found.as_ref().map(|text| text.as_slice()),
+            Some(sure_text.as_bytes()),
+            "{name}"
+        );
     }
     let mut out = SureWriter::new(alloc, 5)?;
-    for (piece, told) in [("abc", Some("abc")), ("de", Some("abcde")), ("f", None), ("", None)] {
+    for (piece, told) in [
+        ("abc", Some("abc")),
+        ("de", Some("abcde")),
+        ("f", None),
+        ("", None),
+    ] {
         assert!(rt; write_whole(&mut out, piece.as_bytes()).is_ok());
         assert_eq!(rt; out.bytes(), told.map(|text| text.as_bytes()), "{piece}");
     }
@@ -184,10 +232,16 @@ fn reads_and_writes_streams(rt: HostRuntime) -> Result<(), Fail> {
     fs::write(&rt, path.as_str(), "from a file")?;
     let mut input = SystemReader::new(&rt, standard);
     let bytes = read_whole(alloc, &mut input).ok();
-    assert_eq!(rt; bytes.as_ref().map(|text| text.as_slice()), Some(b"from a pipe".as_slice()));
+    assert_eq!(rt;
+        bytes.as_ref().map(|text| text.as_slice()),
+        Some(b"from a pipe".as_slice())
+    );
     let bytes = text_named(alloc, &mut input, path.as_str());
     fs::remove_file(&rt, path.as_str())?;
-    assert_eq!(rt; bytes.as_ref().map(|text| text.as_slice()), Some(b"from a file".as_slice()));
+    assert_eq!(rt;
+        bytes.as_ref().map(|text| text.as_slice()),
+        Some(b"from a file".as_slice())
+    );
     assert!(rt; input.open_named(path.as_str().as_bytes()).is_err());
     assert!(rt; input.open_named(&[255]).is_err());
 
