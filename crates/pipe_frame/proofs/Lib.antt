@@ -5,5 +5,7 @@ pub mod Cells
 pub mod SeriesCells
 pub mod Tables
 pub mod RowOps
+pub mod Sizes
+pub mod Selects
 pub mod Weights
 pub mod NamePlaces

@@ -1,5 +1,5 @@
 -- Counts of 64 bits that stand still at their last value.
-use Rattle.std.specs.Prelude.{◌≡◌, ℕ, ◌+◌, ◌-◌, ◌^◌, ◌<◌, ◌≤◌, ◌⊎◌}
+use Rattle.std.specs.Prelude.{◌≡◌, ℕ, Bool, ◌+◌, ◌-◌, ◌^◌, ◌<◌, ◌≤◌, ◌⊎◌}
 
 -- the last value of a count
 abbrev pub last_count : ℕ
@@ -12,3 +12,10 @@ Counts n old new = (new ≡ old + n) ⊎ (last_count ≤ new)
 -- a count has risen, or stands at its last value
 abbrev pub Rises : ℕ → ℕ → Type 0
 Rises old new = (old < new) ⊎ (last_count ≤ new)
+
+-- a stop check that answers no so many times before it answers yes, with how often it was asked and said yes
+pub record Countdown : Type 0 where
+  pub left : ℕ
+  pub asked : ℕ
+  pub yes : ℕ
+  pub last_answer : Bool

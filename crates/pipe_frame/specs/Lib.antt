@@ -16,5 +16,7 @@ pub mod Columns
 pub mod Sizes
 -- what a vertical stacker holds and gives out
 pub mod Stacker
+-- the rows of chunks
+pub mod Chunks
 -- counts that stand still at their last value
 pub mod Counts

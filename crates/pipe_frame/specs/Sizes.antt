@@ -1,6 +1,7 @@
 -- The size that a frame is estimated at, in bytes: the sum over its cells.
-use Rattle.std.specs.Prelude.{ℕ, ◌+◌, List, ◌∷◌, length, sum_by}
+use Rattle.std.specs.Prelude.{ℕ, ◌+◌, List, ◌∷◌, Option, Some, None, length, sum_by}
 use Rattle.pipe_frame.specs.Rows.{Row}
+use Rattle.pipe_frame.specs.Series.{Cells}
 use Rattle.pipe_frame.specs.Frame.{Table}
 use Rattle.pipe_frame.specs.declared.any_value.AnyValue.{AnyValue}
 use Rattle.pipe_frame.specs.declared.any_value.AnyValue.TheVariants as cell
@@ -33,3 +34,12 @@ row_size _ _ = 0
 
 abbrev pub frame_size : Table → ℕ
 frame_size table = sum_by (row_size table.schema) table.rows
+
+-- the same column by column
+abbrev pub column_size : Cells → ℕ
+column_size column = sum_by (cell_size column.dtype) column.cells
+
+-- the length of what may be bytes
+abbrev pub slot_length : Option (List ℕ) → ℕ
+slot_length (Some bytes) = length bytes
+slot_length None = 0

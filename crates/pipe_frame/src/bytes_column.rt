@@ -1,8 +1,9 @@
 //! Columns of byte strings and of texts, each in one buffer of bytes with the nulls beside it.
 
-ghost use Rattle.std.specs.Prelude.{◌≡◌, ℕ, ◌<◌, ◌≤◌, ◌+◌, [], ◌∷◌, ◌++◌, length, IfOk, OnOk, OnErr, Some, None, map, take, drop, if◌then◌else◌};
+ghost use Rattle.std.specs.Prelude.{◌≡◌, ℕ, ◌<◌, ◌≤◌, ◌+◌, [], ◌∷◌, ◌++◌, length, IfOk, OnOk, OnErr, Some, None, map, take, drop, sum_by, ◌^◌, if◌then◌else◌};
 ghost use Rattle.std.specs.Option.{option_copied};
 ghost use Rattle.pipe_frame.specs.Column.{slot_at, slot_in};
+ghost use Rattle.pipe_frame.specs.Sizes.{slot_length};
 
 use crate::bytes_list::BytesList;
 use crate::place::{Place, gather};
@@ -142,5 +143,19 @@ impl BinaryColumn {
             marks: Vec::from_slice(self.allocator(), self.marks.as_slice())?,
             pieces: self.pieces.copied()?,
         })
+    }
+
+    /// How many bytes there are in all.
+    pub(crate) fn total_len(&self) -> u64
+        requires { sum_by slot_length self.now < 2 ^ 64 }
+        ensures { result ≡ sum_by slot_length self.now }
+    {
+        let mut total = 0;
+        for i in 0..self.len() {
+            if let Some(bytes) = self.get(i) {
+                total += bytes.len() as u64;
+            }
+        }
+        total
     }
 }

@@ -1,8 +1,13 @@
 //! Chunks: a frame with a number that says where it stands among others.
 
-ghost use Rattle.std.specs.Prelude.{◌≡◌, [], IsTrue, ◌↔◌};
+ghost use Rattle.std.specs.Prelude.{◌≡◌, [], IsTrue, ◌↔◌, All, IfOk};
+ghost use Rattle.std.specs.List.{flat_map};
+ghost use Rattle.pipe_frame.specs.Chunks.{chunk_rows, HasSchema};
 
 use crate::data_frame::DataFrame;
+use crate::schema::Schema;
+use crate::try_clone::TryClone;
+use std::alloc::{AllocError, Global};
 
 /// A frame with its place among the chunks of a run.
 #[derive(Debug)]
@@ -45,4 +50,25 @@ impl DataChunk {
     {
         self.frame.height() == 0
     }
+}
+
+impl TryClone for DataChunk {
+    fn try_clone(&self) -> Result<DataChunk, AllocError> {
+        Ok(DataChunk {
+            chunk_index: self.chunk_index,
+            frame: self.frame.try_clone()?,
+        })
+    }
+}
+
+/// The rows of chunks of one schema, in order, as one frame.
+pub fn chunks_to_df_unchecked(alloc: Global, chunks: Vec<DataChunk>, schema: &Schema) -> Result<DataFrame, AllocError>
+    requires { All (HasSchema schema.now) chunks.items }
+    ensures { IfOk result (λ frame. frame ≡ record { schema = schema.now; rows = flat_map chunk_rows chunks.items }) }
+{
+    let mut frame = DataFrame::empty(alloc, schema)?;
+    for chunk in &chunks {
+        frame.vstack_mut(&chunk.frame)?;
+    }
+    Ok(frame)
 }

@@ -1,17 +1,20 @@
 //! What a frame does to its columns, one after another.
 
-ghost use Rattle.std.specs.Prelude.{◌≡◌, ℕ, ◌<◌, ◌≤◌, ◌+◌, [], length, All, map, IfOk, OnOk, OnErr};
-ghost use Rattle.pipe_frame.specs.Schema.{place_of};
-ghost use Rattle.pipe_frame.specs.Column.{slot_at};
+ghost use Rattle.std.specs.Prelude.{◌≡◌, ℕ, ◌<◌, ◌≤◌, ◌+◌, [], length, ◌⊎◌, ◌^◌, All, map, option_map, sum_by, IfOk, IfErr, OnOk, OnErr, Some, None};
+ghost use Rattle.pipe_frame.specs.Schema.{first_unknown};
+ghost use Rattle.pipe_frame.specs.Sizes.{column_size};
 ghost use Rattle.pipe_frame.specs.Columns.{taken_columns, part_column, front_column, stacked_front, true_places};
-ghost use Rattle.pipe_frame.specs.Frame.{row_at, field_of, height_of, other_height, AllOfHeight};
+ghost use Rattle.pipe_frame.specs.Frame.{row_at, field_of, height_of, other_height, AllOfHeight, at_places, places_named};
 
 use crate::column::Column;
 use crate::data_frame::Row;
+use crate::error::FrameError;
 use crate::field::Field;
 use crate::list::List;
 use crate::place::Place;
+use crate::schema::place_in;
 use crate::series::Series;
+use crate::text::Text;
 use crate::try_clone::TryClone;
 use std::alloc::{AllocError, Global};
 
@@ -136,4 +139,33 @@ pub(crate) fn empty_columns(alloc: Global, fields: &[Field]) -> Result<Vec<Serie
         columns.push(Series::new(alloc, field.name.try_clone()?, field.dtype))?;
     }
     Ok(columns)
+}
+
+/// The size of some columns, in bytes.
+pub(crate) fn size_of_columns(columns: &[Series]) -> u64
+    requires { sum_by column_size columns.now < 2 ^ 64 }
+    ensures { result ≡ sum_by column_size columns.now }
+{
+    let mut size = 0;
+    for column in columns {
+        size += column.size();
+    }
+    size
+}
+
+/// The columns of these names, in the order of the names.
+pub(crate) fn select_columns(alloc: Global, columns: &[Series], fields: &[Field], names: &[Text]) -> Result<Vec<Series>, FrameError>
+    requires { fields.now ≡ map field_of columns.now }
+    ensures ok { IfOk result (λ made. made.items ≡ at_places columns.now (places_named fields.now names.now)) }
+    ensures known { OnOk result (first_unknown fields.now names.now ≡ None) }
+    ensures err { IfErr result (λ e. (e ≡ FrameError.Memory) ⊎ (option_map FrameError.UnknownColumn (first_unknown fields.now names.now) ≡ Some e)) }
+{
+    let mut made = List::new(alloc);
+    for name in names {
+        let Some(i) = place_in(fields, name.as_bytes()) else {
+            return Err(FrameError::UnknownColumn(name.try_clone()?));
+        };
+        made.push(columns[i].try_clone()?)?;
+    }
+    Ok(made.into_vec())
 }

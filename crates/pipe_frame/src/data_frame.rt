@@ -1,17 +1,20 @@
 //! Frames: columns of one height, each name once.
 
-ghost use Rattle.std.specs.Prelude.{◌≡◌, ℕ, ◌<◌, ◌≤◌, ◌+◌, ◌⊎◌, [], ◌++◌, length, All, map, take, drop, IfOk, IfErr, OnOk, OnErr, Some, slice_get};
+ghost use Rattle.std.specs.Prelude.{◌≡◌, ℕ, ◌<◌, ◌≤◌, ◌+◌, ◌⊎◌, [], ◌++◌, length, All, map, take, drop, IfOk, IfErr, OnOk, OnErr, Some, None, slice_get, ◌^◌};
 ghost use Rattle.pipe_frame.specs.Schema.{IsSchema};
-ghost use Rattle.pipe_frame.specs.Frame.{rows_of, field_of, chosen_rows, columns_of, height_of, frame_fault, table_of, AllOfHeight, IsRowOrNone, row_or_nulls, kept_rows};
+ghost use Rattle.pipe_frame.specs.Frame.{rows_of, field_of, chosen_rows, columns_of, height_of, frame_fault, table_of, AllOfHeight, IsRowOrNone, row_or_nulls, kept_rows, selected, select_fault};
+ghost use Rattle.pipe_frame.specs.Sizes.{frame_size};
 
 use crate::any_value::AnyValue;
-use crate::columns::{append_columns, differing_height, empty_columns, fields_of, first_height, places_of_true, row_of, slice_columns, take_columns};
+use crate::columns::{append_columns, differing_height, empty_columns, fields_of, first_height, places_of_true, row_of, select_columns, size_of_columns, slice_columns, take_columns};
 use crate::data_type::DataType;
 use crate::error::FrameError;
 use crate::list::{List, copy_items};
+use crate::names::check_names;
 use crate::place::Place;
 use crate::schema::Schema;
 use crate::series::Series;
+use crate::text::Text;
 use crate::try_clone::TryClone;
 use std::alloc::{AllocError, Global};
 use std::marker::Model;
@@ -210,6 +213,35 @@ impl DataFrame {
         append_columns(self.columns.as_mut_slice(), other.columns.as_slice(), self.height)?;
         self.height = first_height(self.columns.as_slice());
         Ok(())
+    }
+}
+
+#[tactic(auto, using(crate::proofs::Tables::table_rules))]
+impl DataFrame {
+    /// The columns of these names, in the order of the names. `NoColumns` where there is no name, `DuplicateName`
+    /// with the first name that stands again further on, `UnknownColumn` with the first that no column has.
+    pub fn select(&self, names: &[Text]) -> Result<DataFrame, FrameError>
+        ensures ok { IfOk result (λ frame. frame ≡ selected self.now names.now) }
+        ensures good { OnOk result (select_fault self.now.schema names.now ≡ None) }
+        ensures err { IfErr result (λ e. (e ≡ FrameError.Memory) ⊎ (select_fault self.now.schema names.now ≡ Some e)) }
+    {
+        check_names(names)?;
+        let alloc = *self.columns.allocator();
+        let columns = select_columns(alloc, self.columns.as_slice(), self.schema.fields(), names)?;
+        let fields = fields_of(alloc, columns.as_slice())?;
+        Ok(DataFrame {
+            schema: Schema::of_checked(fields),
+            columns,
+            height: self.height,
+        })
+    }
+
+    /// The size of the frame in bytes: for each cell the width of its type, and the length of a text or of bytes.
+    pub fn estimated_size(&self) -> u64
+        requires { frame_size self.now < 2 ^ 64 }
+        ensures { result ≡ frame_size self.now }
+    {
+        size_of_columns(self.columns.as_slice())
     }
 }
 

@@ -1,8 +1,9 @@
 //! Columns with a name and a type.
 
-ghost use Rattle.std.specs.Prelude.{All, map, take, drop, ◌+◌, ◌≤◌, ◌≡◌, ◌<◌, [], ◌∷◌, ◌++◌, length, IsTrue, IfSome, IfOk, OnOk, OnErr, is_some};
+ghost use Rattle.std.specs.Prelude.{All, map, take, drop, sum_by, ◌^◌, ◌+◌, ◌≤◌, ◌≡◌, ◌<◌, [], ◌∷◌, ◌++◌, length, IsTrue, IfSome, IfOk, OnOk, OnErr, is_some};
 ghost use Rattle.std.specs.Option.{option_copied};
 ghost use Rattle.pipe_frame.specs.Cell.{eq_dtype, fits_dtype, is_null_cell, int32_cell, int64_cell, uint32_cell, uint64_cell, boolean_cell, string_cell, binary_cell};
+ghost use Rattle.pipe_frame.specs.Sizes.{cell_size, column_size};
 ghost use Rattle.pipe_frame.specs.Series.{cells_of, dtype_of_values, chosen_cells, cell_at, cell_or_null};
 
 use crate::any_value::AnyValue;
@@ -217,6 +218,25 @@ impl Values {
     }
 }
 
+#[tactic(auto, using(crate::proofs::Sizes::size_rules))]
+impl Values {
+    /// The size of the values, in bytes.
+    fn size(&self) -> u64
+        requires { sum_by (cell_size (dtype_of_values self.now)) (cells_of self.now) < 2 ^ 64 }
+        ensures { result ≡ sum_by (cell_size (dtype_of_values self.now)) (cells_of self.now) }
+    {
+        match self {
+            Values::Int32(column) => 4 * column.len() as u64,
+            Values::Int64(column) => 8 * column.len() as u64,
+            Values::UInt32(column) => 4 * column.len() as u64,
+            Values::UInt64(column) => 8 * column.len() as u64,
+            Values::Boolean(column) => column.len() as u64,
+            Values::String(column) => 8 * column.len() as u64 + column.total_len(),
+            Values::Binary(column) => 8 * column.len() as u64 + column.total_len(),
+        }
+    }
+}
+
 /// A column of cells of one type, with a name.
 #[derive(Debug)]
 pub struct Series {
@@ -340,6 +360,14 @@ impl Series {
         ensures err { OnErr result (self.new ≡ self.old) }
     {
         self.values.append(&other.values)
+    }
+
+    /// The size of the cells, in bytes.
+    pub(crate) fn size(&self) -> u64
+        requires { column_size self.now < 2 ^ 64 }
+        ensures { result ≡ column_size self.now }
+    {
+        self.values.size()
     }
 
     /// Keeps so many cells, from the front.

@@ -1,7 +1,9 @@
 //! The stop check: whether a run is to end early.
 
-ghost use Rattle.std.specs.Prelude.{◌≡◌, ◌≤◌, ◌+◌, ℕ, Bool, true, false, IsTrue, if◌then◌else◌, ◌==◌, not};
+ghost use Rattle.std.specs.Prelude.{◌≡◌, ◌+◌, ◌-◌, ℕ, Bool, false, if◌then◌else◌, ◌==◌};
 ghost use Rattle.pipe_frame.specs.Counts.{Counts};
+
+use std::marker::Model;
 
 /// What a driver asks whether to go on.
 pub trait StopCheck {
@@ -29,13 +31,15 @@ pub struct NeverStop {
 
 impl NeverStop {
     /// A check that wasn't asked yet.
-    pub fn new() -> NeverStop {
+    pub fn new() -> NeverStop
+        ensures { ⟦<NeverStop as StopCheck>⟧.asked result ≡ 0 }
+    {
         NeverStop { asked: 0 }
     }
 
     /// How often it was asked.
     pub fn asked(&self) -> u64
-        ensures { result ≡ self.now.asked }
+        ensures { result ≡ ⟦<NeverStop as StopCheck>⟧.asked self.now }
     {
         self.asked
     }
@@ -51,5 +55,75 @@ impl StopCheck for NeverStop {
     fn should_stop(&mut self) -> bool {
         self.asked = self.asked.saturating_add(1);
         false
+    }
+}
+
+/// Answers no so many times, and then yes. Counts its calls and how often it said yes.
+#[derive(Debug, Drop)]
+pub struct StopAfter {
+    left: u64,
+    asked: u64,
+    yes: u64,
+    last_answer: bool,
+}
+
+impl Model for StopAfter {
+    ghost use Rattle.pipe_frame.specs.Counts.{Countdown};
+
+    ghost Value = { Countdown };
+
+    ghost view = { λ s. record { left = s.left; asked = s.asked; yes = s.yes; last_answer = s.last_answer } };
+}
+
+impl StopAfter {
+    /// A check that answers no so many times before it answers yes.
+    pub fn new(left: u64) -> StopAfter
+        ensures { result ≡ record { left = left; asked = 0; yes = 0; last_answer = false } }
+    {
+        StopAfter {
+            left,
+            asked: 0,
+            yes: 0,
+            last_answer: false,
+        }
+    }
+
+    /// How often it was asked.
+    pub fn asked(&self) -> u64
+        ensures { result ≡ self.now.asked }
+    {
+        self.asked
+    }
+
+    /// How often it said yes.
+    pub fn yes(&self) -> u64
+        ensures { result ≡ self.now.yes }
+    {
+        self.yes
+    }
+}
+
+impl StopCheck for StopAfter {
+    ghost asked = { λ s. s.asked };
+
+    ghost yes = { λ s. s.yes };
+
+    ghost last_answer = { λ s. s.last_answer };
+
+    fn should_stop(&mut self) -> bool
+        ensures asked { Counts 1 self.old.asked self.new.asked }
+        ensures yes { Counts (if result then 1 else 0) self.old.yes self.new.yes }
+        ensures last { self.new.last_answer ≡ result }
+        ensures answer { result ≡ (self.old.left == 0) }
+        ensures left { self.new.left ≡ self.old.left - 1 }
+    {
+        let stop = self.left == 0;
+        self.left = self.left.saturating_sub(1);
+        self.asked = self.asked.saturating_add(1);
+        if stop {
+            self.yes = self.yes.saturating_add(1);
+        }
+        self.last_answer = stop;
+        stop
     }
 }

@@ -1,8 +1,9 @@
 //! Columns of texts: columns of byte strings, each of which is UTF-8.
 
-ghost use Rattle.std.specs.Prelude.{◌≡◌, ℕ, ◌<◌, ◌≤◌, ◌+◌, [], ◌∷◌, ◌++◌, length, IfOk, OnOk, OnErr, map, take, drop};
+ghost use Rattle.std.specs.Prelude.{◌≡◌, ℕ, ◌<◌, ◌≤◌, ◌+◌, [], ◌∷◌, ◌++◌, length, IfOk, OnOk, OnErr, map, take, drop, sum_by, ◌^◌};
 ghost use Rattle.std.specs.Option.{option_copied};
 ghost use Rattle.pipe_frame.specs.Column.{slot_at, slot_in};
+ghost use Rattle.pipe_frame.specs.Sizes.{slot_length};
 
 use crate::bytes_column::BinaryColumn;
 use crate::place::Place;
@@ -113,5 +114,13 @@ impl StringColumn {
         Ok(StringColumn {
             inner: self.inner.copied()?,
         })
+    }
+
+    /// How many bytes there are in all.
+    pub(crate) fn total_len(&self) -> u64
+        requires { sum_by slot_length self.now < 2 ^ 64 }
+        ensures { result ≡ sum_by slot_length self.now }
+    {
+        self.inner.total_len()
     }
 }

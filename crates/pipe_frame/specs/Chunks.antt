@@ -1,0 +1,13 @@
+-- Chunks: frames with their places in a run.
+use Rattle.std.specs.Prelude.{◌≡◌, List}
+use Rattle.pipe_frame.specs.Rows.{Row}
+use Rattle.pipe_frame.specs.declared.chunk.DataChunk.{DataChunk}
+use Rattle.pipe_frame.specs.declared.field.Field.{Field}
+
+-- the rows of a chunk
+abbrev pub chunk_rows : DataChunk → List Row
+chunk_rows chunk = chunk.frame.rows
+
+-- a chunk has this schema
+abbrev pub HasSchema : List Field → DataChunk → Type 0
+HasSchema schema chunk = chunk.frame.schema ≡ schema
