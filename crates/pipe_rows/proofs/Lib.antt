@@ -7,3 +7,4 @@ pub mod OrderedLaw
 pub mod OrderedLemmas
 pub mod DecodingLemmas
 pub mod ValueLemmas
+pub mod RowLemmas

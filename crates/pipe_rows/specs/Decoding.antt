@@ -1,7 +1,14 @@
 -- Decoding: which byte strings are ordered encodings, and of which cells.
-use Rattle.std.specs.Prelude.{◌≡◌, ℕ, ◌<◌, ◌≤◌, List, [], ◌∷◌, ◌++◌, Bool, false, Option, length, drop, slice_index_or}
+use Rattle.std.specs.Prelude.{◌≡◌, ℕ, ◌<◌, ◌≤◌, List, [], ◌∷◌, ◌++◌, Bool, false, Option, length, drop, map, slice_index_or}
 use Rattle.std.specs.Option.{MatchOption}
+use Rattle.std.specs.declared.vec.Vec.{Vec}
+use Rattle.std.specs.declared.alloc.Global.{Global}
 use Rattle.pipe_frame.specs.Cell.{is_null_cell}
+use Rattle.pipe_frame.specs.Frame.{AllOfHeight, field_of, row_at}
+use Rattle.pipe_frame.specs.Series.{Cells}
+use Rattle.pipe_frame.specs.declared.field.Field.{Field}
+use Rattle.pipe_rows.specs.declared.error.RowsError.{RowsError}
+use Rattle.pipe_rows.specs.declared.error.RowsError.TheVariants as fault
 use Rattle.pipe_frame.specs.Rows.{Row}
 use Rattle.pipe_frame.specs.declared.any_value.AnyValue.{AnyValue}
 use Rattle.pipe_frame.specs.declared.data_type.DataType.{DataType}
@@ -89,3 +96,32 @@ pub record TakesCell (field : SortField) (dtype : DataType) (bytes : List ℕ) (
 
 abbrev pub FindsCell : SortField → DataType → List ℕ → Option Decoded → Type 0
 FindsCell field dtype bytes found = MatchOption found (¬ StartsWithCell field dtype bytes) (λ d. TakesCell field dtype bytes d.value d.used)
+
+-- ---- rows
+
+abbrev pub FindsRow : List SortField → List DataType → List ℕ → Option (Vec AnyValue Global) → Type 0
+FindsRow fields dtypes bytes found = MatchOption found (¬ IsEncoding fields dtypes bytes) (λ row. Encodes fields dtypes row.items bytes)
+
+-- the field of a column without a name
+abbrev pub unnamed_field : DataType → Field
+unnamed_field dtype = record { name = []; dtype = dtype }
+
+-- the columns hold the cells of the first n of some encoded rows, and have no names
+pub record HoldsRows (fields : List SortField) (dtypes : List DataType) (rows : List Encoded) (n : ℕ) (columns : List Cells) : Type 0 where
+  pub typed : map field_of columns ≡ map unnamed_field dtypes
+  pub even : AllOfHeight n columns
+  pub cells : (i : ℕ) → i < n → Encodes fields dtypes (row_at columns i) (bytes_at rows i)
+
+-- a column without a name or a cell
+abbrev pub empty_column : DataType → Cells
+empty_column dtype = record { name = []; dtype = dtype; cells = [] }
+
+-- the columns with one more row
+abbrev pub pushed_row : List Cells → Row → List Cells
+pushed_row (column ∷ columns) (x ∷ row) = record column { cells = column.cells ++ x ∷ [] } ∷ pushed_row columns row
+pushed_row _ _ = []
+
+-- the row that is no encoding is the first such; want of memory says nothing
+abbrev pub FaultIs : List SortField → List DataType → List Encoded → RowsError → Type 0
+FaultIs fields dtypes rows (fault.NotARow i) = IsFirstFault fields dtypes rows i
+FaultIs fields dtypes rows fault.Memory = Unit {0}

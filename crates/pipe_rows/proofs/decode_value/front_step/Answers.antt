@@ -1,4 +1,4 @@
-use Rattle.std.proofs.Common.{◌≡◌, ℕ, ◌∷◌, ap, sym, ◌∙◌, subst}
+use Rattle.std.proofs.Common.{◌≡◌, ◌∷◌, ap, ◌∙◌, subst}
 use Rattle.pipe_rows.specs.Ordered.{directed_bytes}
 use Rattle.pipe_rows.specs.Decoding.{IsEnded}
 use Rattle.pipe_rows.proofs.DecodingLemmas.{directed_bytes-cons, ended_not_other}

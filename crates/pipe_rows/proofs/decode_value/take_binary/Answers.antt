@@ -1,4 +1,4 @@
-use Rattle.std.proofs.Common.{◌≡◌, ap, subst}
+use Rattle.std.proofs.Common.{subst}
 use Rattle.std.specs.Prelude.{Option}
 use Rattle.pipe_rows.specs.declared.decode_value.Unescaped.{Unescaped}
 use Rattle.pipe_rows.specs.Ordered.{directed_bytes}

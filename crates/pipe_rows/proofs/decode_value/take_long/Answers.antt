@@ -1,4 +1,4 @@
-use Rattle.std.proofs.Common.{◌≡◌, ℕ, ◌<◌, ◌≤◌, List, [], ◌∷◌, length, take, get_or, arith}
+use Rattle.std.proofs.Common.{◌≡◌, ℕ, ◌≤◌, List, [], ◌∷◌, length, take, arith}
 use Rattle.pipe_rows.specs.Ordered.{directed_bytes}
 use Rattle.pipe_rows.proofs.BytesLemmas.{bytes_all}
 use Rattle.pipe_rows.proofs.DecodingLemmas.{eight, directed_at, long_back, length-directed_bytes}

@@ -1,4 +1,4 @@
-use Rattle.std.proofs.Common.{◌≡◌, ap, sym, subst, ◌∙◌}
+use Rattle.std.proofs.Common.{◌≡◌, ap, subst, ◌∙◌}
 use Rattle.std.specs.Prelude.{Option, IsUtf8}
 use Rattle.std.specs.Option.{MatchOption}
 use Rattle.pipe_frame.specs.declared.any_value.AnyValue.{AnyValue}

@@ -1,7 +1,6 @@
-use Rattle.std.proofs.Common.{◌≡◌, ℕ, ◌<◌, ◌≤◌, List, [], ◌∷◌, ◌++◌, length, drop, ap, sym, ◌∙◌, subst, arith}
-use Rattle.std.specs.List.{flat_map}
-use Rattle.pipe_rows.specs.Ordered.{directed_bytes, escaped_byte}
-use Rattle.pipe_rows.specs.Decoding.{StepIs, IsEnded}
+use Rattle.std.proofs.Common.{◌≡◌, ℕ, ◌≤◌, List, [], ◌∷◌, ◌++◌, length, subst, arith}
+use Rattle.pipe_rows.specs.Ordered.{directed_bytes}
+use Rattle.pipe_rows.specs.Decoding.{StepIs}
 use Rattle.pipe_rows.specs.declared.decode_value.Step.TheVariants as step
 use Rattle.pipe_rows.proofs.DecodingLemmas.{directed_tail, length-directed_bytes, byte_within, byte_taken, byte_whole, zero_within, zero_taken, zero_whole, end_taken}
 use Rattle.pipe_rows.proofs.decode_value.unescape.Goals as goal
