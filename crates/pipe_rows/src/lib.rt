@@ -17,3 +17,6 @@ pub use hasher::{ConstHash, Fnv, KeyHasher, partition_of};
 pub use ordered::{convert_columns, ordered_encodings};
 pub use rows_encoded::RowsEncoded;
 pub use sort_field::SortField;
+
+#[cfg(test)]
+mod tests;
