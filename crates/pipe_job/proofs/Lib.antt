@@ -3,3 +3,4 @@ pub mod Rows
 pub mod Cut
 pub mod SoFar
 pub mod Depths
+pub mod Shapes

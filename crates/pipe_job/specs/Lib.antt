@@ -12,5 +12,7 @@ pub mod Line
 pub mod Operators
 -- whether a value spells something of a kind
 pub mod Shape
+-- the kinds of nodes
+pub mod Kinds
 -- what a reader answers
 pub mod Reads

@@ -1,7 +1,7 @@
 -- Whether a value spells something of a kind: a test for each kind.
-use Rattle.std.specs.Prelude.{ℕ, ℤ, ◌^◌, ◌==◌, pos, negsuc, codes, List, [], ◌∷◌, ◌||◌, if◌then◌else◌, Option, Some, None, option_and_then, Result, Ok, Err, Bool, true, false, ◌&&◌, nat_lt}
+use Rattle.std.specs.Prelude.{ℕ, ℤ, ◌^◌, ◌==◌, pos, negsuc, codes, List, [], ◌∷◌, ◌||◌, if◌then◌else◌, Option, Some, None, Result, Ok, Err, Bool, true, false, ◌&&◌, nat_lt}
 use Rattle.std.specs.Str.{bytes_eq}
-use Rattle.serde_json.specs.Find.{get, as_str}
+use Rattle.serde_json.specs.Find.{get}
 use Rattle.hex.specs.Hex.{decode_of, encode_lower}
 use Rattle.hex.specs.declared.error.FromHexError.{FromHexError}
 use Rattle.serde_json.specs.Data.{Num, unsigned, negative, float, Data, null, boolean, number, string, array, object, Items, no_items, item, Members, no_members, member}
@@ -203,3 +203,65 @@ abbrev mutual
   are_two_exprs (item a no_items) = false
   are_two_exprs (item a (item b no_items)) = is_expr a && is_expr b
   are_two_exprs (item a (item b (item c ds))) = false
+
+abbrev pub is_named : Data → Bool
+is_named d = on_object (after (codes "expr") is_expr (after (codes "name") is_text is_end)) d
+
+-- ---- nodes
+
+abbrev pub is_slice : Data → Bool
+is_slice d = on_couple (is_signed 63) (is_unsigned 64) d
+
+abbrev pub is_how : Data → Bool
+is_how d = is_one_of (codes "inner" ∷ codes "left" ∷ codes "full" ∷ codes "cross" ∷ []) d
+
+abbrev pub is_coalesce : Data → Bool
+is_coalesce d = is_one_of (codes "JoinSpecific" ∷ codes "CoalesceColumns" ∷ codes "KeepColumns" ∷ []) d
+
+abbrev pub is_hint : Data → Bool
+is_hint d = on_couple (is_maybe (is_unsigned 64)) (is_unsigned 64) d
+
+abbrev pub is_pair : Data → Bool
+is_pair d = on_object (after (codes "existing") is_text (after (codes "new") is_text is_end)) d
+
+abbrev pub is_scan : Data → Bool
+is_scan d = on_object (after (codes "columns") (is_maybe (is_list is_text)) (after (codes "frame") (is_unsigned 32) (after (codes "node") (is_word (codes "DataFrameScan")) is_end))) d
+
+abbrev pub is_filter : Data → Bool
+is_filter d = on_object (after (codes "input") (is_unsigned 32) (after (codes "node") (is_word (codes "Filter")) (after (codes "predicate") is_expr is_end))) d
+
+abbrev pub is_projection : Data → Bool
+is_projection d = on_object (after (codes "columns") (is_list is_text) (after (codes "input") (is_unsigned 32) (after (codes "node") (is_word (codes "SimpleProjection")) is_end))) d
+
+abbrev pub is_exprs : List ℕ → Data → Bool
+is_exprs kind d = on_object (after (codes "exprs") (is_list is_named) (after (codes "input") (is_unsigned 32) (after (codes "node") (is_word kind) is_end))) d
+
+abbrev pub is_unpivot : Data → Bool
+is_unpivot d = on_object (after (codes "index") (is_list is_text) (after (codes "input") (is_unsigned 32) (after (codes "node") (is_word (codes "Unpivot"))
+    (after (codes "on") (is_list is_text) (after (codes "value") is_text (after (codes "variable") is_text is_end)))))) d
+
+abbrev pub is_rename : Data → Bool
+is_rename d = on_object (after (codes "input") (is_unsigned 32) (after (codes "node") (is_word (codes "Rename")) (after (codes "pairs") (is_list is_pair) is_end))) d
+
+abbrev pub is_union : Data → Bool
+is_union d = on_object (after (codes "inputs") (is_list (is_unsigned 32)) (after (codes "node") (is_word (codes "Union")) is_end)) d
+
+abbrev pub is_join_back : Members → Bool
+is_join_back ms = after (codes "right") (is_unsigned 32) (after (codes "right_on") (is_list is_expr) (after (codes "rows_left") is_hint (after (codes "rows_right") is_hint
+    (after (codes "suffix") is_text is_end)))) ms
+
+abbrev pub is_join : Data → Bool
+is_join d = on_object (after (codes "coalesce") is_coalesce (after (codes "how") is_how (after (codes "join_nulls") is_truth (after (codes "left") (is_unsigned 32) (after (codes "left_on") (is_list is_expr)
+    (after (codes "node") (is_word (codes "Join")) is_join_back)))))) d
+
+abbrev pub is_sort : Data → Bool
+is_sort d = on_object (after (codes "by") (is_list is_text) (after (codes "descending") (is_list is_truth) (after (codes "input") (is_unsigned 32)
+    (after (codes "node") (is_word (codes "Sort")) (after (codes "nulls_last") (is_list is_truth) (after (codes "slice") (is_maybe is_slice) is_end)))))) d
+
+-- the words under "node"
+abbrev pub node_words : List (List ℕ)
+node_words = codes "DataFrameScan" ∷ codes "Filter" ∷ codes "SimpleProjection" ∷ codes "Select" ∷ codes "HStack" ∷ codes "Unpivot" ∷ codes "Rename" ∷ codes "Union" ∷ codes "Join" ∷ codes "Sort" ∷ []
+
+abbrev pub is_node_word : Option Data → Bool
+is_node_word (Some d) = is_one_of node_words d
+is_node_word None = false

@@ -6,11 +6,14 @@
 mod cell_texts;
 mod cells;
 mod exprs;
+mod join;
+mod kinds;
 mod laws;
 mod lines;
 mod lists;
 mod members;
 mod misread;
+mod nodes;
 mod ops;
 mod spelled;
 
