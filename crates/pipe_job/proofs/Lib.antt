@@ -4,3 +4,8 @@ pub mod Cut
 pub mod SoFar
 pub mod Depths
 pub mod Shapes
+pub mod TypedColumns
+pub mod FrameTests
+pub mod Again
+pub mod OneExpr
+pub mod OneJob

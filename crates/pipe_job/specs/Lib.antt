@@ -14,5 +14,11 @@ pub mod Operators
 pub mod Shape
 -- the kinds of nodes
 pub mod Kinds
+-- the spelling of frames
+pub mod FrameSpelling
+-- the spelling of jobs
+pub mod JobSpelling
+-- when two jobs are the same
+pub mod Alike
 -- what a reader answers
 pub mod Reads

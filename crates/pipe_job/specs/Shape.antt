@@ -1,10 +1,14 @@
 -- Whether a value spells something of a kind: a test for each kind.
-use Rattle.std.specs.Prelude.{ℕ, ℤ, ◌^◌, ◌==◌, pos, negsuc, codes, List, [], ◌∷◌, ◌||◌, if◌then◌else◌, Option, Some, None, Result, Ok, Err, Bool, true, false, ◌&&◌, nat_lt}
+use Rattle.std.specs.Prelude.{ℕ, ℤ, ◌^◌, ◌==◌, pos, negsuc, codes, List, [], ◌∷◌, ◌||◌, if◌then◌else◌, Option, Some, None, Result, Ok, Err, Bool, true, false, ◌&&◌, not, nat_lt, is_some}
 use Rattle.std.specs.Str.{bytes_eq}
 use Rattle.serde_json.specs.Find.{get}
 use Rattle.hex.specs.Hex.{decode_of, encode_lower}
 use Rattle.hex.specs.declared.error.FromHexError.{FromHexError}
 use Rattle.serde_json.specs.Data.{Num, unsigned, negative, float, Data, null, boolean, number, string, array, object, Items, no_items, item, Members, no_members, member}
+use Rattle.pipe_frame.specs.declared.any_value.AnyValue.{AnyValue}
+use Rattle.pipe_frame.specs.declared.any_value.AnyValue.TheVariants as cell
+use Rattle.pipe_frame.specs.Series.{Cells}
+use Rattle.pipe_frame.specs.Frame.{frame_fault}
 use Rattle.pipe_frame.specs.declared.data_type.DataType.{DataType}
 use Rattle.pipe_frame.specs.declared.data_type.DataType.TheVariants as dtype
 
@@ -265,3 +269,49 @@ node_words = codes "DataFrameScan" ∷ codes "Filter" ∷ codes "SimpleProjectio
 abbrev pub is_node_word : Option Data → Bool
 is_node_word (Some d) = is_one_of node_words d
 is_node_word None = false
+
+-- ---- frames and jobs
+
+abbrev pub are_cells_of : Option DataType → Data → Bool
+are_cells_of None d = false
+are_cells_of (Some t) d = is_list (is_cell t) d
+
+abbrev pub is_column_values : Option DataType → Members → Bool
+is_column_values t ms = after (codes "values") (are_cells_of t) is_end ms
+
+abbrev pub is_column : Data → Bool
+is_column d = on_object (after (codes "name") is_text (after_type (codes "type") is_column_values)) d
+
+-- the text under a name, or none
+abbrev pub text_in : Option Data → List ℕ
+text_in (Some (string s)) = s
+text_in _ = []
+
+-- as many nulls as items
+abbrev pub nulls_of : Items → List AnyValue
+nulls_of no_items = []
+nulls_of (item d ds) = cell.Null ∷ nulls_of ds
+
+abbrev pub nulls_in : Option Data → List AnyValue
+nulls_in (Some (array ds)) = nulls_of ds
+nulls_in _ = []
+
+-- the names and heights of columns
+abbrev pub outline : Data → Cells
+outline d = record { name = text_in (get (codes "name") d); dtype = dtype.Boolean; cells = nulls_in (get (codes "values") d) }
+
+abbrev pub outlines_of : Items → List Cells
+outlines_of no_items = []
+outlines_of (item d ds) = outline d ∷ outlines_of ds
+
+abbrev pub outlines_in : Data → List Cells
+outlines_in (array ds) = outlines_of ds
+outlines_in _ = []
+
+-- whether columns of these names and heights make a frame
+abbrev pub is_table : Data → Bool
+is_table d = not (is_some (frame_fault (outlines_in d)))
+
+abbrev pub is_frame : Data → Bool
+is_frame d = on_object (after (codes "columns") (λ cs. is_list is_column cs && is_table cs) is_end) d
+

@@ -49,6 +49,9 @@ abbrev pub type_spelling : DataType → Data
 type_spelling t = string (type_name t)
 
 -- bytes are a text of lower-case hexadecimal digits
+abbrev pub hex_spelling : List ℕ → Data
+hex_spelling bytes = string (encode_lower bytes)
+
 abbrev pub cell_spelling : AnyValue → Data
 cell_spelling cell.Null = null
 cell_spelling (cell.Int32 z) = number (of_integer z)
@@ -57,7 +60,7 @@ cell_spelling (cell.UInt32 n) = whole n
 cell_spelling (cell.UInt64 n) = whole n
 cell_spelling (cell.Boolean b) = boolean b
 cell_spelling (cell.String s) = string s
-cell_spelling (cell.Binary b) = string (encode_lower b)
+cell_spelling (cell.Binary b) = hex_spelling b
 
 -- the cell is null or of the type, within its range
 abbrev pub FitsType : DataType → AnyValue → Type 0

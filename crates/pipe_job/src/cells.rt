@@ -6,7 +6,7 @@ ghost use Rattle.serde_json.specs.View.{view};
 ghost use Rattle.hex.specs.Hex.{encode_lower, IsBytes};
 ghost use Rattle.pipe_job.specs.Reads.{Takes};
 ghost use Rattle.pipe_job.specs.Shape.{is_hex, is_type, is_cell};
-ghost use Rattle.pipe_job.specs.Spelling.{type_spelling, cell_spelling, FitsType};
+ghost use Rattle.pipe_job.specs.Spelling.{hex_spelling, type_spelling, cell_spelling, FitsType};
 
 use crate::misread::Misread;
 use crate::spelled::Spelled;
@@ -15,7 +15,7 @@ use serde_json::Value;
 use std::alloc::Global;
 
 impl Spelled for Bytes {
-    ghost spelling = { λ b. string (encode_lower b) };
+    ghost spelling = { hex_spelling };
 
     ghost fits = { IsBytes };
 

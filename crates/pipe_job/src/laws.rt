@@ -3,6 +3,10 @@
 ghost use Rattle.std.specs.Prelude.{◌≡◌, ◌∷◌, ◌++◌, List, map, flat_map};
 ghost use Rattle.pipe_frame.specs.declared.field.Field.{Field as Column};
 ghost use Rattle.pipe_frame.specs.Rows.{Row as Cells};
+ghost use Rattle.serde_json.specs.Data.{Data};
+ghost use Rattle.pipe_job.specs.JobSpelling.{Spells};
+ghost use Rattle.pipe_job.specs.Alike.{JobAlike};
+ghost use Rattle.pipe_job.specs.declared.jobs.Job.{Job as Task};
 ghost use Rattle.pipe_job.specs.Line.{head_line, row_line, lines};
 
 /// The text of a frame is cut into the line of its column names and the lines of its rows.
@@ -11,3 +15,9 @@ pub fn lines_of_frame()
     ensures { (fields : List Column) (rows : List Cells)
         → lines (head_line fields ++ flat_map row_line rows) ≡ head_line fields ∷ map row_line rows }
 {}
+
+/// A value spells one job at most, wherever the parts of its expressions lie in memory.
+pub fn one_job()
+    ensures { (v : Data) (a b : Task) → Spells v a → Spells v b → JobAlike a b }
+{
+}

@@ -5,7 +5,10 @@
 
 mod cell_texts;
 mod cells;
+mod columns;
 mod exprs;
+mod frames;
+mod jobs;
 mod join;
 mod kinds;
 mod laws;
@@ -17,7 +20,8 @@ mod nodes;
 mod ops;
 mod spelled;
 
-pub use laws::lines_of_frame;
+pub use jobs::{Job, job_of};
+pub use laws::{lines_of_frame, one_job};
 pub use lines::{head_line, push_head_line, push_rows, row_line};
 pub use misread::Misread;
 pub use spelled::Spelled;
