@@ -1,7 +1,6 @@
 -- What is spelled so has the shape.
-use Rattle.std.proofs.Common.{◌≡◌, ◌<◌, ◌^◌, ℕ, ℤ, pos, negsuc, map, List, [], ◌∷◌, Bool, true, false, not, ◌&&◌, is_some, length, Option, Some, None, nat_lt, refl, ap, ap₂, sym, ◌∙◌, arith, rules, true≢false, ◌==◌, ◌+◌, cond}
+use Rattle.std.proofs.Common.{◌≡◌, ◌<◌, ◌^◌, ℕ, ℤ, pos, negsuc, map, List, [], ◌∷◌, Bool, true, false, not, ◌&&◌, is_some, length, Option, Some, None, refl, ap, ap₂, sym, ◌∙◌, arith, rules, true≢false, ◌+◌, cond}
 use Rattle.std.proofs.lemmas.Bool.Decides.{nat_tests, Decides-eqb}
-use Rattle.std.proofs.lemmas.List.Elements.{All-head, All-tail}
 use Rattle.std.specs.List.{AllByRecursion}
 use Rattle.std.specs.Prelude.{FitsSigned}
 use Rattle.std.specs.Int.{w32, w64}
@@ -20,7 +19,7 @@ use Rattle.pipe_frame.specs.Schema.{IsSchema, names_of, names_fault}
 use Rattle.pipe_frame.specs.declared.field.Field.{Field}
 use Rattle.pipe_frame.specs.Rows.{Row}
 use Rattle.std.proofs.lemmas.List.{length-map}
-use Rattle.pipe_frame.specs.Frame.{Table, columns_from, cell_of_row, columns_of, field_of, other_height, height_of, differing, else_fault, frame_fault}
+use Rattle.pipe_frame.specs.Frame.{Table, columns_from, cell_of_row, columns_of, field_of, other_height, differing, else_fault, frame_fault}
 use Rattle.pipe_expr.specs.declared.expr.Expr.{Expr, Col, Lit, Add', Sub', Mul', Eq', NotEq', Lt', LtEq', Gt', GtEq', And', Or', Not', IsNull', IsNotNull'}
 use Rattle.pipe_expr.specs.declared.expr.NamedExpr.{NamedExpr}
 use Rattle.pipe_expr.specs.declared.join_words.JoinType.{JoinType}
@@ -174,8 +173,16 @@ node_again (node.MapFunction input (function.Unpivot on index variable value)) h
 node_again (node.MapFunction input (function.Rename pairs)) h = rw (unsigned_again 32 input h, pairs_again pairs)
 node_again (node.Union inputs) h = rw (numbers_again inputs h)
 node_again (node.Join left right left_on right_on o) h =
-    rw (coalesce_again o.coalesce, how_again o.how, unsigned_again 32 left h.0, exprs_again left_on h.2, unsigned_again 32 right h.1,
-        exprs_again right_on h.3, hint_again o.rows_left h.4, hint_again o.rows_right h.5)
+    rw (
+      coalesce_again o.coalesce,
+      how_again o.how,
+      unsigned_again 32 left h.0,
+      exprs_again left_on h.2,
+      unsigned_again 32 right h.1,
+      exprs_again right_on h.3,
+      hint_again o.rows_left h.4,
+      hint_again o.rows_right h.5,
+    )
 node_again (node.Sort input by o) h = rw (texts_again by, truths_again o.descending, unsigned_again 32 input h.0, truths_again o.nulls_last, maybe_slice_again o.slice h.1)
 
 -- ---- frames and jobs
@@ -210,8 +217,14 @@ frame_again : (f : Table) → FrameFits f → is_frame (frame_spelling f) ≡ tr
 frame_again f h = rw (list_again column_spelling ColumnFits is_column column_again (columns_of f) h.cells, table_again f h)
 
 job_again : (j : Job) → JobFits j → is_job (job_spelling j) ≡ true
-job_again j h = rw (unsigned_again 32 j.config.chunk_rows h.chunk_rows, list_again frame_spelling FrameFits is_frame frame_again j.arena.frames h.frames,
-    list_again node_spelling NodeFits is_node node_again j.arena.nodes h.nodes, unsigned_again 32 j.root h.root, unsigned_again 32 j.config.row_limit h.row_limit, unsigned_again 32 j.config.workers h.workers)
+job_again j h = rw (
+  unsigned_again 32 j.config.chunk_rows h.chunk_rows,
+  list_again frame_spelling FrameFits is_frame frame_again j.arena.frames h.frames,
+  list_again node_spelling NodeFits is_node node_again j.arena.nodes h.nodes,
+  unsigned_again 32 j.root h.root,
+  unsigned_again 32 j.config.row_limit h.row_limit,
+  unsigned_again 32 j.config.workers h.workers,
+)
 
 -- what has not the shape of a job is not spelled by one
 pub no_job : (v : Data) → is_job v ≡ false → (job : Job) → Spells v job → ⊥

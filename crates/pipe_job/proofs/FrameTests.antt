@@ -1,9 +1,6 @@
 -- The frame of columns that were read, and when there is none.
-use Rattle.std.proofs.Common.{◌≡◌, ℕ, suc, List, [], ◌∷◌, map, length, Option, Some, None, Bool, true, false, not, cond, is_some, ◌==◌, refl, ap, ap₂, ◌∙◌, sym}
+use Rattle.std.proofs.Common.{◌≡◌, ℕ, suc, List, [], ◌∷◌, map, length, Option, Some, false, not, cond, is_some, ◌==◌, refl, ap, ap₂, ◌∙◌, sym}
 use Rattle.std.specs.List.{AllByRecursion}
-use Rattle.std.specs.Prelude.{All}
-use Rattle.std.specs.Str.{bytes_eq}
-use Rattle.serde_json.specs.Data.{Data}
 use Rattle.serde_json.specs.View.{items_of}
 use Rattle.pipe_frame.specs.declared.any_value.AnyValue.{AnyValue}
 use Rattle.pipe_frame.specs.declared.field.Field.{Field}
@@ -14,8 +11,8 @@ use Rattle.pipe_frame.specs.Frame.{Table, table_of, columns_of, field_of, rows_o
 use Rattle.pipe_frame.specs.Rows.{Row}
 use Rattle.pipe_frame.proofs.Tables.{columns_of-table, length-rows_of}
 use Rattle.pipe_job.specs.Spelling.{list, cell_spelling}
-use Rattle.pipe_job.specs.Shape.{nulls_of, outline, outlines_in, is_table}
-use Rattle.pipe_job.specs.FrameSpelling.{column_spelling, ColumnFits, FrameFits, IsFrameOf}
+use Rattle.pipe_job.specs.Shape.{nulls_of, outlines_in, is_table}
+use Rattle.pipe_job.specs.FrameSpelling.{column_spelling, ColumnFits, IsFrameOf}
 
 length-nulls_of : (cells : List AnyValue) → length (nulls_of (items_of (map cell_spelling cells))) ≡ length cells
 length-nulls_of [] = refl

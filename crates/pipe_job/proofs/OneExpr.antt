@@ -1,5 +1,5 @@
 -- A value spells one cell and one expression at most.
-use Rattle.std.proofs.Common.{◌≡◌, ℕ, List, [], ◌∷◌, refl, ap, sym, ◌∙◌, codes, arith, ℤ, pos, negsuc, subst, Result, Ok, Err, Option, Some, None}
+use Rattle.std.proofs.Common.{◌≡◌, ℕ, List, [], ◌∷◌, refl, ap, sym, ◌∙◌, codes, arith, ℤ, pos, negsuc, subst, Result, Ok, Err}
 use Rattle.std.specs.Prelude.{if◌then◌else◌}
 use Rattle.std.specs.List.{AllByRecursion}
 use Rattle.std.specs.Str.{bytes_eq}
@@ -7,7 +7,7 @@ use Rattle.std.proofs.lemmas.Option.{same_Some}
 use Rattle.hex.specs.Hex.{decode_of}
 use Rattle.hex.specs.declared.error.FromHexError.{FromHexError}
 use Rattle.hex.proofs.HexLemmas.{decode_of-encode_lower}
-use Rattle.serde_json.specs.Data.{Data, null, boolean, number, unsigned, negative, string, object, array, item, no_items, member, no_members}
+use Rattle.serde_json.specs.Data.{Data, null, boolean, number, unsigned, negative, string, object, member}
 use Rattle.pipe_frame.specs.declared.any_value.AnyValue.{AnyValue}
 use Rattle.pipe_frame.specs.declared.any_value.AnyValue.TheVariants as cell
 use Rattle.pipe_frame.specs.declared.data_type.DataType.{DataType}

@@ -1,11 +1,11 @@
 -- A value spells one job at most, up to where the parts of expressions lie.
-use Rattle.std.proofs.Common.{◌≡◌, ◌<◌, ◌^◌, ℕ, List, [], ◌∷◌, length, map, refl, ap, ap₂, sym, ◌∙◌, codes, arith, ℤ, pos, negsuc, Bool, Option, Some, None}
-use Rattle.std.specs.Prelude.{if◌then◌else◌, FitsSigned, ⊤}
+use Rattle.std.proofs.Common.{◌≡◌, ℕ, List, [], ◌∷◌, length, map, refl, ap, ap₂, sym, ◌∙◌, codes, arith, ℤ, pos, negsuc, Bool, Option, Some, None}
+use Rattle.std.specs.Prelude.{if◌then◌else◌, ⊤}
 use Rattle.std.specs.List.{AllByRecursion}
 use Rattle.std.specs.Str.{bytes_eq}
 use Rattle.std.proofs.lemmas.List.{length-map}
-use Rattle.serde_json.specs.Data.{Data, null, boolean, number, unsigned, negative, string, object, array, Items, item, no_items, Members, member, no_members}
-use Rattle.serde_json.specs.Find.{of_integer, get, as_str}
+use Rattle.serde_json.specs.Data.{Data, boolean, number, string}
+use Rattle.serde_json.specs.Find.{of_integer, get}
 use Rattle.serde_json.specs.View.{items_of}
 use Rattle.pipe_frame.specs.declared.field.Field.{Field}
 use Rattle.pipe_frame.specs.declared.any_value.AnyValue.{AnyValue}
@@ -34,9 +34,9 @@ use Rattle.pipe_job.specs.Spelling.{maybe, list, whole, cell_spelling, FitsType}
 use Rattle.pipe_job.specs.ExprSpelling.{expr_spelling, ExprFits, named_spelling, NamedFits}
 use Rattle.pipe_job.specs.PlanSpelling.{how_spelling, coalesce_spelling, hint_spelling, pair_spelling, slice_spelling, function_spelling, node_spelling, NodeFits}
 use Rattle.pipe_job.specs.FrameSpelling.{column_spelling, ColumnFits, frame_spelling, FrameFits}
-use Rattle.pipe_job.specs.JobSpelling.{job_spelling, JobFits, Spells}
-use Rattle.pipe_job.specs.Alike.{Alike, EachAlike, NamedAlike, NodeAlike, JobAlike}
-use Rattle.pipe_job.proofs.OneExpr.{one_type, one_cell, one_expr}
+use Rattle.pipe_job.specs.JobSpelling.{job_spelling, Spells}
+use Rattle.pipe_job.specs.Alike.{Alike, EachAlike, NamedAlike, NodeAlike, JobAlike, NamedIsFlat, NodeIsFlat}
+use Rattle.pipe_job.proofs.OneExpr.{one_type, one_cell, one_expr, flat_expr, flat_exprs}
 use Rattle.pipe_job.specs.declared.jobs.Job.{Job}
 
 -- ---- lists and what may be missing
@@ -303,3 +303,58 @@ one_job v a b s t =
       nodes = list_alike node_spelling NodeFits NodeAlike one_node a.arena.nodes b.arena.nodes s.fits.nodes t.fits.nodes nodes;
       root = cc;
     }
+
+-- ---- jobs whose expressions have no part
+
+named_of : List ℕ → Expr → NamedExpr
+named_of n e = record { name = n; expr = e }
+
+named_back : (e : NamedExpr) → named_of e.name e.expr ≡ e
+unfolding named_of
+named_back e = refl
+
+flat_nameds : (xs ys : List NamedExpr) → AllByRecursion NamedIsFlat ys → EachAlike NamedAlike xs ys → xs ≡ ys
+flat_nameds [] [] h e = refl
+flat_nameds [] (_ ∷ _) h e = absurd e
+flat_nameds (_ ∷ _) [] h e = absurd e
+flat_nameds (x ∷ xs) (y ∷ ys) h e =
+    let expr = flat_expr x.expr y.expr h.0 e.0.1 in
+    let first : x ≡ y = sym (named_back x) ∙ ap₂ named_of e.0.0 expr ∙ named_back y in
+    let rest = flat_nameds xs ys h.1 e.1 in
+    cc
+
+flat_node : (a b : IR) → NodeIsFlat b → NodeAlike a b → a ≡ b
+flat_node (node.DataFrameScan m cs) (node.DataFrameScan n ds) h e = cc
+flat_node (node.Filter m p) (node.Filter n q) h e = let same = flat_expr p q h e.1 in cc
+flat_node (node.SimpleProjection m cs) (node.SimpleProjection n ds) h e = cc
+flat_node (node.Select m es) (node.Select n fs) h e = let same = flat_nameds es fs h e.1 in cc
+flat_node (node.HStack m es) (node.HStack n fs) h e = let same = flat_nameds es fs h e.1 in cc
+flat_node (node.MapFunction m f) (node.MapFunction n g) h e = cc
+flat_node (node.Union ms) (node.Union ns) h e = cc
+flat_node (node.Join k l es fs o) (node.Join m n gs hs p) h e = let left = flat_exprs es gs h.0 e.2 in let right = flat_exprs fs hs h.1 e.3 in cc
+flat_node (node.Sort m by o) (node.Sort n by_other p) h e = cc
+flat_node _ _ h e = absurd e
+
+flat_nodes : (xs ys : List IR) → AllByRecursion NodeIsFlat ys → EachAlike NodeAlike xs ys → xs ≡ ys
+flat_nodes [] [] h e = refl
+flat_nodes [] (_ ∷ _) h e = absurd e
+flat_nodes (_ ∷ _) [] h e = absurd e
+flat_nodes (x ∷ xs) (y ∷ ys) h e = let first = flat_node x y h.0 e.0 in let rest = flat_nodes xs ys h.1 e.1 in cc
+
+job_from : PipeConfig → List IR → List Table → ℕ → Job
+job_from c ns fs r = record { config = c; arena = record { nodes = ns; frames = fs }; root = r }
+
+job_back : (j : Job) → job_from j.config j.arena.nodes j.arena.frames j.root ≡ j
+unfolding job_from
+job_back j = refl
+
+-- where the expressions of one job have no part, a value that spells it spells no other
+pub one_flat_job : (v : Data) (a b : Job) → Spells v a → Spells v b → AllByRecursion NodeIsFlat b.arena.nodes → a ≡ b
+one_flat_job v a b s t flat =
+    let alike = one_job v a b s t in
+    let nodes = flat_nodes a.arena.nodes b.arena.nodes flat alike.nodes in
+    let config = alike.config in
+    let frames = alike.frames in
+    let root = alike.root in
+    let same : job_from a.config a.arena.nodes a.arena.frames a.root ≡ job_from b.config b.arena.nodes b.arena.frames b.root = cc in
+    sym (job_back a) ∙ same ∙ job_back b

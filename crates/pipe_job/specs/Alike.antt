@@ -1,5 +1,6 @@
 -- Two jobs that are the same, wherever the parts of their expressions lie in memory.
-use Rattle.std.specs.Prelude.{◌≡◌, ℕ, List, [], ◌∷◌, ⊤}
+use Rattle.std.specs.Prelude.{◌≡◌, List, [], ◌∷◌, ⊤}
+use Rattle.std.specs.List.{AllByRecursion}
 use Rattle.pipe_expr.specs.declared.expr.Expr.{Expr, Col, Lit, Add', Sub', Mul', Eq', NotEq', Lt', LtEq', Gt', GtEq', And', Or', Not', IsNull', IsNotNull'}
 use Rattle.pipe_expr.specs.declared.expr.NamedExpr.{NamedExpr}
 use Rattle.pipe_plan.specs.declared.ir.IR.{IR}
@@ -57,3 +58,14 @@ abbrev pub IsFlat : Expr → Type 0
 IsFlat (Col name) = ⊤
 IsFlat (Lit t c) = ⊤
 IsFlat _ = ⊥
+
+abbrev pub NamedIsFlat : NamedExpr → Type 0
+NamedIsFlat e = IsFlat e.expr
+
+-- no expression of the node has a part
+abbrev pub NodeIsFlat : IR → Type 0
+NodeIsFlat (node.Filter n p) = IsFlat p
+NodeIsFlat (node.Select n es) = AllByRecursion NamedIsFlat es
+NodeIsFlat (node.HStack n es) = AllByRecursion NamedIsFlat es
+NodeIsFlat (node.Join m n es fs o) = AllByRecursion IsFlat es × AllByRecursion IsFlat fs
+NodeIsFlat _ = ⊤

@@ -1,5 +1,5 @@
 -- The spelling of expressions: an object whose one member names the form.
-use Rattle.std.specs.Prelude.{List, ℕ, ⊤, codes}
+use Rattle.std.specs.Prelude.{⊤, codes}
 use Rattle.serde_json.specs.Data.{Data, string, object, no_members, member}
 use Rattle.pipe_expr.specs.declared.expr.Expr.{Expr, Col, Lit, Add', Sub', Mul', Eq', NotEq', Lt', LtEq', Gt', GtEq', And', Or', Not', IsNull', IsNotNull'}
 use Rattle.pipe_expr.specs.declared.expr.NamedExpr.{NamedExpr}

@@ -18,6 +18,8 @@ pub mod Kinds
 pub mod FrameSpelling
 -- the spelling of jobs
 pub mod JobSpelling
+-- what is read from bytes
+pub mod Reading
 -- when two jobs are the same
 pub mod Alike
 -- what a reader answers

@@ -1,5 +1,5 @@
 -- The spelling of nodes. The data of a JSON object has its members in the order of their names.
-use Rattle.std.specs.Prelude.{ℕ, ◌^◌, ◌<◌, List, ⊤, codes, FitsSigned}
+use Rattle.std.specs.Prelude.{ℕ, ◌^◌, ◌<◌, List, codes, FitsSigned}
 use Rattle.std.specs.List.{AllByRecursion}
 use Rattle.std.specs.Int.{w64}
 use Rattle.serde_json.specs.Data.{Data, boolean, number, string, object, Members, no_members, member}

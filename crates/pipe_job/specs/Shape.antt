@@ -1,10 +1,10 @@
 -- Whether a value spells something of a kind: a test for each kind.
-use Rattle.std.specs.Prelude.{ℕ, ℤ, ◌^◌, ◌==◌, pos, negsuc, codes, List, [], ◌∷◌, ◌||◌, if◌then◌else◌, Option, Some, None, Result, Ok, Err, Bool, true, false, ◌&&◌, not, nat_lt, is_some}
+use Rattle.std.specs.Prelude.{ℕ, ◌^◌, ◌==◌, negsuc, codes, List, [], ◌∷◌, ◌||◌, if◌then◌else◌, Option, Some, None, Result, Ok, Err, Bool, true, false, ◌&&◌, not, nat_lt, is_some}
 use Rattle.std.specs.Str.{bytes_eq}
 use Rattle.serde_json.specs.Find.{get}
 use Rattle.hex.specs.Hex.{decode_of, encode_lower}
 use Rattle.hex.specs.declared.error.FromHexError.{FromHexError}
-use Rattle.serde_json.specs.Data.{Num, unsigned, negative, float, Data, null, boolean, number, string, array, object, Items, no_items, item, Members, no_members, member}
+use Rattle.serde_json.specs.Data.{unsigned, negative, Data, null, boolean, number, string, array, object, Items, no_items, item, Members, no_members, member}
 use Rattle.pipe_frame.specs.declared.any_value.AnyValue.{AnyValue}
 use Rattle.pipe_frame.specs.declared.any_value.AnyValue.TheVariants as cell
 use Rattle.pipe_frame.specs.Series.{Cells}
@@ -314,4 +314,3 @@ is_table d = not (is_some (frame_fault (outlines_in d)))
 
 abbrev pub is_frame : Data → Bool
 is_frame d = on_object (after (codes "columns") (λ cs. is_list is_column cs && is_table cs) is_end) d
-

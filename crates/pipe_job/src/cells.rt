@@ -47,7 +47,11 @@ fn bytes_of(alloc: Global, text: &str) -> Result<Bytes, Misread>
         Err(_) => return Err(Misread::Other),
     };
     let again = hex::encode(alloc, bytes.as_slice())?;
-    if again.as_str() == text { Ok(bytes_from(bytes)) } else { Err(Misread::Other) }
+    if again.as_str() == text {
+        Ok(bytes_from(bytes))
+    } else {
+        Err(Misread::Other)
+    }
 }
 
 impl Spelled for DataType {

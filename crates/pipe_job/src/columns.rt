@@ -28,7 +28,11 @@ fn slot_of<T: Spelled>(alloc: Global, value: &Value) -> Result<Option<T>, Misrea
 }
 
 /// The column that a value spells, whose cells are plain values. The filler stands at the place of a null.
-fn values_of<T: Spelled + Copy>(alloc: Global, value: &Value, filler: T) -> Result<Column<T>, Misread>
+fn values_of<T: Spelled + Copy>(
+    alloc: Global,
+    value: &Value,
+    filler: T,
+) -> Result<Column<T>, Misread>
     ensures { Takes (is_list (is_maybe T.shape) (view value.now))
         (λ column. (view value.now ≡ list (maybe T.spelling) column) × AllByRecursion (MaybeFits T.fits) column) result }
 {
@@ -104,7 +108,10 @@ fn series_of(alloc: Global, name: Text, dtype: DataType, value: &Value) -> Resul
         DataType::Int64 => Ok(Series::from_int64(name, values_of::<i64>(alloc, value, 0)?)),
         DataType::UInt32 => Ok(Series::from_uint32(name, values_of::<u32>(alloc, value, 0)?)),
         DataType::UInt64 => Ok(Series::from_uint64(name, values_of::<u64>(alloc, value, 0)?)),
-        DataType::Boolean => Ok(Series::from_boolean(name, values_of::<bool>(alloc, value, false)?)),
+        DataType::Boolean => Ok(Series::from_boolean(
+            name,
+            values_of::<bool>(alloc, value, false)?,
+        )),
         DataType::String => Ok(Series::from_string(name, texts_of(alloc, value)?)),
         DataType::Binary => Ok(Series::from_binary(name, bytes_of(alloc, value)?)),
     }

@@ -1,9 +1,11 @@
 //! Jobs in JSON.
 
-ghost use Rattle.std.specs.Prelude.{◌≡◌, IfOk, IfSome, IfNone};
+ghost use Rattle.std.specs.Prelude.{◌≡◌, IfOk, IfErr, IfSome, IfNone};
+ghost use Rattle.serde_json.specs.Data.{Data};
 ghost use Rattle.serde_json.specs.View.{view};
 ghost use Rattle.pipe_job.specs.Kinds.{is_job};
 ghost use Rattle.pipe_job.specs.JobSpelling.{job_spelling, JobFits, Spells};
+ghost use Rattle.pipe_job.specs.Reading.{Reading, ReadsJob, ReadsNoJob};
 
 use crate::members::Members;
 use crate::misread::Misread;
@@ -12,6 +14,7 @@ use pipe_frame::{DataFrame, List};
 use pipe_plan::{Arena, IR, PipeConfig};
 use serde_json::Value;
 use std::alloc::{AllocError, Global};
+use thiserror::Error;
 
 /// A plan, the frames that it scans, and how it is run.
 #[derive(Debug)]
@@ -24,7 +27,11 @@ pub struct Job {
 
 impl Drop for Job {
     fn drop(self) {
-        let Job { config: _, arena, root: _ } = self;
+        let Job {
+            config: _,
+            arena,
+            root: _,
+        } = self;
         drop(arena);
     }
 }
@@ -47,7 +54,11 @@ impl Spelled for Job {
         let workers = members.field::<u32>(alloc, "workers")?;
         members.end()?;
         Ok(Job {
-            config: PipeConfig { workers, chunk_rows, row_limit },
+            config: PipeConfig {
+                workers,
+                chunk_rows,
+                row_limit,
+            },
             arena: Arena { nodes, frames },
             root,
         })
@@ -64,5 +75,50 @@ pub fn job_of(alloc: Global, value: &Value) -> Result<Option<Job>, AllocError>
         Ok(job) => Ok(Some(job)),
         Err(Misread::Other) => Ok(None),
         Err(Misread::Memory) => Err(AllocError),
+    }
+}
+
+/// Why bytes give no job.
+#[derive(Debug, Drop, PartialEq, Eq, Error)]
+pub enum JobError {
+    /// They are no JSON text.
+    #[error("BadText")]
+    BadText,
+    /// The value spells no job.
+    #[error("BadJob")]
+    BadJob,
+    /// Want of memory.
+    #[error("Memory")]
+    Memory,
+}
+
+/// The value that bytes read as.
+fn value_of(alloc: Global, bytes: &[u8]) -> Result<Value, JobError>
+    ensures value { IfOk result (λ v. Reading bytes.now (view v)) }
+    ensures bad_text { IfErr result (λ e. e ≡ JobError.BadText → (d : Data) → Reading bytes.now d → ⊥) }
+    ensures no_other { IfErr result (λ e. e ≡ JobError.BadJob → ⊥) }
+{
+    match Value::from_slice(alloc, bytes) {
+        Ok(value) => Ok(value),
+        Err(error) => if error.is_memory() {
+            Err(JobError::Memory)
+        } else {
+            Err(JobError::BadText)
+        },
+    }
+}
+
+/// The job that bytes spell. `BadText` where they are no JSON text, `BadJob` exactly where the value read spells
+/// no job.
+pub fn read_job(alloc: Global, bytes: &[u8]) -> Result<Job, JobError>
+    ensures job { IfOk result (ReadsJob bytes.now) }
+    ensures bad_text { IfErr result (λ e. e ≡ JobError.BadText → (d : Data) → Reading bytes.now d → ⊥) }
+    ensures bad_job { IfErr result (λ e. e ≡ JobError.BadJob → ReadsNoJob bytes.now) }
+{
+    let value = value_of(alloc, bytes)?;
+    match job_of(alloc, &value) {
+        Ok(Some(job)) => Ok(job),
+        Ok(None) => Err(JobError::BadJob),
+        Err(_) => Err(JobError::Memory),
     }
 }

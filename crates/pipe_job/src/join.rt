@@ -79,7 +79,7 @@ struct Back {
 fn back_of(alloc: Global, members: &mut Members) -> Result<Back, Misread>
     ensures { Takes (is_join_back (members_view members.old.rest))
         (λ b. (members_view members.old.rest ≡ join_back b.right b.right_on b.rows_left b.rows_right b.suffix)
-            × JoinBackFits b.right b.right_on b.rows_left b.rows_right) result }
+        × JoinBackFits b.right b.right_on b.rows_left b.rows_right) result }
 {
     let right = members.field::<u32>(alloc, "right")?;
     let right_on = members.field::<List<Expr>>(alloc, "right_on")?;
@@ -87,7 +87,13 @@ fn back_of(alloc: Global, members: &mut Members) -> Result<Back, Misread>
     let rows_right = members.field::<RowsHint>(alloc, "rows_right")?;
     let suffix = members.field::<Text>(alloc, "suffix")?;
     members.end()?;
-    Ok(Back { right, right_on, rows_left, rows_right, suffix })
+    Ok(Back {
+        right,
+        right_on,
+        rows_left,
+        rows_right,
+        suffix,
+    })
 }
 
 /// The join that a value spells.
@@ -102,7 +108,26 @@ pub(crate) fn join_of(alloc: Global, value: &Value) -> Result<IR, Misread>
     let left = members.field::<u32>(alloc, "left")?;
     let left_on = members.field::<List<Expr>>(alloc, "left_on")?;
     members.word("node", "Join")?;
-    let Back { right, right_on, rows_left, rows_right, suffix } = back_of(alloc, &mut members)?;
-    let options = JoinOptions { how, join_nulls, coalesce, suffix, rows_left, rows_right };
-    Ok(IR::Join { left, right, left_on, right_on, options })
+    let Back {
+        right,
+        right_on,
+        rows_left,
+        rows_right,
+        suffix,
+    } = back_of(alloc, &mut members)?;
+    let options = JoinOptions {
+        how,
+        join_nulls,
+        coalesce,
+        suffix,
+        rows_left,
+        rows_right,
+    };
+    Ok(IR::Join {
+        left,
+        right,
+        left_on,
+        right_on,
+        options,
+    })
 }

@@ -37,7 +37,11 @@ impl<'a> Members<'a> {
             (λ v. members_view self.old.rest ≡ member name.now (view v.now) (members_view self.new.rest)) result }
     {
         match self.rest.next() {
-            Some((key, value)) => if key.as_str() == name { Ok(value) } else { Err(Misread::Other) },
+            Some((key, value)) => if key.as_str() == name {
+                Ok(value)
+            } else {
+                Err(Misread::Other)
+            },
             None => Err(Misread::Other),
         }
     }
@@ -57,7 +61,11 @@ impl<'a> Members<'a> {
             (λ _. members_view self.old.rest ≡ member name.now (string word.now) (members_view self.new.rest)) result }
     {
         let value = self.take(name)?;
-        if value.as_str() == Some(word) { Ok(()) } else { Err(Misread::Other) }
+        if value.as_str() == Some(word) {
+            Ok(())
+        } else {
+            Err(Misread::Other)
+        }
     }
 
     /// Takes a member of this name with this whole number for its value.
@@ -66,7 +74,11 @@ impl<'a> Members<'a> {
             (λ _. members_view self.old.rest ≡ member name.now (number (unsigned n)) (members_view self.new.rest)) result }
     {
         let value = self.take(name)?;
-        if value.as_u64() == Some(n) { Ok(()) } else { Err(Misread::Other) }
+        if value.as_u64() == Some(n) {
+            Ok(())
+        } else {
+            Err(Misread::Other)
+        }
     }
 
     /// Takes no member, where there is none.

@@ -145,7 +145,12 @@ fn unpivot_of(alloc: Global, value: &Value) -> Result<IR, Misread>
     let value = members.field::<Text>(alloc, "value")?;
     let variable = members.field::<Text>(alloc, "variable")?;
     members.end()?;
-    let function = FunctionIR::Unpivot { on, index, variable, value };
+    let function = FunctionIR::Unpivot {
+        on,
+        index,
+        variable,
+        value,
+    };
     Ok(IR::MapFunction { input, function })
 }
 
@@ -185,7 +190,11 @@ fn sort_of(alloc: Global, value: &Value) -> Result<IR, Misread>
     let nulls_last = members.field::<List<bool>>(alloc, "nulls_last")?;
     let slice = members.field::<Option<PlanSlice>>(alloc, "slice")?;
     members.end()?;
-    let options = SortOptions { descending, nulls_last, slice };
+    let options = SortOptions {
+        descending,
+        nulls_last,
+        slice,
+    };
     Ok(IR::Sort { input, by, options })
 }
 

@@ -1,4 +1,4 @@
-use Rattle.std.proofs.Common.{◌≡◌, map, List, take, drop, false}
+use Rattle.std.proofs.Common.{take, drop}
 use Rattle.pipe_job.proofs.SoFar.{SoFar}
 use Rattle.pipe_job.proofs.lists.ListSpelled.read.Given as goal
 
