@@ -1,2 +1,3 @@
 pub mod FirstPlace
 pub mod FirstMeaning
+pub mod Chunks

@@ -3,8 +3,11 @@
 
 mod answer;
 mod first;
-mod first_join;
+mod joining;
+mod running;
+mod sides;
 
 pub use answer::RunAnswer;
-
+pub use joining::{FirstJoin, first_join};
 pub use pipe_plan::PipeConfig;
+pub use running::{run_plan, run_plan_with};
