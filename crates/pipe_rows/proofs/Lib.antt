@@ -8,3 +8,4 @@ pub mod OrderedLemmas
 pub mod DecodingLemmas
 pub mod ValueLemmas
 pub mod RowLemmas
+pub mod SortLaw
