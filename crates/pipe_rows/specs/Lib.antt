@@ -10,3 +10,5 @@ pub mod Encoded
 pub mod Ordered
 -- which bytes are ordered encodings
 pub mod Decoding
+-- a sort by the ordered encoding
+pub mod SortBytes

@@ -7,10 +7,10 @@ use thiserror::Error;
 #[derive(Debug, Drop, Error)]
 pub enum RowsError {
     /// This row is the first that is no ordered encoding.
-    #[error("row {0} is no ordered encoding")]
+    #[error("NotARow")]
     NotARow(usize),
-    /// There is no memory left.
-    #[error("out of memory")]
+    /// Want of memory.
+    #[error("Memory")]
     Memory,
 }
 
