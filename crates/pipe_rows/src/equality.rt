@@ -29,12 +29,12 @@ fn write_uint32(x: Option<u32>, writer: &mut RowWriter) -> Result<bool, AllocErr
 {
     match x {
         Some(x) => {
-            writer.write(&[VALUE])?;
+            writer.push(VALUE)?;
             writer.write(&x.to_le_bytes())?;
             Ok(false)
         }
         None => {
-            writer.write(&[NULL])?;
+            writer.push(NULL)?;
             Ok(true)
         }
     }
@@ -47,12 +47,12 @@ fn write_uint64(x: Option<u64>, writer: &mut RowWriter) -> Result<bool, AllocErr
 {
     match x {
         Some(x) => {
-            writer.write(&[VALUE])?;
+            writer.push(VALUE)?;
             writer.write(&x.to_le_bytes())?;
             Ok(false)
         }
         None => {
-            writer.write(&[NULL])?;
+            writer.push(NULL)?;
             Ok(true)
         }
     }
@@ -65,12 +65,12 @@ fn write_int32(x: Option<i32>, writer: &mut RowWriter) -> Result<bool, AllocErro
 {
     match x {
         Some(x) => {
-            writer.write(&[VALUE])?;
+            writer.push(VALUE)?;
             writer.write(&x.cast_unsigned().to_le_bytes())?;
             Ok(false)
         }
         None => {
-            writer.write(&[NULL])?;
+            writer.push(NULL)?;
             Ok(true)
         }
     }
@@ -83,12 +83,12 @@ fn write_int64(x: Option<i64>, writer: &mut RowWriter) -> Result<bool, AllocErro
 {
     match x {
         Some(x) => {
-            writer.write(&[VALUE])?;
+            writer.push(VALUE)?;
             writer.write(&x.cast_unsigned().to_le_bytes())?;
             Ok(false)
         }
         None => {
-            writer.write(&[NULL])?;
+            writer.push(NULL)?;
             Ok(true)
         }
     }
@@ -101,11 +101,12 @@ fn write_boolean(x: Option<bool>, writer: &mut RowWriter) -> Result<bool, AllocE
 {
     match x {
         Some(x) => {
-            writer.write(&[VALUE, u8::from(x)])?;
+            writer.push(VALUE)?;
+            writer.push(u8::from(x))?;
             Ok(false)
         }
         None => {
-            writer.write(&[NULL])?;
+            writer.push(NULL)?;
             Ok(true)
         }
     }
@@ -116,7 +117,7 @@ fn write_sized(bytes: &[u8], writer: &mut RowWriter) -> Result<(), AllocError>
     ensures bytes { OnOk result (writer.new ≡ record writer.old { open_bytes = writer.old.open_bytes ++ equality_cell (AnyValue.Binary bytes.now) }) }
     ensures range { InRange (AnyValue.Binary bytes.now) }
 {
-    writer.write(&[VALUE])?;
+    writer.push(VALUE)?;
     writer.write(&(bytes.len() as u64).to_le_bytes())?;
     writer.write(bytes)?;
     Ok(())
@@ -134,7 +135,7 @@ fn write_string(x: Option<&str>, writer: &mut RowWriter) -> Result<bool, AllocEr
             Ok(false)
         }
         None => {
-            writer.write(&[NULL])?;
+            writer.push(NULL)?;
             Ok(true)
         }
     }
@@ -152,7 +153,7 @@ fn write_binary(x: Option<&[u8]>, writer: &mut RowWriter) -> Result<bool, AllocE
             Ok(false)
         }
         None => {
-            writer.write(&[NULL])?;
+            writer.push(NULL)?;
             Ok(true)
         }
     }
@@ -217,8 +218,10 @@ pub fn convert_columns_no_order(
     ensures rows { IfOk result (λ rows. rows ≡ map equality_encoded (rows_of columns.now (height_of columns.now))) }
     ensures cells { OnOk result ((i : ℕ) → i < height_of columns.now → IsRow (dtypes_of columns.now) (row_at columns.now i)) }
 {
+    let height = columns[0].len();
     let mut writer = RowWriter::new(alloc);
-    for i in 0..columns[0].len() {
+    writer.reserve_rows(height)?;
+    for i in 0..height {
         let has_null = write_row(columns, i, &mut writer)?;
         writer.end_row(has_null)?;
     }

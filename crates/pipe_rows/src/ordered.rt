@@ -271,8 +271,10 @@ pub fn convert_columns(
     ensures rows { IfOk result (λ rows. rows ≡ map (ordered_encoded fields.now) (rows_of columns.now (height_of columns.now))) }
     ensures cells { OnOk result ((i : ℕ) → i < height_of columns.now → IsRow (dtypes_of columns.now) (row_at columns.now i)) }
 {
+    let height = columns[0].len();
     let mut writer = RowWriter::new(alloc);
-    for i in 0..columns[0].len() {
+    writer.reserve_rows(height)?;
+    for i in 0..height {
         let has_null = write_row(columns, fields, i, &mut writer)?;
         writer.end_row(has_null)?;
     }

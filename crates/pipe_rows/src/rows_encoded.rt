@@ -97,6 +97,7 @@ impl RowsEncoded {
         ensures { IfOk result (λ encoded. encoded ≡ map unmarked rows.now) }
     {
         let mut writer = RowWriter::new(alloc);
+        writer.reserve_rows(rows.len())?;
         for row in rows {
             writer.write(row.as_slice())?;
             writer.end_row(false)?;
@@ -134,6 +135,14 @@ impl RowWriter {
             ends: Vec::new(alloc),
             marks: Vec::new(alloc),
         }
+    }
+
+    /// Takes memory for the ends and marks of so many further rows at once.
+    pub(crate) fn reserve_rows(&mut self, count: usize) -> Result<(), AllocError>
+        ensures { self.new ≡ self.old }
+    {
+        self.ends.reserve(count)?;
+        self.marks.reserve(count)
     }
 
     /// Writes bytes of the open row.
