@@ -1,4 +1,4 @@
--- FNV-1a on 64 bits (Fowler, Noll and Vo; RFC 9923, "The FNV Non-Cryptographic Hash Algorithm").
+-- FNV-1a on 64 bits (G. Fowler, L. C. Noll, K.-P. Vo, D. Eastlake: The FNV Non-Cryptographic Hash Algorithm).
 use Rattle.std.specs.Prelude.{ℕ, ◌*◌, ◌%◌, ◌^◌, List, [], ◌∷◌, bit_xor}
 
 -- the hash of no byte
