@@ -23,5 +23,6 @@ mod spelled;
 pub use jobs::{Job, JobError, job_of, read_job};
 pub use laws::{lines_of_frame, one_flat_job, one_job};
 pub use lines::{head_line, push_head_line, push_rows, row_line};
-pub use misread::Misread;
-pub use spelled::Spelled;
+
+#[cfg(test)]
+mod tests;
