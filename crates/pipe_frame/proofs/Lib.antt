@@ -7,5 +7,6 @@ pub mod Tables
 pub mod RowOps
 pub mod Sizes
 pub mod Selects
+pub mod Numbers
 pub mod Weights
 pub mod NamePlaces

@@ -18,5 +18,7 @@ pub mod Sizes
 pub mod Stacker
 -- the rows of chunks
 pub mod Chunks
+-- frames that the tests stack
+pub mod Numbers
 -- counts that stand still at their last value
 pub mod Counts

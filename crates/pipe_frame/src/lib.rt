@@ -23,6 +23,8 @@ mod series;
 mod stacker;
 mod stop;
 mod string_column;
+#[cfg(test)]
+mod tests;
 mod text;
 mod try_clone;
 

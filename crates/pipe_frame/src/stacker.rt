@@ -12,18 +12,10 @@ use std::marker::Model;
 const DEFAULT_LIMIT: u64 = 4_194_304;
 
 /// What a stacker gives out at one call, in this order.
-#[derive(Debug)]
+#[derive(Debug, Drop)]
 pub struct Stacked {
     pub first: Option<DataFrame>,
     pub second: Option<DataFrame>,
-}
-
-impl Drop for Stacked {
-    fn drop(self) {
-        let Stacked { first, second } = self;
-        drop(first);
-        drop(second);
-    }
 }
 
 /// Gathers frames of one schema, seen as its limit and what it holds.
