@@ -26,8 +26,8 @@ pub holds-more : (stacker : Holding) (next : Table) → HoldsNumbers stacker →
 holds-more stacker next h e =
     let fields = joined-schema (nat_lt (stacker.limit / 4) (frame_size next)) stacker.held next h.schema e in
     let split : (b : Bool) → nat_lt stacker.limit (frame_size (joined stacker next)) ≡ b → HoldsNumbers (record stacker { held = cond b None (Some (joined stacker next)) }) = elim [
-      true ↦ λ big. record { schema = tt; within = omega arith; small = h.small }
-    | false ↦ λ fits. record { schema = fields; within = grind (arith, nat_tests); small = h.small }
+      | true ↦ λ big. record { schema = tt; within = omega arith; small = h.small }
+      | false ↦ λ fits. record { schema = fields; within = grind (arith, nat_tests); small = h.small }
     ] in split (nat_lt stacker.limit (frame_size (joined stacker next))) refl
 
 -- the size of a frame of one column of numbers

@@ -81,7 +81,7 @@ slice_range-range : (s t a e : ℕ) (bytes : List ℕ) → s ≤ a → a ≤ e �
 slice_range-range s t a e bytes sa ae et =
     let whole : t - s ≡ (a - s) + (t - a) = omega arith in
     let inner : drop (a - s) (take (t - s) (drop s bytes)) ≡ take (t - a) (drop a bytes) =
-        ap (λ n. drop (a - s) (take n (drop s bytes))) whole ∙ drop-take (a - s) (t - a) (drop s bytes) ∙ ap (take (t - a)) (drop-drop (a - s) s bytes ∙ ap (λ n. drop n bytes) (omega arith)) in
+    ap (λ n. drop (a - s) (take n (drop s bytes))) whole ∙ drop-take (a - s) (t - a) (drop s bytes) ∙ ap (take (t - a)) (drop-drop (a - s) s bytes ∙ ap (λ n. drop n bytes) (omega arith)) in
     let short : (e - s) - (a - s) ≡ e - a = omega arith in
     ap (λ n. take n (drop (a - s) (take (t - s) (drop s bytes)))) short ∙ ap (take (e - a)) inner ∙ take-take (e - a) (t - a) (drop a bytes) (omega arith)
 

@@ -131,8 +131,8 @@ pub table_of-taken : (columns : List Cells) (height : ℕ) (places : List (Optio
 table_of-taken columns height places n {table = table} {items = items} v inside e count =
     let Claim : Table → Type 0 = λ t. All (IsRowOrNone (length t.rows)) places → table_of items n ≡ record { schema = t.schema; rows = map (row_or_nulls t) places } in
     let proof : Claim (table_of columns height) = λ all.
-      let within : All (IsRowOrNone height) places = rw length-rows_of at all in
-      rw (e, count) (ap (λ s. record { schema = s; rows = rows_of (taken_columns places columns) (length places) }) (fields-kept (taken_column places) (λ c. refl) columns) ∙ ap (λ r. record { schema = map field_of columns; rows = r }) (rows_of-taken columns height places within))
+    let within : All (IsRowOrNone height) places = rw length-rows_of at all in
+    rw (e, count) (ap (λ s. record { schema = s; rows = rows_of (taken_columns places columns) (length places) }) (fields-kept (taken_column places) (λ c. refl) columns) ∙ ap (λ r. record { schema = map field_of columns; rows = r }) (rows_of-taken columns height places within))
     in subst Claim v proof inside
 
 even-map : (f : Cells → Cells) (n : ℕ) (columns : List Cells) → ((k : ℕ) (d : Cells) → k < length columns → length (f (get_or columns k d)).cells ≡ n) → AllOfHeight n (map f columns)
@@ -202,8 +202,8 @@ pub table_of-part : (columns : List Cells) (height from count : ℕ) {table : Ta
 table_of-part columns height from count {table = table} {items = items} v inside e =
     let Claim : Table → Type 0 = λ t. from + count ≤ length t.rows → table_of items count ≡ record { schema = t.schema; rows = take count (drop from t.rows) } in
     let proof : Claim (table_of columns height) = λ le.
-      let within : from + count ≤ height = rw length-rows_of at le in
-      rw e (ap (λ s. record { schema = s; rows = rows_of (map (part_column from count) columns) count }) (fields-kept (part_column from count) (λ c. refl) columns) ∙ ap (λ r. record { schema = map field_of columns; rows = r }) (rows_of-part columns height from count within))
+    let within : from + count ≤ height = rw length-rows_of at le in
+    rw e (ap (λ s. record { schema = s; rows = rows_of (map (part_column from count) columns) count }) (fields-kept (part_column from count) (λ c. refl) columns) ∙ ap (λ r. record { schema = map field_of columns; rows = r }) (rows_of-part columns height from count within))
     in subst Claim v proof inside
 
 pub good-part : (columns : List Cells) (height from count : ℕ) {table : Table} {schema copy : List Field} {items : List Cells} → table_of columns height ≡ table → from + count ≤ length table.rows → schema ≡ map field_of columns → IsSchema schema → AllOfHeight height columns → copy ≡ schema → items ≡ map (part_column from count) columns → (copy ≡ map field_of items) × IsSchema copy × AllOfHeight count items
@@ -233,10 +233,10 @@ rows_of-stacked columns others height further even same =
     let front = length-rows_of columns height in
     let back = length-rows_of others further in
     let at : (k : ℕ) → k < height + further → get_or (rows_of columns height ++ rows_of others further) k [] ≡ row_at stacked k = λ k lt.
-      let split : (k < height) ⊎ (height ≤ k) → get_or (rows_of columns height ++ rows_of others further) k [] ≡ row_at stacked k = elim [
-        inl low ↦ get_or_append_left (rows_of columns height) (rows_of others further) [] k (omega arith) ∙ get_or-rows_of columns height k low ∙ sym (row_at-stacked_low (length columns) height k columns others even low)
+    let split : (k < height) ⊎ (height ≤ k) → get_or (rows_of columns height ++ rows_of others further) k [] ≡ row_at stacked k = elim [
+      | inl low ↦ get_or_append_left (rows_of columns height) (rows_of others further) [] k (omega arith) ∙ get_or-rows_of columns height k low ∙ sym (row_at-stacked_low (length columns) height k columns others even low)
       | inr high ↦ get_or-append_right (rows_of columns height) (rows_of others further) height k [] front high ∙ get_or-rows_of others further (k - height) (omega arith) ∙ sym (row_at-stacked_high height k columns others even same high)
-      ] in split (cases_lt k height)
+    ] in split (cases_lt k height)
     in sym (fill_by_all (row_at stacked) (rows_of columns height ++ rows_of others further) (height + further) [] (length-append (rows_of columns height) (rows_of others further) ∙ omega arith) at)
 
 height_of-stacked : (columns others : List Cells) (height further : ℕ) (n : ℕ) → AllOfHeight height columns → AllOfHeight further others → length columns ≡ length others → 0 < length columns → n ≡ length columns → height_of (stacked_front n columns others) ≡ height + further
@@ -265,7 +265,7 @@ table_of-stacked columns others height further n {table = table} {other = other}
     let long : length columns ≡ length others = same_length columns others fields in
     let total : n ≡ height + further = count ∙ ap height_of e ∙ height_of-stacked columns others height further (length columns) even later long (some_field columns good) refl in
     let rows : table_of items n ≡ record { schema = map field_of columns; rows = rows_of columns height ++ rows_of others further } =
-      rw (e, total) (ap (λ s. record { schema = s; rows = rows_of (stacked_front (length columns) columns others) (height + further) }) (fields-stacked (length columns) columns others) ∙ ap (λ r. record { schema = map field_of columns; rows = r }) (rows_of-stacked columns others height further even long))
+    rw (e, total) (ap (λ s. record { schema = s; rows = rows_of (stacked_front (length columns) columns others) (height + further) }) (fields-stacked (length columns) columns others) ∙ ap (λ r. record { schema = map field_of columns; rows = r }) (rows_of-stacked columns others height further even long))
     in (rw (e, total) (even-stacked columns others height further even later long), rows ∙ ap (λ t. record { schema = t.schema; rows = t.rows ++ rows_of others further }) v ∙ ap (λ t. record { schema = table.schema; rows = table.rows ++ t.rows }) w)
 
 pub good-stacked : (columns others : List Cells) (height further n : ℕ) {schema : List Field} {table other : Table} {items : List Cells} → table_of columns height ≡ table → table_of others further ≡ other → table.schema ≡ other.schema → schema ≡ map field_of columns → IsSchema schema → AllOfHeight height columns → AllOfHeight further others → items ≡ stacked_front (length columns) columns others → n ≡ height_of items → (schema ≡ map field_of items) × IsSchema schema × AllOfHeight n items

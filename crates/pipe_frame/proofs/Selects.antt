@@ -34,8 +34,8 @@ even-at_places height columns [] even = let Even : Cells → Type 0 = λ c. leng
 even-at_places height columns (i ∷ places) even =
     let Even : Cells → Type 0 = λ c. length c.cells ≡ height in
     let split : (o : Option Cells) → slice_get columns i ≡ o → AllOfHeight height (cons_option o (at_places columns places)) = elim [
-      Some c ↦ λ e. All-cons Even c (at_places columns places) (slice_get-even height columns i c e even) (even-at_places height columns places even)
-    | None ↦ λ e. even-at_places height columns places even
+      | Some c ↦ λ e. All-cons Even c (at_places columns places) (slice_get-even height columns i c e even) (even-at_places height columns places even)
+      | None ↦ λ e. even-at_places height columns places even
     ] in split (slice_get columns i) refl
 
 -- selecting in each column is selecting in each row
@@ -50,8 +50,8 @@ place_found : (n : ℕ) (name : List ℕ) (fields : List Field) (i : ℕ) → pl
 place_found n name [] i e = absurd (cc)
 place_found n name (f ∷ fields) i e =
     let split : (b : Bool) → bytes_eq f.name name ≡ b → cond b (Some n) (place_from (n + 1) name fields) ≡ Some i → (k : ℕ) × ((i ≡ n + k) × (slice_get (names_of (f ∷ fields)) k ≡ Some name)) = elim [
-      true ↦ λ same found. let here : n ≡ i = cc in (0, (omega arith, ap Some ((bytes_decides f.name name).0 same)))
-    | false ↦ λ other found. let later = place_found (n + 1) name fields i found in (suc later.0, (omega (arith, later.1.0), later.1.1))
+      | true ↦ λ same found. let here : n ≡ i = cc in (0, (omega arith, ap Some ((bytes_decides f.name name).0 same)))
+      | false ↦ λ other found. let later = place_found (n + 1) name fields i found in (suc later.0, (omega (arith, later.1.0), later.1.1))
     ] in split (bytes_eq f.name name) refl e
 
 slice_get-inside : {X : Type 0} (xs : List X) (k : ℕ) (x : X) → slice_get xs k ≡ Some x → k < length xs
@@ -70,8 +70,8 @@ names-found : (fields : List Field) (names : List (List ℕ)) → first_unknown 
 names-found fields [] h = refl
 names-found fields (name ∷ names) h =
     let split : (o : Option ℕ) → place_of name fields ≡ o → cond (is_some o) (first_unknown fields names) (Some name) ≡ None → at_places (names_of fields) (cons_option o (places_named fields names)) ≡ name ∷ names = elim [
-      Some i ↦ λ e rest. ap (λ x. cons_option x (at_places (names_of fields) (places_named fields names))) (place_of-name name fields i e) ∙ ap (λ l. name ∷ l) (names-found fields names rest)
-    | None ↦ λ e none. absurd (cc)
+      | Some i ↦ λ e rest. ap (λ x. cons_option x (at_places (names_of fields) (places_named fields names))) (place_of-name name fields i e) ∙ ap (λ l. name ∷ l) (names-found fields names rest)
+      | None ↦ λ e none. absurd (cc)
     ] in split (place_of name fields) refl h
 
 -- the fields of known names have these names

@@ -97,7 +97,7 @@ sum-rows (c ∷ columns) height even =
     let rest = sum-rows columns height (λ k d lt. even (suc k) d (omega arith)) in
     let places = range_with_len 0 height in
     let here : total (λ k. cell_size c.dtype (cell_at c.cells k)) places ≡ column_size c =
-      sym (total-map (cell_at c.cells) (cell_size c.dtype) places) ∙ ap (total (cell_size c.dtype)) (sym (cells-range c.cells height (even 0 c (omega arith)))) ∙ total-sum_by (cell_size c.dtype) c.cells in
+    sym (total-map (cell_at c.cells) (cell_size c.dtype) places) ∙ ap (total (cell_size c.dtype)) (sym (cells-range c.cells height (even 0 c (omega arith)))) ∙ total-sum_by (cell_size c.dtype) c.cells in
     let later : total (λ k. row_size (map field_of columns) (row_at columns k)) places ≡ total column_size columns = sym (total-map (row_at columns) (row_size (map field_of columns)) places) ∙ rest in
     total-map (row_at (c ∷ columns)) (row_size (map field_of (c ∷ columns))) places
     ∙ total-plus (λ k. cell_size c.dtype (cell_at c.cells k)) (λ k. row_size (map field_of columns) (row_at columns k)) places

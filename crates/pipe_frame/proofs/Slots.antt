@@ -98,8 +98,8 @@ pub slot_seen : {T : Type 0} (marks : List Bool) (xs : List T) (i : ℕ) (m : Bo
 slot_seen {T = T} marks xs i m d x v h lt p q =
     let Claim : List (Option T) → Type 0 = λ now. i < length now → slot_at now i ≡ cond m (Some x) None in
     let below : i < length (slots marks xs) → slot_at (slots marks xs) i ≡ cond m (Some x) None = λ at.
-      let inside : i < length xs = omega (arith, length-slots marks xs h) in
-      get_or-slots marks xs i m x h inside p (q ∙ get_or_default xs i d x inside)
+    let inside : i < length xs = omega (arith, length-slots marks xs h) in
+    get_or-slots marks xs i m x h inside p (q ∙ get_or_default xs i d x inside)
     in subst Claim v below lt
 
 pub slots_gathered : {T : Type 0} (marks : List Bool) (xs : List T) (other : T) (places : List (Option ℕ)) {ms : List Bool} {ys : List T} {now : List (Option T)} → slots marks xs ≡ now → length marks ≡ length xs → ms ≡ map (value_at marks false) places → ys ≡ map (value_at xs other) places → slots ms ys ≡ map (slot_in now) places

@@ -95,7 +95,11 @@ impl BinaryColumn {
 #[tactic(auto, using(crate::proofs::Slots::slots_rules))]
 impl BinaryColumn {
     /// The byte strings at these places.
-    pub(crate) fn take_at<P: Place>(&self, alloc: Global, places: &[P]) -> Result<BinaryColumn, AllocError>
+    pub(crate) fn take_at<P: Place>(
+        &self,
+        alloc: Global,
+        places: &[P],
+    ) -> Result<BinaryColumn, AllocError>
         ensures { IfOk result (λ taken. taken ≡ map (slot_in self.now) (map P.place places.now)) }
     {
         Ok(BinaryColumn {

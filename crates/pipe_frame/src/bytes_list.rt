@@ -113,7 +113,11 @@ impl BytesList {
 #[tactic(auto, using(crate::proofs::Pieces::pieces_rules))]
 impl BytesList {
     /// The byte strings at these places, and an empty one where there is none.
-    pub(crate) fn take_at<P: Place>(&self, alloc: Global, places: &[P]) -> Result<BytesList, AllocError>
+    pub(crate) fn take_at<P: Place>(
+        &self,
+        alloc: Global,
+        places: &[P],
+    ) -> Result<BytesList, AllocError>
         ensures { IfOk result (λ taken. taken ≡ map (value_at self.now []) (map P.place places.now)) }
     {
         let mut taken = BytesList {

@@ -62,7 +62,11 @@ impl TryClone for DataChunk {
 }
 
 /// The rows of chunks of one schema, in order, as one frame.
-pub fn chunks_to_df_unchecked(alloc: Global, chunks: Vec<DataChunk>, schema: &Schema) -> Result<DataFrame, AllocError>
+pub fn chunks_to_df_unchecked(
+    alloc: Global,
+    chunks: Vec<DataChunk>,
+    schema: &Schema,
+) -> Result<DataFrame, AllocError>
     requires { All (HasSchema schema.now) chunks.items }
     ensures { IfOk result (λ frame. frame ≡ record { schema = schema.now; rows = flat_map chunk_rows chunks.items }) }
 {

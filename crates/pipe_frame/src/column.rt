@@ -121,7 +121,12 @@ impl<T: Copy + Drop> Column<T> {
     }
 
     /// The values at these places.
-    pub(crate) fn take_at<P: Place>(&self, alloc: Global, places: &[P], filler: T) -> Result<Column<T>, AllocError>
+    pub(crate) fn take_at<P: Place>(
+        &self,
+        alloc: Global,
+        places: &[P],
+        filler: T,
+    ) -> Result<Column<T>, AllocError>
         ensures { IfOk result (λ taken. taken ≡ map (slot_in self.now) (map P.place places.now)) }
     {
         Ok(Column {

@@ -19,7 +19,12 @@ use crate::try_clone::TryClone;
 use std::alloc::{AllocError, Global};
 
 /// The row at a place of some columns.
-pub(crate) fn row_of(alloc: Global, columns: &[Series], height: usize, i: usize) -> Result<Row, AllocError>
+pub(crate) fn row_of(
+    alloc: Global,
+    columns: &[Series],
+    height: usize,
+    i: usize,
+) -> Result<Row, AllocError>
     requires inside { i < height }
     requires even { AllOfHeight height columns.now }
     ensures { IfOk result (λ row. row ≡ row_at columns.now i) }
@@ -68,7 +73,11 @@ pub(crate) fn first_height(columns: &[Series]) -> usize
 }
 
 /// The cells at these places of some columns, null where there is none.
-pub(crate) fn take_columns<P: Place>(alloc: Global, columns: &[Series], places: &[P]) -> Result<Vec<Series>, AllocError>
+pub(crate) fn take_columns<P: Place>(
+    alloc: Global,
+    columns: &[Series],
+    places: &[P],
+) -> Result<Vec<Series>, AllocError>
     ensures { IfOk result (λ taken. taken.items ≡ taken_columns (map P.place places.now) columns.now) }
 {
     let mut taken = Vec::with_capacity(alloc, columns.len())?;
@@ -79,7 +88,13 @@ pub(crate) fn take_columns<P: Place>(alloc: Global, columns: &[Series], places: 
 }
 
 /// So many cells from a place on of some columns.
-pub(crate) fn slice_columns(alloc: Global, columns: &[Series], height: usize, from: usize, count: usize) -> Result<Vec<Series>, AllocError>
+pub(crate) fn slice_columns(
+    alloc: Global,
+    columns: &[Series],
+    height: usize,
+    from: usize,
+    count: usize,
+) -> Result<Vec<Series>, AllocError>
     requires inside { from + count ≤ height }
     requires even { AllOfHeight height columns.now }
     ensures { IfOk result (λ parts. parts.items ≡ map (part_column from count) columns.now) }
@@ -101,7 +116,11 @@ fn truncate_columns(columns: &mut [Series], count: usize)
 }
 
 /// Puts the cells of other columns of the same types behind those of some columns.
-pub(crate) fn append_columns(columns: &mut [Series], others: &[Series], height: usize) -> Result<(), AllocError>
+pub(crate) fn append_columns(
+    columns: &mut [Series],
+    others: &[Series],
+    height: usize,
+) -> Result<(), AllocError>
     requires even { AllOfHeight height columns.old }
     requires same { map field_of columns.old ≡ map field_of others.now }
     ensures ok { OnOk result (columns.new ≡ stacked_front (length columns.old) columns.old others.now) }
@@ -154,7 +173,12 @@ pub(crate) fn size_of_columns(columns: &[Series]) -> u64
 }
 
 /// The columns of these names, in the order of the names.
-pub(crate) fn select_columns(alloc: Global, columns: &[Series], fields: &[Field], names: &[Text]) -> Result<Vec<Series>, FrameError>
+pub(crate) fn select_columns(
+    alloc: Global,
+    columns: &[Series],
+    fields: &[Field],
+    names: &[Text],
+) -> Result<Vec<Series>, FrameError>
     requires { fields.now ≡ map field_of columns.now }
     ensures ok { IfOk result (λ made. made.items ≡ at_places columns.now (places_named fields.now names.now)) }
     ensures known { OnOk result (first_unknown fields.now names.now ≡ None) }

@@ -6,7 +6,10 @@ ghost use Rattle.pipe_frame.specs.Frame.{rows_of, field_of, chosen_rows, columns
 ghost use Rattle.pipe_frame.specs.Sizes.{frame_size};
 
 use crate::any_value::AnyValue;
-use crate::columns::{append_columns, differing_height, empty_columns, fields_of, first_height, places_of_true, row_of, select_columns, size_of_columns, slice_columns, take_columns};
+use crate::columns::{
+    append_columns, differing_height, empty_columns, fields_of, first_height, places_of_true,
+    row_of, select_columns, size_of_columns, slice_columns, take_columns,
+};
 use crate::data_type::DataType;
 use crate::error::FrameError;
 use crate::list::{List, copy_items};
@@ -210,7 +213,11 @@ impl DataFrame {
         ensures ok { OnOk result (self.new ≡ record self.old { rows = self.old.rows ++ other.now.rows }) }
         ensures err { OnErr result (self.new ≡ self.old) }
     {
-        append_columns(self.columns.as_mut_slice(), other.columns.as_slice(), self.height)?;
+        append_columns(
+            self.columns.as_mut_slice(),
+            other.columns.as_slice(),
+            self.height,
+        )?;
         self.height = first_height(self.columns.as_slice());
         Ok(())
     }

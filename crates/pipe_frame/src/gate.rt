@@ -46,7 +46,10 @@ impl MeetGate {
 impl Gate for MeetGate {
     fn enter(&self, worker: u32) {
         let me = worker as u64 + 1;
-        if let Err(first) = self.first.compare_exchange(0, me, Ordering::SeqCst, Ordering::SeqCst) {
+        if let Err(first) = self
+            .first
+            .compare_exchange(0, me, Ordering::SeqCst, Ordering::SeqCst)
+        {
             if first != me {
                 self.met.store(true, Ordering::SeqCst);
             }

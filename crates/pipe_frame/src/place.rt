@@ -44,7 +44,12 @@ impl Place for Option<u32> {
 }
 
 /// The values at these places, and a filler where there is none.
-pub(crate) fn gather<T: Copy + Drop, P: Place>(alloc: Global, values: &[T], places: &[P], filler: T) -> Result<Vec<T>, AllocError>
+pub(crate) fn gather<T: Copy + Drop, P: Place>(
+    alloc: Global,
+    values: &[T],
+    places: &[P],
+    filler: T,
+) -> Result<Vec<T>, AllocError>
     ensures { IfOk result (λ made. made.items ≡ map (value_at values.now filler) (map P.place places.now)) }
 {
     let mut made = Vec::with_capacity(alloc, places.len())?;

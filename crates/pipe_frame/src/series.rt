@@ -325,7 +325,11 @@ impl Series {
     }
 
     /// The cells at these places, null where there is none, under the same name.
-    pub(crate) fn take_at<P: Place>(&self, alloc: Global, places: &[P]) -> Result<Series, AllocError>
+    pub(crate) fn take_at<P: Place>(
+        &self,
+        alloc: Global,
+        places: &[P],
+    ) -> Result<Series, AllocError>
         ensures { IfOk result (λ taken. taken ≡ record self.now { cells = map (cell_or_null self.now.cells) (map P.place places.now) }) }
     {
         Ok(Series {

@@ -28,7 +28,11 @@ pub struct StreamingVstacker {
 
 impl Drop for StreamingVstacker {
     fn drop(self) {
-        let StreamingVstacker { limit: _, held, held_size: _ } = self;
+        let StreamingVstacker {
+            limit: _,
+            held,
+            held_size: _,
+        } = self;
         drop(held);
     }
 }
@@ -85,7 +89,11 @@ impl StreamingVstacker {
             }
             None
         };
-        let second = if self.limit < self.held_size { self.give() } else { None };
+        let second = if self.limit < self.held_size {
+            self.give()
+        } else {
+            None
+        };
         Ok(Stacked { first, second })
     }
 
@@ -93,7 +101,11 @@ impl StreamingVstacker {
     pub fn finish(self) -> Option<DataFrame>
         ensures { result ≡ self.held }
     {
-        let StreamingVstacker { limit: _, held, held_size: _ } = self;
+        let StreamingVstacker {
+            limit: _,
+            held,
+            held_size: _,
+        } = self;
         held
     }
 

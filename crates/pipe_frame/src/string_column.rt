@@ -74,7 +74,11 @@ impl StringColumn {
     }
 
     /// The texts at these places.
-    pub(crate) fn take_at<P: Place>(&self, alloc: Global, places: &[P]) -> Result<StringColumn, AllocError>
+    pub(crate) fn take_at<P: Place>(
+        &self,
+        alloc: Global,
+        places: &[P],
+    ) -> Result<StringColumn, AllocError>
         ensures { IfOk result (λ taken. taken ≡ map (slot_in self.now) (map P.place places.now)) }
     {
         Ok(StringColumn {

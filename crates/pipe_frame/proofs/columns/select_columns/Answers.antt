@@ -15,5 +15,5 @@ loop-name-preserved c =
     let inside : c.in-Some.i < length c.args.columns.now = place_of-inside c.name-item.result c.args.fields.now c.args.columns.now c.in-Some.i found c.requires in
     record {
       made = selected-more c.args.columns.now c.args.fields.now c.args.names.now c.loop-name.name-index c.name-item.result c.in-Some.i c.index-columns-i.result c.in_ok-try_clone-2.field-0 c.loop-name.invariant.made c.loop-name-test.true c.name-item.is found inside c.index-columns-i.is c.in_ok-try_clone-2.ensures c.in_ok-push.ensures.ok;
-      known = known-more c.args.fields.now c.args.names.now c.loop-name.name-index c.name-item.result c.in-Some.i c.loop-name.invariant.known c.loop-name-test.true c.name-item.is found
+      known = known-more c.args.fields.now c.args.names.now c.loop-name.name-index c.name-item.result c.in-Some.i c.loop-name.invariant.known c.loop-name-test.true c.name-item.is found;
     }
