@@ -44,5 +44,7 @@ pub enum FunctionIR {
         value: Text,
     },
     /// All renamings at once.
-    Rename { pairs: List<RenamePair> },
+    Rename {
+        pairs: List<RenamePair>,
+    },
 }

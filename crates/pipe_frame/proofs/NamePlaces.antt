@@ -25,8 +25,8 @@ pub record IsDistinct (fields : List Field) : Type 0 where
 distinct-tail : (field : Field) (fields : List Field) → IsDistinct (field ∷ fields) → (has_name (names_of fields) field.name ≡ false) × IsDistinct fields
 distinct-tail field fields h =
     let split : (b : Bool) → has_name (names_of fields) field.name ≡ b → cond b (Some field.name) (first_repeated (names_of fields)) ≡ None → (has_name (names_of fields) field.name ≡ false) × IsDistinct fields = elim [
-      true ↦ λ e some. cc
-    | false ↦ λ e none. (e, record { none = none })
+      | true ↦ λ e some. cc
+      | false ↦ λ e none. (e, record { none = none })
     ] in split (has_name (names_of fields) field.name) refl h.none
 
 place_from-name : (fields : List Field) (n k : ℕ) (d : Field) → IsDistinct fields → k < length fields → place_from n (get_or fields k d).name fields ≡ Some (n + k)
@@ -37,16 +37,16 @@ place_from-name (field ∷ fields) n (suc k) d h lt =
     let there = has_name-at fields k d (omega arith) in
     let name = (get_or fields k d).name in
     let split : (b : Bool) → bytes_eq field.name name ≡ b → cond b (Some n) (place_from (n + 1) name fields) ≡ Some (n + suc k) = elim [
-      true ↦ λ e. (let same : field.name ≡ name = (bytes_decides field.name name).0 e in let again : has_name (names_of fields) field.name ≡ true = rw same there in let no = tail.0 in cc)
-    | false ↦ λ e. place_from-name fields (n + 1) k d tail.1 (omega arith) ∙ ap Some (let m : (n + 1) + k ≡ n + suc k = omega arith in m)
+      | true ↦ λ e. (let same : field.name ≡ name = (bytes_decides field.name name).0 e in let again : has_name (names_of fields) field.name ≡ true = rw same there in let no = tail.0 in cc)
+      | false ↦ λ e. place_from-name fields (n + 1) k d tail.1 (omega arith) ∙ ap Some (let m : (n + 1) + k ≡ n + suc k = omega arith in m)
     ] in split (bytes_eq field.name name) refl
 
 schema_distinct : (fields : List Field) → IsSchema fields → IsDistinct fields
 schema_distinct [] h = cc
 schema_distinct (field ∷ fields) h =
     let split : (o : Option (List ℕ)) → first_repeated (names_of (field ∷ fields)) ≡ o → option_map fault.DuplicateName o ≡ None → IsDistinct (field ∷ fields) = elim [
-      Some name ↦ λ e some. cc
-    | None ↦ λ e none. record { none = e }
+      | Some name ↦ λ e some. cc
+      | None ↦ λ e none. record { none = e }
     ] in split (first_repeated (names_of (field ∷ fields))) refl h
 
 -- a schema has a field

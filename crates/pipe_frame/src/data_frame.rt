@@ -91,7 +91,11 @@ impl DataFrame {
     {
         let _ = schema.len();
         let height = first_height(columns.as_slice());
-        DataFrame { schema, columns, height }
+        DataFrame {
+            schema,
+            columns,
+            height,
+        }
     }
 
     /// How many rows there are.

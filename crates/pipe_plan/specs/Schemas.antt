@@ -33,8 +33,15 @@ union_fields schema (input ∷ inputs) = schema input
 -- the settings of a join over the schemas of its inputs
 abbrev pub join_over : List Field → List Field → List Expr → List Expr → JoinOptions → Join
 join_over left right left_on right_on options = record {
-  how = options.how; join_nulls = options.join_nulls; coalesced = coalesces options.how options.coalesce; suffix = options.suffix;
-  left = left; right = right; left_on = left_on; right_on = right_on }
+  how = options.how;
+  join_nulls = options.join_nulls;
+  coalesced = coalesces options.how options.coalesce;
+  suffix = options.suffix;
+  left = left;
+  right = right;
+  left_on = left_on;
+  right_on = right_on;
+}
 
 -- the schema of a node over those of its inputs
 abbrev pub node_schema : List Table → (ℕ → List Field) → IR → List Field

@@ -7,23 +7,53 @@ use pipe_frame::{List, Text};
 #[derive(Debug, Drop)]
 pub enum IR {
     /// The rows of a frame of the arena, cut to some columns where they are named.
-    DataFrameScan { frame: u32, columns: Option<List<Text>> },
+    DataFrameScan {
+        frame: u32,
+        columns: Option<List<Text>>,
+    },
     /// The rows at which the predicate is true.
-    Filter { input: u32, predicate: Expr },
+    Filter {
+        input: u32,
+        predicate: Expr,
+    },
     /// The named columns, in this order.
-    SimpleProjection { input: u32, columns: List<Text> },
+    SimpleProjection {
+        input: u32,
+        columns: List<Text>,
+    },
     /// One column per expression.
-    Select { input: u32, exprs: List<NamedExpr> },
+    Select {
+        input: u32,
+        exprs: List<NamedExpr>,
+    },
     /// The input's columns, and one per expression, which replaces a column of its name in its place.
-    HStack { input: u32, exprs: List<NamedExpr> },
+    HStack {
+        input: u32,
+        exprs: List<NamedExpr>,
+    },
     /// A function over the rows.
-    MapFunction { input: u32, function: FunctionIR },
+    MapFunction {
+        input: u32,
+        function: FunctionIR,
+    },
     /// The rows of the inputs, one input after another.
-    Union { inputs: List<u32> },
+    Union {
+        inputs: List<u32>,
+    },
     /// The join of two inputs on keys.
-    Join { left: u32, right: u32, left_on: List<Expr>, right_on: List<Expr>, options: JoinOptions },
+    Join {
+        left: u32,
+        right: u32,
+        left_on: List<Expr>,
+        right_on: List<Expr>,
+        options: JoinOptions,
+    },
     /// The input's rows in order, and of these a slice.
-    Sort { input: u32, by: List<Text>, options: SortOptions },
+    Sort {
+        input: u32,
+        by: List<Text>,
+        options: SortOptions,
+    },
 }
 
 /// How two inputs are joined.
