@@ -1,13 +1,18 @@
--- The answer to a job.
-use Rattle.std.specs.Prelude.{ℕ, ◌≡◌, List, IsUtf8, true, false, is_some, Some}
+-- The answer to a job: the line of its plan's column names, and the lines of its plan's rows.
+use Rattle.std.specs.Prelude.{ℕ, ◌≡◌, List, ◌∷◌, map}
 use Rattle.serde_json.specs.Data.{Data}
-use Rattle.serde_json.specs.Find.{as_object}
-use Rattle.serde_json.specs.Read.{read}
+use Rattle.pipe_frame.specs.Rows.{SameLines}
+use Rattle.pipe_plan.specs.First.{IsFirst}
+use Rattle.pipe_plan.specs.PlanRows.{rows_of}
+use Rattle.pipe_plan.specs.Schemas.{schema_of}
+use Rattle.pipe_job.specs.JobSpelling.{Spells}
+use Rattle.pipe_job.specs.Line.{head_line, row_line, lines}
+use Rattle.pipe_job.specs.Reading.{Reading, ReadsJob}
+use Rattle.pipe_job.specs.declared.jobs.Job.{Job}
 
--- the value that the bytes are read as
-pub record Reading (bytes : List ℕ) (value : Data) : Type 0 where
-  pub utf8 : IsUtf8 bytes
-  pub reads : read bytes ≡ Some value
+-- a job that can be run so far
+abbrev pub IsFirstJob : Job → Type 0
+IsFirstJob job = IsFirst job.arena job.root job.config
 
 -- no value is read
 pub record NotJson (bytes : List ℕ) : Type 0 where
@@ -15,17 +20,21 @@ pub record NotJson (bytes : List ℕ) : Type 0 where
 
 -- the value that is read spells a first job
 pub record FirstJob (bytes : List ℕ) : Type 0 where
-  pub value : Data
-  pub reading : Reading bytes value
-  pub first : is_some (as_object value) ≡ true
+  pub job : Job
+  pub read : ReadsJob bytes job
+  pub first : IsFirstJob job
 
 -- the value that is read spells no first job
 pub record NotFirstJob (bytes : List ℕ) : Type 0 where
   pub value : Data
   pub reading : Reading bytes value
-  pub none : is_some (as_object value) ≡ false
+  pub none : (job : Job) → Spells value job → IsFirstJob job → ⊥
 
--- the text is the answer to the job
+-- the bytes spell a first job; the first line of the text is its plan's schema, and the other lines are those of the plan's rows, each as often
 pub record Answered (bytes text : List ℕ) : Type 0 where
-  pub job : FirstJob bytes
-  pub same : text ≡ bytes
+  pub job : Job
+  pub read : ReadsJob bytes job
+  pub first : IsFirstJob job
+  pub row_lines : List (List ℕ)
+  pub cut : lines text ≡ head_line (schema_of job.arena job.root) ∷ row_lines
+  pub same : SameLines row_lines (map row_line (rows_of job.arena job.root))

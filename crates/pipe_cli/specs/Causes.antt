@@ -13,3 +13,9 @@ Causes refusal.BadWords bytes = ⊥
 Causes refusal.ReadFault bytes = ⊥
 Causes refusal.TooLong bytes = ⊥
 Causes refusal.WriteFault bytes = ⊥
+
+-- what a refusal says of a job that was read: no first job, or want of memory
+abbrev pub RunCauses : Refusal → Type 0 → Type 0
+RunCauses refusal.Unbuilt first = first → ⊥
+RunCauses refusal.Memory first = Unit {0}
+RunCauses _ first = ⊥

@@ -9,12 +9,74 @@ use super::{
 use crate::{read_whole, run_program, write_whole};
 use pipe_frame::{Bytes, List, NeverStop, OpenGate, Text};
 use std::alloc::{AllocError, Global};
+use std::process::Abort;
 use std::test::Fail;
 use std::{env, fs, io, process};
 
-const JOB: &str = "{\"version\":1}";
+/// The frames of row a's job: keys 1, 1, 2 with x, and keys 1, 1, 3 with y.
+const LEFT: &str =
+    "{\"columns\":[{\"name\":\"k\",\"type\":\"Int64\",\"values\":[1,1,2]},{\"name\":\"x\",\"type\":\"Int64\",\"values\":[10,20,30]}]}";
 
-const ROWS: &str = "{\"version\":1}";
+const RIGHT: &str =
+    "{\"columns\":[{\"name\":\"k\",\"type\":\"Int64\",\"values\":[1,1,3]},{\"name\":\"y\",\"type\":\"Int64\",\"values\":[7,8,9]}]}";
+
+const SCANS: &str =
+    "{\"node\":\"DataFrameScan\",\"frame\":0,\"columns\":null},{\"node\":\"DataFrameScan\",\"frame\":1,\"columns\":null}";
+
+/// A job of two frames and an inner join of them on these keys.
+fn job_text(alloc: Global, job: &JobText) -> Result<String, AllocError> {
+    let JobText {
+        chunk_rows,
+        row_limit,
+        left,
+        right,
+        left_key,
+        right_key,
+    } = *job;
+    format!(in alloc;
+        "{{\"version\":1,\"workers\":3,\"chunk_rows\":{chunk_rows},\"row_limit\":{row_limit},\"frames\":[{left},{right}],\"plan\":[{SCANS},{{\"node\":\"Join\",\"left\":0,\"right\":1,\"left_on\":[{{\"col\":{left_key}}}],\"right_on\":[{{\"col\":{right_key}}}],\"how\":\"inner\",\"join_nulls\":false,\"coalesce\":\"JoinSpecific\",\"suffix\":\"_right\",\"rows_left\":[null,0],\"rows_right\":[null,0]}}],\"root\":2}}"
+    )
+}
+
+/// What differs from job to job.
+#[derive(Clone, Copy)]
+struct JobText<'a> {
+    chunk_rows: &'a str,
+    row_limit: &'a str,
+    left: &'a str,
+    right: &'a str,
+    left_key: &'a str,
+    right_key: &'a str,
+}
+
+/// Two keys match two keys, and the other keys none.
+const PAIRS: JobText<'static> = JobText {
+    chunk_rows: "2",
+    row_limit: "100",
+    left: LEFT,
+    right: RIGHT,
+    left_key: "\"k\"",
+    right_key: "\"k\"",
+};
+
+const HEAD: &str = "[\"k\",\"x\",\"y\"]\n";
+
+const ROWS: [&str; 4] = ["[1,10,7]\n", "[1,10,8]\n", "[1,20,7]\n", "[1,20,8]\n"];
+
+/// Whether a text is a head and then these lines, in some order; no line stands in another.
+fn has_lines(text: &[u8], head: &str, rows: &[&str]) -> bool {
+    let Ok(text) = str::from_utf8(text) else {
+        return false;
+    };
+    let mut len = head.len();
+    for row in rows {
+        if !text.contains(*row) {
+            return false;
+        }
+        len = len.saturating_add(row.len());
+    }
+    text.starts_with(head) && text.len() == len
+}
 
 fn numbers(alloc: Global, items: &[u64]) -> Result<List<u64>, AllocError> {
     let mut list = List::new(alloc);
@@ -69,31 +131,189 @@ fn run<R: JobReader>(
     Ok(Ended { status, out, notes })
 }
 
+/// Runs the bytes of a text, and checks the status, the lines and the note.
+fn check_run(
+    rt: &impl Abort,
+    alloc: Global,
+    text: &str,
+    status: u8,
+    head: &str,
+    rows: &[&str],
+    note: &str,
+) -> Result<(), Fail> {
+    let mut input = reader(alloc, text, 400, &[])?;
+    let ended = run(alloc, &["run"], &mut input, &[])?;
+    assert_eq!(rt; ended.status, status, "{text}");
+    assert!(rt; has_lines(ended.out.bytes(), head, rows), "{text}");
+    assert!(rt; ended.notes.bytes() == note.as_bytes(), "{text}");
+    Ok(())
+}
+
 #[test]
-fn ends_with_its_status(rt: HostRuntime) -> Result<(), Fail> {
+fn joins_two_frames(rt: HostRuntime) -> Result<(), Fail> {
     let alloc = rt.alloc();
-    let cases: [(&[&str], &str, u8, &str, &str); 8] = [
-        (&["run"], JOB, 0, ROWS, ""),
-        (&[], JOB, 1, "", "error 1: bad words\n"),
-        (&["run", "a", "b"], JOB, 1, "", "error 1: bad words\n"),
-        (&["Run"], JOB, 1, "", "error 1: bad words\n"),
-        (&["run"], "", 4, "", "error 4: not JSON\n"),
+    let no_left =
+        "{\"columns\":[{\"name\":\"k\",\"type\":\"Int64\",\"values\":[]},{\"name\":\"x\",\"type\":\"Int64\",\"values\":[]}]}";
+    let no_right =
+        "{\"columns\":[{\"name\":\"k\",\"type\":\"Int64\",\"values\":[]},{\"name\":\"y\",\"type\":\"Int64\",\"values\":[]}]}";
+    let nulls = "{\"columns\":[{\"name\":\"k\",\"type\":\"Int64\",\"values\":[null,1]}]}";
+    let ends =
+        "{\"columns\":[{\"name\":\"k\",\"type\":\"Int64\",\"values\":[-9223372036854775808,9223372036854775807]}]}";
+    let escaped =
+        "{\"columns\":[{\"name\":\"k\\n\\\"\",\"type\":\"Int64\",\"values\":[5]},{\"name\":\"x\",\"type\":\"Int64\",\"values\":[6]}]}";
+    let same =
+        "{\"columns\":[{\"name\":\"k\",\"type\":\"Int64\",\"values\":[5]},{\"name\":\"x\",\"type\":\"Int64\",\"values\":[7]}]}";
+    let cases: [(JobText, &str, &[&str]); 9] = [
+        (PAIRS, HEAD, &ROWS),
         (
-            &["run"],
-            "{\"version\":1,\"frames\":[",
-            4,
-            "",
-            "error 4: not JSON\n",
+            JobText {
+                chunk_rows: "1",
+                ..PAIRS
+            },
+            HEAD,
+            &ROWS,
         ),
-        (&["run"], "[]", 11, "", "error 11: unbuilt\n"),
-        (&["run"], "null", 11, "", "error 11: unbuilt\n"),
+        (
+            JobText {
+                chunk_rows: "4294967295",
+                ..PAIRS
+            },
+            HEAD,
+            &ROWS,
+        ),
+        (
+            JobText {
+                left: no_left,
+                ..PAIRS
+            },
+            HEAD,
+            &[],
+        ),
+        (
+            JobText {
+                right: no_right,
+                ..PAIRS
+            },
+            HEAD,
+            &[],
+        ),
+        (
+            JobText {
+                left: nulls,
+                right: nulls,
+                ..PAIRS
+            },
+            "[\"k\"]\n",
+            &["[1]\n"],
+        ),
+        (
+            JobText {
+                left: ends,
+                right: ends,
+                ..PAIRS
+            },
+            "[\"k\"]\n",
+            &["[-9223372036854775808]\n", "[9223372036854775807]\n"],
+        ),
+        (
+            JobText {
+                left: escaped,
+                right: escaped,
+                left_key: "\"k\\n\\\"\"",
+                right_key: "\"k\\n\\\"\"",
+                ..PAIRS
+            },
+            "[\"k\\n\\\"\",\"x\",\"x_right\"]\n",
+            &["[5,6,6]\n"],
+        ),
+        (
+            JobText {
+                left: same,
+                right: same,
+                ..PAIRS
+            },
+            "[\"k\",\"x\",\"x_right\"]\n",
+            &["[5,7,7]\n"],
+        ),
     ];
-    for (words, text, status, rows, note) in cases {
-        let mut input = reader(alloc, text, 4, &[])?;
+    for (job, head, rows) in cases {
+        let text = job_text(alloc, &job)?;
+        check_run(&rt, alloc, text.as_str(), 0, head, rows, "")?;
+    }
+    Ok(())
+}
+
+#[test]
+fn refuses_what_is_no_first_job(rt: HostRuntime) -> Result<(), Fail> {
+    let alloc = rt.alloc();
+    let texts =
+        "{\"columns\":[{\"name\":\"k\",\"type\":\"Int64\",\"values\":[1,1,2]},{\"name\":\"x\",\"type\":\"String\",\"values\":[\"p\",\"q\",\"r\"]}]}";
+    let floats =
+        "{\"columns\":[{\"name\":\"k\",\"type\":\"Int64\",\"values\":[1,1.0,2]},{\"name\":\"x\",\"type\":\"Int64\",\"values\":[10,20,30]}]}";
+    let uneven =
+        "{\"columns\":[{\"name\":\"k\",\"type\":\"Int64\",\"values\":[1,1]},{\"name\":\"x\",\"type\":\"Int64\",\"values\":[10,20,30]}]}";
+    for job in [
+        JobText {
+            left: texts,
+            ..PAIRS
+        },
+        JobText {
+            row_limit: "8",
+            ..PAIRS
+        },
+        JobText {
+            row_limit: "100,\"note\":1",
+            ..PAIRS
+        },
+        JobText {
+            left: floats,
+            ..PAIRS
+        },
+        JobText {
+            left: uneven,
+            ..PAIRS
+        },
+    ] {
+        let text = job_text(alloc, &job)?;
+        check_run(
+            &rt,
+            alloc,
+            text.as_str(),
+            11,
+            "",
+            &[],
+            "error 11: unbuilt\n",
+        )?;
+    }
+    for text in ["[]", "null", "{}"] {
+        check_run(&rt, alloc, text, 11, "", &[], "error 11: unbuilt\n")?;
+    }
+    check_run(&rt, alloc, "", 4, "", &[], "error 4: not JSON\n")
+}
+
+#[test]
+fn knows_its_words(rt: HostRuntime) -> Result<(), Fail> {
+    let alloc = rt.alloc();
+    let cases: [&[&str]; 3] = [&[], &["run", "a", "b"], &["Run"]];
+    for words in cases {
+        let mut input = reader(alloc, "{}", 400, &[])?;
         let ended = run(alloc, words, &mut input, &[])?;
-        assert_eq!(rt; ended.status, status, "{text}");
-        assert!(rt; ended.out.bytes() == rows.as_bytes(), "{text}");
-        assert!(rt; ended.notes.bytes() == note.as_bytes(), "{text}");
+        assert_eq!(rt; ended.status, 1);
+        assert!(rt; ended.out.bytes().is_empty());
+        assert!(rt; ended.notes.bytes() == b"error 1: bad words\n".as_slice());
+    }
+    Ok(())
+}
+
+#[test]
+fn needs_the_whole_text(rt: HostRuntime) -> Result<(), Fail> {
+    let alloc = rt.alloc();
+    let text = job_text(alloc, &PAIRS)?;
+    for len in 0..text.len() {
+        let mut input = reader(alloc, text.as_str().get(..len).unwrap_or("{}"), 4000, &[])?;
+        let ended = run(alloc, &["run"], &mut input, &[])?;
+        assert_eq!(rt; ended.status, 4, "the first {len} bytes");
+        assert!(rt; ended.out.bytes().is_empty());
     }
     Ok(())
 }
@@ -101,37 +321,28 @@ fn ends_with_its_status(rt: HostRuntime) -> Result<(), Fail> {
 #[test]
 fn fails_at_each_call(rt: HostRuntime) -> Result<(), Fail> {
     let alloc = rt.alloc();
-    // In pieces of 5 bytes the job takes four reads, and its rows three writes.
-    let reads: [(u64, u8, &str, &str); 5] = [
-        (1, 2, "", "error 2: read fault\n"),
-        (2, 2, "", "error 2: read fault\n"),
-        (3, 2, "", "error 2: read fault\n"),
-        (4, 2, "", "error 2: read fault\n"),
-        (5, 0, ROWS, ""),
-    ];
-    for (call, status, rows, note) in reads {
-        let mut input = reader(alloc, JOB, 5, &[call])?;
+    let text = job_text(alloc, &PAIRS)?;
+    // In pieces of 400 bytes the job takes three reads, the last of which finds the end.
+    for call in 1..4 {
+        let mut input = reader(alloc, text.as_str(), 400, &[call])?;
         let ended = run(alloc, &["run"], &mut input, &[])?;
-        assert_eq!(rt; ended.status, status, "read {call}");
-        assert!(rt; ended.out.bytes() == rows.as_bytes(), "read {call}");
-        assert!(rt; ended.notes.bytes() == note.as_bytes(), "read {call}");
+        assert_eq!(rt; ended.status, 2, "read {call}");
+        assert!(rt; ended.out.bytes().is_empty());
+        assert!(rt; ended.notes.bytes() == b"error 2: read fault\n".as_slice());
     }
-    for (call, front) in [(1, ""), (2, "{\"ver"), (3, "{\"version\"")] {
-        let mut input = reader(alloc, JOB, 5, &[])?;
+    // In pieces of 5 bytes the 50 bytes of the rows take ten writes.
+    for call in 1..11 {
+        let mut input = reader(alloc, text.as_str(), 400, &[])?;
         let ended = run(alloc, &["run"], &mut input, &[call])?;
         assert_eq!(rt; ended.status, 9, "write {call}");
-        assert!(rt; ended.out.bytes() == front.as_bytes(), "write {call}");
-        assert!(rt;
-            ended.notes.bytes() == b"error 9: write fault\n".as_slice(),
-            "write {call}"
-        );
+        assert!(rt; ended.notes.bytes() == b"error 9: write fault\n".as_slice());
     }
     // A call that fails takes nothing, so that a second run reads all.
-    let mut input = reader(alloc, JOB, 500, &[1])?;
+    let mut input = reader(alloc, text.as_str(), 4000, &[1])?;
     assert_eq!(rt; run(alloc, &["run"], &mut input, &[])?.status, 2);
     let ended = run(alloc, &["run"], &mut input, &[])?;
     assert_eq!(rt; ended.status, 0);
-    assert!(rt; ended.out.bytes() == ROWS.as_bytes());
+    assert!(rt; has_lines(ended.out.bytes(), HEAD, &ROWS));
     Ok(())
 }
 

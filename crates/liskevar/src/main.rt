@@ -1,0 +1,39 @@
+//! The program: it makes the real reader and writers, calls the top call, and ends with its status.
+#![tactic(auto)]
+
+use pipe_cli::{Refusal, StreamWriter, SystemReader, run_program};
+use pipe_frame::{NeverStop, OpenGate, Text};
+use std::alloc::{AllocError, Global};
+use std::process::ExitCode;
+use std::rt::Env;
+use std::{env, io};
+
+/// The words that the program was called with, after its own name.
+fn words_of(rt: &(impl Env + Alloc<A = Global>)) -> io::Result<Vec<Text>> {
+    let alloc = rt.alloc();
+    let mut words = Vec::new(alloc);
+    for word in env::args(rt)?.skip(1) {
+        words.push(Text::from_string(word))?;
+    }
+    Ok(words)
+}
+
+fn main(rt: HostRuntime) -> ExitCode {
+    let alloc = rt.alloc();
+    let Ok(words) = words_of(&rt) else {
+        return ExitCode::from(Refusal::BadWords.status());
+    };
+    let mut input = SystemReader::new(&rt, rt.stdin());
+    let mut out = StreamWriter::new(rt.stdout());
+    let mut notes = StreamWriter::new(rt.stderr());
+    let status = run_program(
+        alloc,
+        words.as_slice(),
+        &mut input,
+        &mut out,
+        &mut notes,
+        &mut NeverStop::new(),
+        &OpenGate,
+    );
+    ExitCode::from(status)
+}
