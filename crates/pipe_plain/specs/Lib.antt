@@ -1,0 +1,2 @@
+-- which comparison is meant
+pub mod Comparisons

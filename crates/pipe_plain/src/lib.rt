@@ -1,0 +1,9 @@
+//! The plain program: what a plan's nodes give, computed by loops over lists straight from the definitions.
+//!
+//! The one contract used by tests: each answer is the definition's. Nothing here is fast, and no engine stands on it.
+#![tactic(auto)]
+
+mod comparison;
+mod values;
+
+pub use values::value_at;
