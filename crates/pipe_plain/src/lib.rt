@@ -4,6 +4,8 @@
 #![tactic(auto)]
 
 mod comparison;
+mod projections;
+mod typing;
 mod values;
 
 pub use values::value_at;
