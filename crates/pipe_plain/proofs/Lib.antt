@@ -1,1 +1,2 @@
-
+pub mod KeyNames
+pub mod Walks

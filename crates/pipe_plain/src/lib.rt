@@ -4,8 +4,12 @@
 #![tactic(auto)]
 
 mod comparison;
+mod joins;
+mod plan;
 mod projections;
+mod sorting;
 mod typing;
 mod values;
 
+pub use plan::{plan_rows, plan_schemas, rows, schema};
 pub use values::value_at;
