@@ -1,3 +1,4 @@
 pub mod KeyNames
 pub mod Walks
 pub mod FrameRows
+pub mod Ranges

@@ -3,12 +3,16 @@
 //! The one contract used by tests: each answer is the definition's. Nothing here is fast, and no engine stands on it.
 #![tactic(auto)]
 
+mod bad_node;
 mod comparison;
 mod joins;
 mod plan;
 mod projections;
 mod sorting;
 mod typing;
+#[cfg(test)]
+mod tests;
+mod under;
 mod values;
 
 pub use plan::{plan_rows, plan_schemas, rows, schema};

@@ -1,0 +1,8 @@
+use Rattle.std.proofs.Common.{◌≡◌, false, drop}
+use Rattle.std.specs.List.{list_any}
+use Rattle.pipe_plain.specs.Tables.{table, at_place}
+use Rattle.pipe_plan.specs.Under.{reaches_at}
+use Rattle.pipe_plain.proofs.under.reaching.Given as goal
+
+abbrev pub invariant-loop-k : goal.invariant-loop-k
+invariant-loop-k l = l.marks.items ≡ table false (reaches_at l.nodes l.n) l.k
