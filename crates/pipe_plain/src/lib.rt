@@ -5,7 +5,9 @@
 
 mod bad_node;
 mod comparison;
+mod faults;
 mod joins;
+mod names;
 mod plan;
 mod projections;
 mod sorting;
@@ -15,5 +17,6 @@ mod tests;
 mod under;
 mod values;
 
+pub use faults::plan_fault;
 pub use plan::{plan_rows, plan_schemas, rows, schema};
 pub use values::value_at;
