@@ -207,7 +207,7 @@ fn push_column_name(names: &mut List<Text>, expr: &Expr) -> Result<(), AllocErro
 }
 
 /// The names of the plain columns among some expressions.
-#[tactic(auto, using(crate::proofs::KeyNames::column_rules))]
+
 fn plain_names(alloc: Global, exprs: &[Expr]) -> Result<List<Text>, AllocError>
     ensures { IfOk result (λ names. names ≡ column_names exprs.now) }
 {
@@ -368,13 +368,15 @@ fn fault_under(alloc: Global, arena: &Arena, root: u32, schemas: &[List<Field>],
 }
 
 /// The fault of the least node under the root that has one.
+#[tactic(auto, using(crate::proofs::Ranges::range_rules))]
 fn least_fault(alloc: Global, arena: &Arena, root: u32) -> Result<Option<PipeError>, AllocError>
     requires { length arena.now.nodes < 2 ^ 32 }
     ensures { IfOk result (λ fault. fault ≡ first_fault arena.now root (range_with_len 0 (length arena.now.nodes))) }
 {
     let mut schemas = List::new(alloc);
     let frames = arena.frames.as_slice();
-    for (n, node) in arena.nodes.as_slice().iter().enumerate() {
+    let nodes = arena.nodes.as_slice();
+    for (n, node) in nodes.iter().enumerate() {
         match fault_under(alloc, arena, root, schemas.as_slice(), n as u32, node)? {
             Some(fault) => return Ok(Some(fault)),
             None => {}
