@@ -12,3 +12,5 @@ pub mod PlanRows
 pub mod Faults
 -- the jobs that can be run so far
 pub mod First
+-- which side of a join is built
+pub mod Swap

@@ -5,8 +5,10 @@ mod arena;
 mod config;
 mod error;
 mod ir;
+mod swap;
 
 pub use arena::Arena;
 pub use config::PipeConfig;
 pub use error::PipeError;
 pub use ir::{IR, JoinOptions, PlanSlice, RowsHint, SortOptions};
+pub use swap::swap_join_order;
