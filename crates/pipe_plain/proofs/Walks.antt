@@ -1,5 +1,5 @@
 -- A table of the first nodes, made one node at a time, is the walk.
-use Rattle.std.proofs.Common.{◌≡◌, ℕ, zero, suc, ◌+◌, ◌<◌, ◌≤◌, Bool, true, false, cond, eqb, get_or, length, List, [], ◌∷◌, ◌++◌, map, refl, ap, sym, ◌∙◌, arith, ◌⊎◌, inl, inr}
+use Rattle.std.proofs.Common.{◌≡◌, ℕ, zero, suc, ◌+◌, ◌<◌, ◌≤◌, Bool, true, false, eqb, get_or, List, [], ◌∷◌, ◌++◌, map, refl, ap, sym, ◌∙◌, arith, ◌⊎◌, inl, inr}
 use Rattle.std.specs.Prelude.{◌||◌}
 use Rattle.std.specs.List.{range_with_len, list_any}
 use Rattle.std.proofs.lemmas.Bool.{cases_lt}
@@ -30,10 +30,10 @@ walk-past none f (suc k) n le = let e = different n k (λ same. omega arith) in 
 pub table-tells : {X : Type 0} (none : X) (f : (ℕ → X) → ℕ → X) (k n : ℕ) → get_or (table none f k) n none ≡ walk none f k n
 table-tells none f k n =
     let split : (n < k) ⊎ (k ≤ n) → get_or (table none f k) n none ≡ walk none f k n =
-        elim [
-          inl lt ↦ get_or-map-range_with_len (walk none f k) 0 k n n none lt (omega arith)
-        | inr le ↦ get_or_past (table none f k) n none (let e = length-map-range_with_len (walk none f k) 0 k in omega arith) ∙ sym (walk-past none f k n le)
-        ]
+    elim [
+      | inl lt ↦ get_or-map-range_with_len (walk none f k) 0 k n n none lt (omega arith)
+      | inr le ↦ get_or_past (table none f k) n none (let e = length-map-range_with_len (walk none f k) 0 k in omega arith) ∙ sym (walk-past none f k n le)
+    ]
     in split (cases_lt n k)
 
 pub table-walks : {X : Type 0} (none : X) (f : (ℕ → X) → ℕ → X) (k : ℕ) → at_place none (table none f k) ≡ walk none f k
@@ -63,7 +63,7 @@ rows-more arena k schemas tables x made s t n m =
     let fields : at_place [] schemas ≡ walk [] (schema_at arena) k = ap (at_place []) s ∙ table-walks [] (schema_at arena) k in
     let below : at_place [] tables ≡ walk [] (rows_at arena) k = ap (at_place []) t ∙ table-walks [] (rows_at arena) k in
     let here : made ≡ rows_at arena (walk [] (rows_at arena) k) k =
-        m ∙ ap (λ b. node_rows arena.frames b (at_place [] tables) x) fields ∙ ap (λ b. node_rows arena.frames (walk [] (schema_at arena) k) b x) below ∙ ap (node_rows arena.frames (walk [] (schema_at arena) k) (walk [] (rows_at arena) k)) n in
+    m ∙ ap (λ b. node_rows arena.frames b (at_place [] tables) x) fields ∙ ap (λ b. node_rows arena.frames (walk [] (schema_at arena) k) b x) below ∙ ap (node_rows arena.frames (walk [] (schema_at arena) k) (walk [] (rows_at arena) k)) n in
     rw (here, t) (sym (table-more [] (rows_at arena) k))
 
 pub under-more : (nodes : List IR) (n k : ℕ) (marks : List Bool) (x : IR) (made : Bool) → marks ≡ table false (reaches_at nodes n) k → x ≡ node_at nodes k → made ≡ (eqb k n || list_any (at_place false marks) (inputs_of x)) → marks ++ made ∷ [] ≡ table false (reaches_at nodes n) (k + 1)

@@ -1,5 +1,5 @@
 -- Tables: what stands at the numbers of the nodes, as lists.
-use Rattle.std.specs.Prelude.{ℕ, List, slice_index_or, map, length}
+use Rattle.std.specs.Prelude.{ℕ, List, slice_index_or, map}
 use Rattle.std.specs.List.{range_with_len}
 use Rattle.pipe_plan.specs.Walk.{walk}
 

@@ -59,7 +59,13 @@ fn has_input(alloc: Global, nodes: &[IR], m: u32, input: u32) -> Result<bool, Al
 }
 
 /// Whether a node under the root has an input.
-fn is_reader(alloc: Global, arena: &Arena, root: u32, m: u32, input: u32) -> Result<bool, AllocError>
+fn is_reader(
+    alloc: Global,
+    arena: &Arena,
+    root: u32,
+    m: u32,
+    input: u32,
+) -> Result<bool, AllocError>
     ensures { IfOk result (λ holds. holds ≡ (is_under arena.now.nodes root m && list_any (λ i. i == input) (inputs_of (node_at arena.now.nodes m)))) }
 {
     let nodes = arena.nodes.as_slice();
@@ -82,7 +88,13 @@ fn is_read(alloc: Global, arena: &Arena, root: u32, n: u32, input: u32) -> Resul
 }
 
 /// Whether one of some inputs is read by a smaller node too.
-fn is_any_read(alloc: Global, arena: &Arena, root: u32, n: u32, numbers: &[u32]) -> Result<bool, AllocError>
+fn is_any_read(
+    alloc: Global,
+    arena: &Arena,
+    root: u32,
+    n: u32,
+    numbers: &[u32],
+) -> Result<bool, AllocError>
     ensures { IfOk result (λ holds. holds ≡ list_any (is_read_below arena.now root n) numbers.now) }
 {
     for input in numbers {
@@ -118,7 +130,8 @@ fn is_void_node(frames: &[DataFrame], node: &IR) -> bool
     ensures { result ≡ is_void frames.now node.now }
 {
     match node {
-        IR::DataFrameScan { frame, columns } => frames.len() <= *frame as usize || is_nothing_named(columns),
+        IR::DataFrameScan { frame, columns } => frames.len() <= *frame as usize
+            || is_nothing_named(columns),
         IR::SimpleProjection { input: _, columns } => is_none_there(columns.as_slice()),
         IR::Select { input: _, exprs } => is_none_there(exprs.as_slice()),
         IR::Union { inputs } => is_none_there(inputs.as_slice()),
@@ -132,13 +145,24 @@ fn is_void_function(function: &FunctionIR) -> bool
     ensures { result ≡ is_void [] (IR.MapFunction 0 function.now) }
 {
     match function {
-        FunctionIR::Unpivot { on, index: _, variable: _, value: _ } => is_none_there(on.as_slice()),
+        FunctionIR::Unpivot {
+            on,
+            index: _,
+            variable: _,
+            value: _,
+        } => is_none_there(on.as_slice()),
         FunctionIR::Rename { pairs: _ } => false,
     }
 }
 
 /// Whether a node is a bad one.
-pub(crate) fn is_bad(alloc: Global, arena: &Arena, root: u32, n: u32, node: &IR) -> Result<bool, AllocError>
+pub(crate) fn is_bad(
+    alloc: Global,
+    arena: &Arena,
+    root: u32,
+    n: u32,
+    node: &IR,
+) -> Result<bool, AllocError>
     requires { node.now ≡ node_at arena.now.nodes n }
     ensures { IfOk result (λ holds. holds ≡ is_bad_node arena.now root n) }
 {

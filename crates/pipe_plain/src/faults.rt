@@ -74,7 +74,8 @@ fn do_keys_differ(left: &[Field], right: &[Field], left_on: &[Expr], right_on: &
 {
     match (left_on.split_first(), right_on.split_first()) {
         (Some((l, left_on)), Some((r, right_on))) => {
-            !are_same_types(expr_type(l, left), expr_type(r, right)) || do_keys_differ(left, right, left_on, right_on)
+            !are_same_types(expr_type(l, left), expr_type(r, right))
+                || do_keys_differ(left, right, left_on, right_on)
         }
         _ => false,
     }
@@ -86,7 +87,9 @@ fn is_same_schema(a: &[Field], b: &[Field]) -> bool
 {
     match (a.split_first(), b.split_first()) {
         (None, None) => true,
-        (Some((x, a)), Some((y, b))) => x.name.is_same(&y.name) && is_same_type(x.dtype, y.dtype) && is_same_schema(a, b),
+        (Some((x, a)), Some((y, b))) => x.name.is_same(&y.name)
+            && is_same_type(x.dtype, y.dtype)
+            && is_same_schema(a, b),
         _ => false,
     }
 }
@@ -140,7 +143,12 @@ fn is_function_mistyped(schemas: &[List<Field>], input: u32, function: &Function
     ensures { result ≡ is_mistyped (at_place [] schemas.now) (IR.MapFunction input function.now) }
 {
     match function {
-        FunctionIR::Unpivot { on, index: _, variable: _, value: _ } => do_columns_differ(fields_at(schemas, input), on.as_slice()),
+        FunctionIR::Unpivot {
+            on,
+            index: _,
+            variable: _,
+            value: _,
+        } => do_columns_differ(fields_at(schemas, input), on.as_slice()),
         FunctionIR::Rename { pairs: _ } => false,
     }
 }
@@ -149,7 +157,9 @@ fn is_function_mistyped(schemas: &[List<Field>], input: u32, function: &Function
 fn are_keys_mistyped(left: &[Field], right: &[Field], left_on: &[Expr], right_on: &[Expr]) -> bool
     ensures { result ≡ (list_any (has_no_type left.now) left_on.now || list_any (has_no_type right.now) right_on.now || keys_differ left.now right.now left_on.now right_on.now) }
 {
-    is_any_untyped(left, left_on) || is_any_untyped(right, right_on) || do_keys_differ(left, right, left_on, right_on)
+    is_any_untyped(left, left_on)
+        || is_any_untyped(right, right_on)
+        || do_keys_differ(left, right, left_on, right_on)
 }
 
 /// Whether a node is mistyped.
@@ -157,13 +167,33 @@ fn is_node_mistyped(schemas: &[List<Field>], node: &IR) -> bool
     ensures { result ≡ is_mistyped (at_place [] schemas.now) node.now }
 {
     match node {
-        IR::Filter { input, predicate } => !are_same_types(expr_type(predicate, fields_at(schemas, *input)), Some(DataType::Boolean)),
-        IR::Select { input, exprs } => is_any_named_untyped(fields_at(schemas, *input), exprs.as_slice()),
-        IR::HStack { input, exprs } => is_any_named_untyped(fields_at(schemas, *input), exprs.as_slice()),
+        IR::Filter { input, predicate } => !are_same_types(
+            expr_type(predicate, fields_at(schemas, *input)),
+            Some(DataType::Boolean),
+        ),
+        IR::Select { input, exprs } => is_any_named_untyped(
+            fields_at(schemas, *input),
+            exprs.as_slice(),
+        ),
+        IR::HStack { input, exprs } => is_any_named_untyped(
+            fields_at(schemas, *input),
+            exprs.as_slice(),
+        ),
         IR::MapFunction { input, function } => is_function_mistyped(schemas, *input, function),
         IR::Union { inputs } => do_inputs_differ(schemas, inputs.as_slice()),
-        IR::Join { left, right, left_on, right_on, options: _ } => {
-            are_keys_mistyped(fields_at(schemas, *left), fields_at(schemas, *right), left_on.as_slice(), right_on.as_slice())
+        IR::Join {
+            left,
+            right,
+            left_on,
+            right_on,
+            options: _,
+        } => {
+            are_keys_mistyped(
+                fields_at(schemas, *left),
+                fields_at(schemas, *right),
+                left_on.as_slice(),
+                right_on.as_slice(),
+            )
         }
         _ => false,
     }
@@ -259,13 +289,24 @@ fn are_keys_miscounted(how: JoinType, left_on: &[Expr], right_on: &[Expr]) -> bo
 }
 
 /// Whether a join is a bad one.
-fn is_join_bad(alloc: Global, left: u32, right: u32, left_on: &List<Expr>, right_on: &List<Expr>, options: &JoinOptions) -> Result<bool, AllocError>
+fn is_join_bad(
+    alloc: Global,
+    left: u32,
+    right: u32,
+    left_on: &List<Expr>,
+    right_on: &List<Expr>,
+    options: &JoinOptions,
+) -> Result<bool, AllocError>
     ensures { IfOk result (λ holds. holds ≡ is_bad_join (IR.Join left right left_on.now right_on.now options.now)) }
 {
     let are_left_plain = are_keys_plain(alloc, left_on.as_slice())?;
     let are_right_plain = are_keys_plain(alloc, right_on.as_slice())?;
     let are_miscounted = are_keys_miscounted(options.how, left_on.as_slice(), right_on.as_slice());
-    Ok(are_miscounted || (is_coalesced(options.how, options.coalesce) && !(are_left_plain && are_right_plain)))
+    Ok(
+        are_miscounted
+            || (is_coalesced(options.how, options.coalesce)
+                && !(are_left_plain && are_right_plain)),
+    )
 }
 
 /// Whether there is one flag, or one per key.
@@ -293,7 +334,13 @@ fn is_sort_bad(input: u32, by: &List<Text>, options: &SortOptions) -> Result<boo
     let is_repeated = is_name_repeated(names)?;
     let are_counted = are_flags_counted(names.len(), options.descending.as_slice());
     let are_nulls_counted = are_flags_counted(names.len(), options.nulls_last.as_slice());
-    Ok(is_none_there(names) || is_repeated || !are_counted || !are_nulls_counted || is_offset_negative(&options.slice))
+    Ok(
+        is_none_there(names)
+            || is_repeated
+            || !are_counted
+            || !are_nulls_counted
+            || is_offset_negative(&options.slice),
+    )
 }
 
 /// Whether a node is a bad join.
@@ -301,7 +348,13 @@ fn is_node_bad_join(alloc: Global, node: &IR) -> Result<bool, AllocError>
     ensures { IfOk result (λ holds. holds ≡ is_bad_join node.now) }
 {
     match node {
-        IR::Join { left, right, left_on, right_on, options } => is_join_bad(alloc, *left, *right, left_on, right_on, options),
+        IR::Join {
+            left,
+            right,
+            left_on,
+            right_on,
+            options,
+        } => is_join_bad(alloc, *left, *right, left_on, right_on, options),
         _ => Ok(false),
     }
 }
@@ -319,7 +372,12 @@ fn is_node_bad_sort(node: &IR) -> Result<bool, AllocError>
 // ---- the fault of a node, and of a plan
 
 /// The least error at a node that isn't a bad one by its names.
-fn later_fault(alloc: Global, schemas: &[List<Field>], n: u32, node: &IR) -> Result<Option<PipeError>, AllocError>
+fn later_fault(
+    alloc: Global,
+    schemas: &[List<Field>],
+    n: u32,
+    node: &IR,
+) -> Result<Option<PipeError>, AllocError>
     ensures { IfOk result (λ fault. fault ≡ or_else (told (is_mistyped (at_place [] schemas.now) node.now) (PipeError.TypeMismatch n)) (or_else (told (is_bad_join node.now) (PipeError.BadJoin n)) (told (is_bad_sort node.now) (PipeError.BadSort n)))) }
 {
     let is_bad_join = is_node_bad_join(alloc, node)?;
@@ -336,7 +394,14 @@ fn later_fault(alloc: Global, schemas: &[List<Field>], n: u32, node: &IR) -> Res
 }
 
 /// The least error at a node.
-fn node_fault(alloc: Global, arena: &Arena, root: u32, schemas: &[List<Field>], n: u32, node: &IR) -> Result<Option<PipeError>, AllocError>
+fn node_fault(
+    alloc: Global,
+    arena: &Arena,
+    root: u32,
+    schemas: &[List<Field>],
+    n: u32,
+    node: &IR,
+) -> Result<Option<PipeError>, AllocError>
     requires there { node.now ≡ node_at arena.now.nodes n }
     requires below { at_place [] schemas.now ≡ schemas_to arena.now n }
     ensures { IfOk result (λ fault. fault ≡ fault_at arena.now root n) }
@@ -355,7 +420,14 @@ fn node_fault(alloc: Global, arena: &Arena, root: u32, schemas: &[List<Field>], 
 }
 
 /// The fault of a node, where it stands under the root.
-fn fault_under(alloc: Global, arena: &Arena, root: u32, schemas: &[List<Field>], n: u32, node: &IR) -> Result<Option<PipeError>, AllocError>
+fn fault_under(
+    alloc: Global,
+    arena: &Arena,
+    root: u32,
+    schemas: &[List<Field>],
+    n: u32,
+    node: &IR,
+) -> Result<Option<PipeError>, AllocError>
     requires there { node.now ≡ node_at arena.now.nodes n }
     requires below { at_place [] schemas.now ≡ schemas_to arena.now n }
     ensures { IfOk result (λ fault. fault ≡ (if is_under arena.now.nodes root n then fault_at arena.now root n else None)) }

@@ -11,9 +11,9 @@ mod names;
 mod plan;
 mod projections;
 mod sorting;
-mod typing;
 #[cfg(test)]
 mod tests;
+mod typing;
 mod under;
 mod values;
 

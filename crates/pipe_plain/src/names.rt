@@ -110,7 +110,12 @@ fn names_of_function(alloc: Global, function: &FunctionIR) -> Result<List<Text>,
     ensures { IfOk result (λ names. names ≡ function_names function.now) }
 {
     match function {
-        FunctionIR::Unpivot { on, index, variable: _, value: _ } => {
+        FunctionIR::Unpivot {
+            on,
+            index,
+            variable: _,
+            value: _,
+        } => {
             let mut names = on.try_clone()?;
             push_names(&mut names, index.as_slice())?;
             Ok(names)
@@ -132,7 +137,10 @@ fn first_missing(schema: &[Field], names: &[Text]) -> Result<Option<Text>, Alloc
 }
 
 /// The first name of a scan that its frame lacks.
-fn missing_scanned(schema: &[Field], columns: &Option<List<Text>>) -> Result<Option<Text>, AllocError>
+fn missing_scanned(
+    schema: &[Field],
+    columns: &Option<List<Text>>,
+) -> Result<Option<Text>, AllocError>
     ensures { IfOk result (λ name. name ≡ unknown_scanned schema.now columns.now) }
 {
     match columns {
@@ -142,7 +150,13 @@ fn missing_scanned(schema: &[Field], columns: &Option<List<Text>>) -> Result<Opt
 }
 
 /// The first name in the keys of a join that its side lacks, left keys first.
-fn missing_keys(alloc: Global, left: &[Field], right: &[Field], left_on: &[Expr], right_on: &[Expr]) -> Result<Option<Text>, AllocError>
+fn missing_keys(
+    alloc: Global,
+    left: &[Field],
+    right: &[Field],
+    left_on: &[Expr],
+    right_on: &[Expr],
+) -> Result<Option<Text>, AllocError>
     ensures { IfOk result (λ name. name ≡ or_else (unknown_among left.now (flat_map columns_in left_on.now)) (unknown_among right.now (flat_map columns_in right_on.now))) }
 {
     let names = columns_of_exprs(alloc, left_on)?;
@@ -156,7 +170,11 @@ fn missing_keys(alloc: Global, left: &[Field], right: &[Field], left_on: &[Expr]
 }
 
 /// The first name of some expressions that a schema lacks.
-fn missing_named(alloc: Global, schema: &[Field], exprs: &[NamedExpr]) -> Result<Option<Text>, AllocError>
+fn missing_named(
+    alloc: Global,
+    schema: &[Field],
+    exprs: &[NamedExpr],
+) -> Result<Option<Text>, AllocError>
     ensures { IfOk result (λ name. name ≡ unknown_among schema.now (flat_map expr_columns exprs.now)) }
 {
     let names = columns_of_named(alloc, exprs)?;
@@ -172,7 +190,11 @@ fn missing_in_expr(alloc: Global, schema: &[Field], expr: &Expr) -> Result<Optio
 }
 
 /// The first name of a function that a schema lacks.
-fn missing_in_function(alloc: Global, schema: &[Field], function: &FunctionIR) -> Result<Option<Text>, AllocError>
+fn missing_in_function(
+    alloc: Global,
+    schema: &[Field],
+    function: &FunctionIR,
+) -> Result<Option<Text>, AllocError>
     ensures { IfOk result (λ name. name ≡ unknown_among schema.now (function_names function.now)) }
 {
     let names = names_of_function(alloc, function)?;
@@ -180,21 +202,64 @@ fn missing_in_function(alloc: Global, schema: &[Field], function: &FunctionIR) -
 }
 
 /// The first name read in a node, in the order of its members, that its input lacks.
-pub(crate) fn unknown(alloc: Global, frames: &[DataFrame], schemas: &[List<Field>], node: &IR) -> Result<Option<Text>, AllocError>
+pub(crate) fn unknown(
+    alloc: Global,
+    frames: &[DataFrame],
+    schemas: &[List<Field>],
+    node: &IR,
+) -> Result<Option<Text>, AllocError>
     ensures { IfOk result (λ name. name ≡ unknown_in frames.now (at_place [] schemas.now) node.now) }
 {
     match node {
-        IR::DataFrameScan { frame, columns } => missing_scanned(frame_fields(frames, *frame), columns),
-        IR::Filter { input, predicate } => missing_in_expr(alloc, fields_at(schemas, *input), predicate),
-        IR::SimpleProjection { input, columns } => first_missing(fields_at(schemas, *input), columns.as_slice()),
-        IR::Select { input, exprs } => missing_named(alloc, fields_at(schemas, *input), exprs.as_slice()),
-        IR::HStack { input, exprs } => missing_named(alloc, fields_at(schemas, *input), exprs.as_slice()),
-        IR::MapFunction { input, function } => missing_in_function(alloc, fields_at(schemas, *input), function),
+        IR::DataFrameScan { frame, columns } => missing_scanned(
+            frame_fields(frames, *frame),
+            columns,
+        ),
+        IR::Filter { input, predicate } => missing_in_expr(
+            alloc,
+            fields_at(schemas, *input),
+            predicate,
+        ),
+        IR::SimpleProjection { input, columns } => first_missing(
+            fields_at(schemas, *input),
+            columns.as_slice(),
+        ),
+        IR::Select { input, exprs } => missing_named(
+            alloc,
+            fields_at(schemas, *input),
+            exprs.as_slice(),
+        ),
+        IR::HStack { input, exprs } => missing_named(
+            alloc,
+            fields_at(schemas, *input),
+            exprs.as_slice(),
+        ),
+        IR::MapFunction { input, function } => missing_in_function(
+            alloc,
+            fields_at(schemas, *input),
+            function,
+        ),
         IR::Union { inputs: _ } => Ok(None),
-        IR::Join { left, right, left_on, right_on, options: _ } => {
-            missing_keys(alloc, fields_at(schemas, *left), fields_at(schemas, *right), left_on.as_slice(), right_on.as_slice())
+        IR::Join {
+            left,
+            right,
+            left_on,
+            right_on,
+            options: _,
+        } => {
+            missing_keys(
+                alloc,
+                fields_at(schemas, *left),
+                fields_at(schemas, *right),
+                left_on.as_slice(),
+                right_on.as_slice(),
+            )
         }
-        IR::Sort { input, by, options: _ } => first_missing(fields_at(schemas, *input), by.as_slice()),
+        IR::Sort {
+            input,
+            by,
+            options: _,
+        } => first_missing(fields_at(schemas, *input), by.as_slice()),
     }
 }
 
@@ -255,7 +320,12 @@ fn function_once(alloc: Global, function: &FunctionIR) -> Result<List<Text>, All
     ensures { IfOk result (λ names. names ≡ once_names (IR.MapFunction 0 function.now)) }
 {
     match function {
-        FunctionIR::Unpivot { on, index: _, variable: _, value: _ } => Ok(on.try_clone()?),
+        FunctionIR::Unpivot {
+            on,
+            index: _,
+            variable: _,
+            value: _,
+        } => Ok(on.try_clone()?),
         FunctionIR::Rename { pairs } => Ok(renamed_names(alloc, pairs.as_slice())?),
     }
 }
@@ -272,7 +342,12 @@ fn once(alloc: Global, node: &IR) -> Result<List<Text>, AllocError>
 }
 
 /// The first output name that stands twice, else such a name among those that the node may name but once.
-pub(crate) fn duplicate(alloc: Global, frames: &[DataFrame], schemas: &[List<Field>], node: &IR) -> Result<Option<Text>, AllocError>
+pub(crate) fn duplicate(
+    alloc: Global,
+    frames: &[DataFrame],
+    schemas: &[List<Field>],
+    node: &IR,
+) -> Result<Option<Text>, AllocError>
     ensures { IfOk result (λ name. name ≡ duplicate_in frames.now (at_place [] schemas.now) node.now) }
 {
     let fields = fields_of_node(alloc, frames, schemas, node)?;

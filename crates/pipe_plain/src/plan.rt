@@ -9,7 +9,10 @@ ghost use Rattle.pipe_plan.specs.PlanRows.{rows_of as rows_of_plan};
 ghost use Rattle.pipe_plain.specs.Tables.{table, at_place};
 
 use crate::joins::{Sides, copied_fields, joined_fields, joined_rows};
-use crate::projections::{fields_of_function, filtered, named_fields, named_row, push_function_rows, selected_fields, selected_row, stacked_fields, stacked_row};
+use crate::projections::{
+    fields_of_function, filtered, named_fields, named_row, push_function_rows, selected_fields,
+    selected_row, stacked_fields, stacked_row,
+};
 use crate::sorting::{copied_rows, kept_slice, sorted_rows};
 use pipe_expr::{FunctionIR, NamedExpr};
 use pipe_frame::{DataFrame, Field, List, Row, Text, TryClone};
@@ -72,7 +75,11 @@ fn frame_rows(alloc: Global, frames: &[DataFrame], frame: u32) -> Result<List<Ro
 // ---- schemas
 
 /// The fields of a scan.
-fn scanned_fields(alloc: Global, schema: &[Field], columns: &Option<List<Text>>) -> Result<List<Field>, AllocError>
+fn scanned_fields(
+    alloc: Global,
+    schema: &[Field],
+    columns: &Option<List<Text>>,
+) -> Result<List<Field>, AllocError>
     ensures { IfOk result (λ fields. fields ≡ scan_fields schema.now columns.now) }
 {
     match columns {
@@ -82,7 +89,11 @@ fn scanned_fields(alloc: Global, schema: &[Field], columns: &Option<List<Text>>)
 }
 
 /// The fields of the first of some nodes.
-fn first_fields(alloc: Global, schemas: &[List<Field>], inputs: &[u32]) -> Result<List<Field>, AllocError>
+fn first_fields(
+    alloc: Global,
+    schemas: &[List<Field>],
+    inputs: &[u32],
+) -> Result<List<Field>, AllocError>
     ensures { IfOk result (λ fields. fields ≡ union_fields (at_place [] schemas.now) inputs.now) }
 {
     match inputs.first() {
@@ -92,18 +103,52 @@ fn first_fields(alloc: Global, schemas: &[List<Field>], inputs: &[u32]) -> Resul
 }
 
 /// The schema of a node over those of the nodes below it.
-pub(crate) fn fields_of_node(alloc: Global, frames: &[DataFrame], schemas: &[List<Field>], node: &IR) -> Result<List<Field>, AllocError>
+pub(crate) fn fields_of_node(
+    alloc: Global,
+    frames: &[DataFrame],
+    schemas: &[List<Field>],
+    node: &IR,
+) -> Result<List<Field>, AllocError>
     ensures { IfOk result (λ fields. fields ≡ node_schema frames.now (at_place [] schemas.now) node.now) }
 {
     match node {
-        IR::DataFrameScan { frame, columns } => scanned_fields(alloc, frame_fields(frames, *frame), columns),
-        IR::Filter { input, predicate: _ } => copied_fields(alloc, fields_at(schemas, *input)),
-        IR::SimpleProjection { input, columns } => named_fields(alloc, fields_at(schemas, *input), columns.as_slice()),
-        IR::Select { input, exprs } => selected_fields(alloc, fields_at(schemas, *input), exprs.as_slice()),
-        IR::HStack { input, exprs } => stacked_fields(alloc, fields_at(schemas, *input), exprs.as_slice()),
-        IR::MapFunction { input, function } => fields_of_function(alloc, function, fields_at(schemas, *input)),
+        IR::DataFrameScan { frame, columns } => scanned_fields(
+            alloc,
+            frame_fields(frames, *frame),
+            columns,
+        ),
+        IR::Filter {
+            input,
+            predicate: _,
+        } => copied_fields(alloc, fields_at(schemas, *input)),
+        IR::SimpleProjection { input, columns } => named_fields(
+            alloc,
+            fields_at(schemas, *input),
+            columns.as_slice(),
+        ),
+        IR::Select { input, exprs } => selected_fields(
+            alloc,
+            fields_at(schemas, *input),
+            exprs.as_slice(),
+        ),
+        IR::HStack { input, exprs } => stacked_fields(
+            alloc,
+            fields_at(schemas, *input),
+            exprs.as_slice(),
+        ),
+        IR::MapFunction { input, function } => fields_of_function(
+            alloc,
+            function,
+            fields_at(schemas, *input),
+        ),
         IR::Union { inputs } => first_fields(alloc, schemas, inputs.as_slice()),
-        IR::Join { left, right, left_on, right_on, options } => {
+        IR::Join {
+            left,
+            right,
+            left_on,
+            right_on,
+            options,
+        } => {
             let sides = Sides {
                 left: fields_at(schemas, *left),
                 right: fields_at(schemas, *right),
@@ -113,7 +158,11 @@ pub(crate) fn fields_of_node(alloc: Global, frames: &[DataFrame], schemas: &[Lis
             };
             joined_fields(alloc, &sides)
         }
-        IR::Sort { input, by: _, options: _ } => copied_fields(alloc, fields_at(schemas, *input)),
+        IR::Sort {
+            input,
+            by: _,
+            options: _,
+        } => copied_fields(alloc, fields_at(schemas, *input)),
     }
 }
 
@@ -141,7 +190,12 @@ pub fn schema(alloc: Global, arena: &Arena, root: u32) -> Result<List<Field>, Al
 // ---- rows
 
 /// Of each row the cells named.
-fn named_rows(alloc: Global, schema: &[Field], names: &[Text], rows: &[Row]) -> Result<List<Row>, AllocError>
+fn named_rows(
+    alloc: Global,
+    schema: &[Field],
+    names: &[Text],
+    rows: &[Row],
+) -> Result<List<Row>, AllocError>
     ensures { IfOk result (λ made. made ≡ map (row_named schema.now names.now) rows.now) }
 {
     let mut made = List::new(alloc);
@@ -152,18 +206,33 @@ fn named_rows(alloc: Global, schema: &[Field], names: &[Text], rows: &[Row]) -> 
 }
 
 /// The rows of a scan.
-fn scanned_rows(alloc: Global, frames: &[DataFrame], frame: u32, columns: &Option<List<Text>>) -> Result<List<Row>, AllocError>
+fn scanned_rows(
+    alloc: Global,
+    frames: &[DataFrame],
+    frame: u32,
+    columns: &Option<List<Text>>,
+) -> Result<List<Row>, AllocError>
     ensures { IfOk result (λ rows. rows ≡ scan_rows (frame_at frames.now frame) columns.now) }
 {
     let rows = frame_rows(alloc, frames, frame)?;
     match columns {
         None => Ok(rows),
-        Some(names) => Ok(named_rows(alloc, frame_fields(frames, frame), names.as_slice(), rows.as_slice())?),
+        Some(names) => Ok(named_rows(
+            alloc,
+            frame_fields(frames, frame),
+            names.as_slice(),
+            rows.as_slice(),
+        )?),
     }
 }
 
 /// Of each row the cells of expressions.
-fn selected_rows(alloc: Global, schema: &[Field], exprs: &[NamedExpr], rows: &[Row]) -> Result<List<Row>, AllocError>
+fn selected_rows(
+    alloc: Global,
+    schema: &[Field],
+    exprs: &[NamedExpr],
+    rows: &[Row],
+) -> Result<List<Row>, AllocError>
     ensures { IfOk result (λ made. made ≡ map (select_row schema.now exprs.now) rows.now) }
 {
     let mut made = List::new(alloc);
@@ -174,7 +243,12 @@ fn selected_rows(alloc: Global, schema: &[Field], exprs: &[NamedExpr], rows: &[R
 }
 
 /// Each row with the cells of expressions.
-fn stacked_rows(alloc: Global, schema: &[Field], exprs: &[NamedExpr], rows: &[Row]) -> Result<List<Row>, AllocError>
+fn stacked_rows(
+    alloc: Global,
+    schema: &[Field],
+    exprs: &[NamedExpr],
+    rows: &[Row],
+) -> Result<List<Row>, AllocError>
     ensures { IfOk result (λ made. made ≡ map (hstack_row schema.now exprs.now) rows.now) }
 {
     let mut made = List::new(alloc);
@@ -185,7 +259,12 @@ fn stacked_rows(alloc: Global, schema: &[Field], exprs: &[NamedExpr], rows: &[Ro
 }
 
 /// What a function makes of each row, in turn.
-fn rows_of_function(alloc: Global, function: &FunctionIR, schema: &[Field], rows: &[Row]) -> Result<List<Row>, AllocError>
+fn rows_of_function(
+    alloc: Global,
+    function: &FunctionIR,
+    schema: &[Field],
+    rows: &[Row],
+) -> Result<List<Row>, AllocError>
     ensures { IfOk result (λ made. made ≡ flat_map (function_rows function.now schema.now) rows.now) }
 {
     let mut made = List::new(alloc);
@@ -217,18 +296,55 @@ fn united_rows(alloc: Global, tables: &[List<Row>], inputs: &[u32]) -> Result<Li
 }
 
 /// The rows of a node over the schemas and the rows of the nodes below it.
-fn rows_of_node(alloc: Global, frames: &[DataFrame], schemas: &[List<Field>], tables: &[List<Row>], node: &IR) -> Result<List<Row>, AllocError>
+fn rows_of_node(
+    alloc: Global,
+    frames: &[DataFrame],
+    schemas: &[List<Field>],
+    tables: &[List<Row>],
+    node: &IR,
+) -> Result<List<Row>, AllocError>
     ensures { IfOk result (λ rows. rows ≡ node_rows frames.now (at_place [] schemas.now) (at_place [] tables.now) node.now) }
 {
     match node {
         IR::DataFrameScan { frame, columns } => scanned_rows(alloc, frames, *frame, columns),
-        IR::Filter { input, predicate } => filtered(alloc, predicate, fields_at(schemas, *input), rows_below(tables, *input)),
-        IR::SimpleProjection { input, columns } => named_rows(alloc, fields_at(schemas, *input), columns.as_slice(), rows_below(tables, *input)),
-        IR::Select { input, exprs } => selected_rows(alloc, fields_at(schemas, *input), exprs.as_slice(), rows_below(tables, *input)),
-        IR::HStack { input, exprs } => stacked_rows(alloc, fields_at(schemas, *input), exprs.as_slice(), rows_below(tables, *input)),
-        IR::MapFunction { input, function } => rows_of_function(alloc, function, fields_at(schemas, *input), rows_below(tables, *input)),
+        IR::Filter { input, predicate } => filtered(
+            alloc,
+            predicate,
+            fields_at(schemas, *input),
+            rows_below(tables, *input),
+        ),
+        IR::SimpleProjection { input, columns } => named_rows(
+            alloc,
+            fields_at(schemas, *input),
+            columns.as_slice(),
+            rows_below(tables, *input),
+        ),
+        IR::Select { input, exprs } => selected_rows(
+            alloc,
+            fields_at(schemas, *input),
+            exprs.as_slice(),
+            rows_below(tables, *input),
+        ),
+        IR::HStack { input, exprs } => stacked_rows(
+            alloc,
+            fields_at(schemas, *input),
+            exprs.as_slice(),
+            rows_below(tables, *input),
+        ),
+        IR::MapFunction { input, function } => rows_of_function(
+            alloc,
+            function,
+            fields_at(schemas, *input),
+            rows_below(tables, *input),
+        ),
         IR::Union { inputs } => united_rows(alloc, tables, inputs.as_slice()),
-        IR::Join { left, right, left_on, right_on, options } => {
+        IR::Join {
+            left,
+            right,
+            left_on,
+            right_on,
+            options,
+        } => {
             let sides = Sides {
                 left: fields_at(schemas, *left),
                 right: fields_at(schemas, *right),
@@ -236,10 +352,21 @@ fn rows_of_node(alloc: Global, frames: &[DataFrame], schemas: &[List<Field>], ta
                 right_on: right_on.as_slice(),
                 options,
             };
-            joined_rows(alloc, &sides, rows_below(tables, *left), rows_below(tables, *right))
+            joined_rows(
+                alloc,
+                &sides,
+                rows_below(tables, *left),
+                rows_below(tables, *right),
+            )
         }
         IR::Sort { input, by, options } => {
-            let rows = sorted_rows(alloc, fields_at(schemas, *input), by.as_slice(), options, rows_below(tables, *input))?;
+            let rows = sorted_rows(
+                alloc,
+                fields_at(schemas, *input),
+                by.as_slice(),
+                options,
+                rows_below(tables, *input),
+            )?;
             Ok(copied_rows(alloc, kept_slice(&options.slice, rows.as_slice()))?)
         }
     }

@@ -113,7 +113,11 @@ pub(crate) fn place(schema: &[Field], name: &Text) -> Option<usize>
 }
 
 /// The cell of a row under the first column of a name, null where there is none.
-pub(crate) fn cell_named(schema: &[Field], row: &[AnyValue], name: &Text) -> Result<AnyValue, AllocError>
+pub(crate) fn cell_named(
+    schema: &[Field],
+    row: &[AnyValue],
+    name: &Text,
+) -> Result<AnyValue, AllocError>
     ensures { IfOk result (λ cell. cell ≡ named_cell schema.now row.now name.now) }
 {
     match place(schema, name) {
@@ -135,17 +139,50 @@ pub fn value_at(expr: &Expr, schema: &[Field], row: &[AnyValue]) -> Result<AnyVa
     match expr {
         Expr::Col(name) => cell_named(schema, row, name),
         Expr::Lit { dtype: _, value } => value.try_clone(),
-        Expr::Add(left, right) => Ok(sum(&value_at(left, schema, row)?, &value_at(right, schema, row)?)),
-        Expr::Sub(left, right) => Ok(difference(&value_at(left, schema, row)?, &value_at(right, schema, row)?)),
-        Expr::Mul(left, right) => Ok(product(&value_at(left, schema, row)?, &value_at(right, schema, row)?)),
-        Expr::Eq(left, right) => Ok(Comparison::Eq.of(&value_at(left, schema, row)?, &value_at(right, schema, row)?)),
-        Expr::NotEq(left, right) => Ok(Comparison::NotEq.of(&value_at(left, schema, row)?, &value_at(right, schema, row)?)),
-        Expr::Lt(left, right) => Ok(Comparison::Lt.of(&value_at(left, schema, row)?, &value_at(right, schema, row)?)),
-        Expr::LtEq(left, right) => Ok(Comparison::LtEq.of(&value_at(left, schema, row)?, &value_at(right, schema, row)?)),
-        Expr::Gt(left, right) => Ok(Comparison::Gt.of(&value_at(left, schema, row)?, &value_at(right, schema, row)?)),
-        Expr::GtEq(left, right) => Ok(Comparison::GtEq.of(&value_at(left, schema, row)?, &value_at(right, schema, row)?)),
-        Expr::And(left, right) => Ok(both(&value_at(left, schema, row)?, &value_at(right, schema, row)?)),
-        Expr::Or(left, right) => Ok(either(&value_at(left, schema, row)?, &value_at(right, schema, row)?)),
+        Expr::Add(left, right) => Ok(sum(
+            &value_at(left, schema, row)?,
+            &value_at(right, schema, row)?,
+        )),
+        Expr::Sub(left, right) => Ok(difference(
+            &value_at(left, schema, row)?,
+            &value_at(right, schema, row)?,
+        )),
+        Expr::Mul(left, right) => Ok(product(
+            &value_at(left, schema, row)?,
+            &value_at(right, schema, row)?,
+        )),
+        Expr::Eq(left, right) => Ok(Comparison::Eq.of(
+            &value_at(left, schema, row)?,
+            &value_at(right, schema, row)?,
+        )),
+        Expr::NotEq(left, right) => Ok(Comparison::NotEq.of(
+            &value_at(left, schema, row)?,
+            &value_at(right, schema, row)?,
+        )),
+        Expr::Lt(left, right) => Ok(Comparison::Lt.of(
+            &value_at(left, schema, row)?,
+            &value_at(right, schema, row)?,
+        )),
+        Expr::LtEq(left, right) => Ok(Comparison::LtEq.of(
+            &value_at(left, schema, row)?,
+            &value_at(right, schema, row)?,
+        )),
+        Expr::Gt(left, right) => Ok(Comparison::Gt.of(
+            &value_at(left, schema, row)?,
+            &value_at(right, schema, row)?,
+        )),
+        Expr::GtEq(left, right) => Ok(Comparison::GtEq.of(
+            &value_at(left, schema, row)?,
+            &value_at(right, schema, row)?,
+        )),
+        Expr::And(left, right) => Ok(both(
+            &value_at(left, schema, row)?,
+            &value_at(right, schema, row)?,
+        )),
+        Expr::Or(left, right) => Ok(either(
+            &value_at(left, schema, row)?,
+            &value_at(right, schema, row)?,
+        )),
         Expr::Not(inner) => Ok(opposite(&value_at(inner, schema, row)?)),
         Expr::IsNull(inner) => Ok(missing(&value_at(inner, schema, row)?)),
         Expr::IsNotNull(inner) => Ok(present(&value_at(inner, schema, row)?)),

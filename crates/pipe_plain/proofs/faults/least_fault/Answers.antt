@@ -26,4 +26,5 @@ loop-n-preserved c =
     let later = first_fault arena c.args.root (range_with_len (n + 1) (length arena.nodes - (n + 1))) in
     record {
       schemas = c.in_ok-push.ensures.ok ∙ schemas-more arena n c.loop-n.schemas c.index-nodes-n.result c.in_ok-made.made c.loop-n.invariant.schemas node made;
-      rest = sym (ap (first_fault arena c.args.root) (range-next n (length arena.nodes) within) ∙ ap (λ f. or_else f later) passed) ∙ c.loop-n.invariant.rest }
+      rest = sym (ap (first_fault arena c.args.root) (range-next n (length arena.nodes) within) ∙ ap (λ f. or_else f later) passed) ∙ c.loop-n.invariant.rest;
+    }

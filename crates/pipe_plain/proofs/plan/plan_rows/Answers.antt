@@ -1,4 +1,4 @@
-use Rattle.std.proofs.Common.{◌∙◌, [], ◌<◌, length}
+use Rattle.std.proofs.Common.{◌∙◌, []}
 use Rattle.std.proofs.lemmas.List.{get_or_default}
 use Rattle.pipe_plan.specs.declared.ir.IR.TheVariants.{Union}
 use Rattle.pipe_plain.proofs.Walks.{schemas-more, rows-more}
@@ -13,4 +13,5 @@ loop-node-preserved c =
     let fields = rw (c.as_slice-frames.ensures, c.as_slice-in-loop-node-2.ensures) at c.in_ok-fields.ensures in
     record {
       schemas = c.in_ok-push-2.ensures.ok ∙ schemas-more c.args.arena.now c.loop-node.node-index c.loop-node.schemas c.node-item.result c.in_ok-fields.fields c.loop-node.invariant.schemas node fields;
-      tables = c.in_ok-push.ensures.ok ∙ rows-more c.args.arena.now c.loop-node.node-index c.loop-node.schemas c.loop-node.tables c.node-item.result c.in_ok-rows.rows c.loop-node.invariant.schemas c.loop-node.invariant.tables node rows }
+      tables = c.in_ok-push.ensures.ok ∙ rows-more c.args.arena.now c.loop-node.node-index c.loop-node.schemas c.loop-node.tables c.node-item.result c.in_ok-rows.rows c.loop-node.invariant.schemas c.loop-node.invariant.tables node rows;
+    }

@@ -1,4 +1,4 @@
-use Rattle.std.proofs.Common.{◌∙◌, [], ◌<◌, length}
+use Rattle.std.proofs.Common.{◌∙◌, []}
 use Rattle.std.proofs.lemmas.List.{get_or_default}
 use Rattle.pipe_plan.specs.declared.ir.IR.TheVariants.{Union}
 use Rattle.pipe_plain.proofs.Walks.{schemas-more}

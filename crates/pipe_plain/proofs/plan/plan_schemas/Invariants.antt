@@ -1,5 +1,4 @@
-use Rattle.std.proofs.Common.{◌≡◌, ◌++◌, [], map, take}
-use Rattle.std.specs.List.{flat_map}
+use Rattle.std.proofs.Common.{◌≡◌, []}
 use Rattle.pipe_plain.specs.Tables.{table}
 use Rattle.pipe_plan.specs.Schemas.{schema_at}
 use Rattle.pipe_plain.proofs.plan.plan_schemas.Given as goal

@@ -1,6 +1,4 @@
-use Rattle.std.proofs.Common.{◌≡◌, ◌++◌, [], map, take}
-use Rattle.std.specs.List.{flat_map}
-
+use Rattle.std.proofs.Common.{◌≡◌, ◌++◌, take}
 use Rattle.pipe_plain.proofs.plan.push_rows.Given as goal
 
 abbrev pub invariant-loop-row : goal.invariant-loop-row

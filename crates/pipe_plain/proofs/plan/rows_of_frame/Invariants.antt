@@ -1,6 +1,4 @@
-use Rattle.std.proofs.Common.{◌≡◌, ◌++◌, [], map, take}
-use Rattle.std.specs.List.{flat_map}
-
+use Rattle.std.proofs.Common.{◌≡◌, take}
 use Rattle.pipe_plain.proofs.plan.rows_of_frame.Given as goal
 
 abbrev pub invariant-loop-i : goal.invariant-loop-i

@@ -1,4 +1,4 @@
-use Rattle.std.proofs.Common.{◌≡◌, ◌++◌, [], map, take}
+use Rattle.std.proofs.Common.{◌≡◌, take}
 use Rattle.std.specs.List.{flat_map}
 use Rattle.pipe_expr.specs.Projections.{function_rows}
 use Rattle.pipe_plain.proofs.plan.rows_of_function.Given as goal

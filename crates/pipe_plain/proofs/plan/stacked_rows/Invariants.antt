@@ -1,5 +1,4 @@
-use Rattle.std.proofs.Common.{◌≡◌, ◌++◌, [], map, take}
-use Rattle.std.specs.List.{flat_map}
+use Rattle.std.proofs.Common.{◌≡◌, map, take}
 use Rattle.pipe_expr.specs.Projections.{hstack_row}
 use Rattle.pipe_plain.proofs.plan.stacked_rows.Given as goal
 

@@ -1,4 +1,4 @@
-use Rattle.std.proofs.Common.{◌≡◌, ◌++◌, [], map, take}
+use Rattle.std.proofs.Common.{◌≡◌, [], take}
 use Rattle.std.specs.List.{flat_map}
 use Rattle.pipe_plain.specs.Tables.{at_place}
 use Rattle.pipe_plain.proofs.plan.united_rows.Given as goal

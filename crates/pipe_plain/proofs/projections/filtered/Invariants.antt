@@ -1,4 +1,4 @@
-use Rattle.std.proofs.Common.{◌≡◌, ◌++◌, map, filter, take, drop}
+use Rattle.std.proofs.Common.{◌≡◌, filter, take}
 use Rattle.pipe_expr.specs.Projections.{passes}
 use Rattle.pipe_plain.proofs.projections.filtered.Given as goal
 

@@ -1,4 +1,4 @@
-use Rattle.std.proofs.Common.{◌≡◌, ◌++◌, map, filter, take, drop}
+use Rattle.std.proofs.Common.{◌≡◌, drop}
 use Rattle.pipe_expr.specs.Projections.{expr_named}
 use Rattle.pipe_plain.proofs.projections.first_under.Given as goal
 

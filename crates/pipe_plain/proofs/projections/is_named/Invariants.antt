@@ -1,4 +1,4 @@
-use Rattle.std.proofs.Common.{◌≡◌, ◌++◌, map, filter, take, drop}
+use Rattle.std.proofs.Common.{◌≡◌, drop}
 use Rattle.pipe_frame.specs.Schema.{has_name, names_of}
 use Rattle.pipe_plain.proofs.projections.is_named.Given as goal
 

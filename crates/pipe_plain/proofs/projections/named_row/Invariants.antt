@@ -1,4 +1,4 @@
-use Rattle.std.proofs.Common.{◌≡◌, ◌++◌, map, filter, take, drop}
+use Rattle.std.proofs.Common.{◌≡◌, map, take}
 use Rattle.pipe_expr.specs.Values.{named_cell}
 use Rattle.pipe_plain.proofs.projections.named_row.Given as goal
 

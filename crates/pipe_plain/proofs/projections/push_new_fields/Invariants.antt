@@ -1,4 +1,4 @@
-use Rattle.std.proofs.Common.{◌≡◌, ◌++◌, map, filter, take, drop}
+use Rattle.std.proofs.Common.{◌≡◌, ◌++◌, map, filter, take}
 use Rattle.pipe_expr.specs.Projections.{expr_field, is_new}
 use Rattle.pipe_plain.proofs.projections.push_new_fields.Given as goal
 

@@ -1,4 +1,4 @@
-use Rattle.std.proofs.Common.{◌≡◌, ◌++◌, map, filter, take, drop}
+use Rattle.std.proofs.Common.{◌≡◌, map, take}
 use Rattle.pipe_expr.specs.Projections.{stacked_field}
 use Rattle.pipe_plain.proofs.projections.stacked_fields.Given as goal
 

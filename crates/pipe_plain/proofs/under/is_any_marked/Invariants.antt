@@ -1,7 +1,6 @@
 use Rattle.std.proofs.Common.{◌≡◌, false, drop}
 use Rattle.std.specs.List.{list_any}
-use Rattle.pipe_plain.specs.Tables.{table, at_place}
-use Rattle.pipe_plan.specs.Under.{reaches_at}
+use Rattle.pipe_plain.specs.Tables.{at_place}
 use Rattle.pipe_plain.proofs.under.is_any_marked.Given as goal
 
 abbrev pub invariant-loop-n : goal.invariant-loop-n

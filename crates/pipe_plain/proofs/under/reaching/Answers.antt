@@ -1,10 +1,7 @@
-use Rattle.std.proofs.Common.{◌≡◌, ◌∙◌, false, eqb, []}
-use Rattle.std.specs.Prelude.{◌||◌}
-use Rattle.std.specs.List.{list_any}
+use Rattle.std.proofs.Common.{◌≡◌, ◌∙◌, []}
 use Rattle.std.proofs.lemmas.List.{get_or_default}
 use Rattle.pipe_plan.specs.Under.{inputs_of}
 use Rattle.pipe_plan.specs.declared.ir.IR.TheVariants.{Union}
-use Rattle.pipe_plain.specs.Tables.{at_place}
 use Rattle.pipe_plain.proofs.Walks.{under-more}
 use Rattle.pipe_plain.proofs.under.reaching.Goals as goal
 

@@ -1,6 +1,5 @@
-use Rattle.std.proofs.Common.{◌≡◌, false, drop}
-use Rattle.std.specs.List.{list_any}
-use Rattle.pipe_plain.specs.Tables.{table, at_place}
+use Rattle.std.proofs.Common.{◌≡◌, false}
+use Rattle.pipe_plain.specs.Tables.{table}
 use Rattle.pipe_plan.specs.Under.{reaches_at}
 use Rattle.pipe_plain.proofs.under.reaching.Given as goal
 
