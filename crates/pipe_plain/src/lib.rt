@@ -5,17 +5,21 @@
 
 mod bad_node;
 mod comparison;
+#[cfg(test)]
+mod fault_tests;
 mod faults;
 mod joins;
 mod names;
 mod plan;
 mod projections;
-mod sorting;
 #[cfg(test)]
-mod tests;
+mod row_tests;
+mod sorting;
 mod typing;
 mod under;
 mod values;
+#[cfg(test)]
+mod written;
 
 pub use faults::plan_fault;
 pub use plan::{plan_rows, plan_schemas, rows, schema};
