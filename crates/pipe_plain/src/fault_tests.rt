@@ -2,7 +2,9 @@
 
 ghost use Rattle.std.specs.Prelude.{◌<◌, ◌^◌, vec_len};
 
-use crate::written::{INT, col, cols, frames, join, lit, options, push_cell, row_text, scan, sort, texts};
+use crate::written::{
+    INT, col, cols, frames, join, lit, options, push_cell, row_text, scan, sort, texts,
+};
 use crate::{plan_fault, value_at};
 use pipe_expr::{Expr, JoinCoalesce, JoinType};
 use pipe_frame::{DataFrame, DataType, List};

@@ -1,6 +1,8 @@
 //! The worked rows of plans: what each kind of node gives, each by what it shows.
 
-use crate::written::{INT, TEXT, Written, col, frames, join, lit, named, options, scan, sort, text, texts, told};
+use crate::written::{
+    INT, TEXT, Written, col, frames, join, lit, named, options, scan, sort, text, texts, told,
+};
 use pipe_expr::{Expr, FunctionIR, JoinCoalesce, JoinType, RenamePair};
 use pipe_frame::{DataType, List};
 use pipe_plan::{IR, PlanSlice};

@@ -168,7 +168,11 @@ pub(crate) fn named(alloc: Global, name: &str, expr: Expr) -> Result<List<NamedE
 
 // ---- what a plan gives, as one text: the names, and then each row
 
-pub(crate) fn push_cell(line: &mut String, alloc: Global, cell: &AnyValue) -> Result<(), AllocError> {
+pub(crate) fn push_cell(
+    line: &mut String,
+    alloc: Global,
+    cell: &AnyValue,
+) -> Result<(), AllocError> {
     match cell {
         AnyValue::Null => line.push_str("-")?,
         AnyValue::Int32(x) => line.push_str(format!(in alloc; "{x}")?.as_str())?,
@@ -206,7 +210,11 @@ pub(crate) fn names_text(alloc: Global, fields: &[Field]) -> Result<String, Allo
 
 /// The names and the rows of a plan, of which the last node is the root. Where that is no sort, the rows are put in
 /// the order of their texts, since they may come in any.
-pub(crate) fn told(alloc: Global, frames: List<DataFrame>, nodes: Vec<IR>) -> Result<String, AllocError> {
+pub(crate) fn told(
+    alloc: Global,
+    frames: List<DataFrame>,
+    nodes: Vec<IR>,
+) -> Result<String, AllocError> {
     let root = (nodes.len() as u32).saturating_sub(1);
     let in_order = matches!(
         nodes.last(),
