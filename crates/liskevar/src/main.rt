@@ -3,7 +3,8 @@
 
 use pipe_cli::{Refusal, StreamWriter, SystemReader, run_program};
 use pipe_frame::{NeverStop, OpenGate, Text};
-use std::alloc::{AllocError, Global};
+use std::alloc::Global;
+use std::io::Write;
 use std::process::ExitCode;
 use std::rt::Env;
 use std::{env, io};
@@ -18,10 +19,16 @@ fn words_of(rt: &(impl Env + Alloc<A = Global>)) -> io::Result<Vec<Text>> {
     Ok(words)
 }
 
+/// Notes a refusal, and gives its status.
+fn refused(notes: &mut impl Write, refusal: Refusal) -> ExitCode {
+    let _ = notes.write_all(refusal.line().as_bytes());
+    ExitCode::from(refusal.status())
+}
+
 fn main(rt: HostRuntime) -> ExitCode {
     let alloc = rt.alloc();
     let Ok(words) = words_of(&rt) else {
-        return ExitCode::from(Refusal::BadWords.status());
+        return refused(&mut rt.stderr(), Refusal::Memory);
     };
     let mut input = SystemReader::new(&rt, rt.stdin());
     let mut out = StreamWriter::new(rt.stdout());
