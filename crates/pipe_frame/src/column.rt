@@ -2,7 +2,7 @@
 
 ghost use Rattle.std.specs.Prelude.{◌≡◌, ℕ, ◌<◌, ◌≤◌, ◌+◌, [], ◌∷◌, ◌++◌, length, IfOk, OnOk, OnErr, Some, None, map, take, drop, if◌then◌else◌};
 ghost use Rattle.std.specs.Option.{option_copied};
-ghost use Rattle.pipe_frame.specs.Column.{slot_at, slot_in};
+ghost use Rattle.pipe_frame.specs.Column.{slot_at, slot_in, slots};
 
 use crate::place::{Place, gather};
 use std::alloc::{AllocError, Global};
@@ -36,6 +36,22 @@ impl<T> Column<T> {
             marks: Vec::new(alloc),
             values: Vec::new(alloc),
         }
+    }
+
+    /// A column of these values, each missing where its mark is false.
+    pub fn from_parts(marks: Vec<bool>, values: Vec<T>) -> Column<T>
+        requires { length marks.items ≡ length values.items }
+        ensures { result ≡ slots marks.items values.items }
+    {
+        Column { marks, values }
+    }
+
+    /// The marks, which are false where a value is missing, and the values with fillers there: for loops over a whole column.
+    pub fn parts(&self) -> (&[bool], &[T])
+        ensures even { length result.0.now ≡ length result.1.now }
+        ensures slots { slots result.0.now result.1.now ≡ self.now }
+    {
+        (self.marks.as_slice(), self.values.as_slice())
     }
 
     /// How many places there are.

@@ -131,11 +131,16 @@ impl DataFrame {
     }
 
     /// The row at a place.
-    pub fn row(&self, alloc: Global, i: usize) -> Result<Row, AllocError>
+    pub fn row(&self, i: usize) -> Result<Row, AllocError>
         requires { i < length self.now.rows }
         ensures { IfOk result (λ row. slice_get self.now.rows i ≡ Some row) }
     {
-        row_of(alloc, self.columns.as_slice(), self.height, i)
+        row_of(
+            *self.columns.allocator(),
+            self.columns.as_slice(),
+            self.height,
+            i,
+        )
     }
 
     /// The rows at these places, and a row of nulls where there is none.
@@ -151,11 +156,11 @@ impl DataFrame {
     }
 
     /// The rows at these places.
-    pub fn take(&self, alloc: Global, rows: &[u32]) -> Result<DataFrame, AllocError>
+    pub fn take(&self, rows: &[u32]) -> Result<DataFrame, AllocError>
         requires { All (λ i. i < length self.now.rows) rows.now }
         ensures { IfOk result (λ taken. taken ≡ record self.now { rows = chosen_rows self.now.rows rows.now }) }
     {
-        Ok(self.taken(alloc, rows)?)
+        Ok(self.taken(*self.columns.allocator(), rows)?)
     }
 
     /// The rows at these places, and a row of nulls where there is none.

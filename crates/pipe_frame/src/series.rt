@@ -79,6 +79,19 @@ impl Values {
         }
     }
 
+    /// The allocator of the values.
+    fn allocator(&self) -> Global {
+        match self {
+            Values::Int32(column) => column.allocator(),
+            Values::Int64(column) => column.allocator(),
+            Values::UInt32(column) => column.allocator(),
+            Values::UInt64(column) => column.allocator(),
+            Values::Boolean(column) => column.allocator(),
+            Values::String(column) => column.allocator(),
+            Values::Binary(column) => column.allocator(),
+        }
+    }
+
     /// How many cells there are.
     fn len(&self) -> usize
         ensures { result ≡ length (cells_of self.now) }
@@ -339,11 +352,11 @@ impl Series {
     }
 
     /// The cells at these places, under the same name.
-    pub fn take(&self, alloc: Global, rows: &[u32]) -> Result<Series, AllocError>
+    pub fn take(&self, rows: &[u32]) -> Result<Series, AllocError>
         requires { All (λ i. i < length self.now.cells) rows.now }
         ensures { IfOk result (λ taken. taken ≡ record self.now { cells = chosen_cells self.now.cells rows.now }) }
     {
-        Ok(self.take_at(alloc, rows)?)
+        Ok(self.take_at(self.values.allocator(), rows)?)
     }
 
     /// So many cells from a place on, under the same name.

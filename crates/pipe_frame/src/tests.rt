@@ -309,14 +309,62 @@ fn orders(alloc: Global) -> Result<DataFrame, FrameError> {
     DataFrame::new(alloc, columns.into_vec())
 }
 
-/// Whether two frames have the same cells, row by row.
-fn same_rows(alloc: Global, a: &DataFrame, b: &DataFrame) -> Result<bool, AllocError> {
-    if a.height() != b.height() {
+/// Ten payments: an identity, a part, what was paid and a reference.
+fn payments(alloc: Global) -> Result<DataFrame, FrameError> {
+    let rows: [(Option<&str>, i32, Option<i64>, &[u8]); 10] = [
+        (Some("A-1"), 1, Some(500), &[0xa0]),
+        (Some("A-1"), 2, Some(200), &[0xa1]),
+        (Some("A-1"), 2, Some(50), &[0xa2]),
+        (Some("A-3"), 1, Some(900), &[0xa3]),
+        (Some("A-5"), 2, Some(75), &[0xa4]),
+        (Some("A-6"), 1, Some(10), &[0xa5]),
+        (None, 1, Some(60), &[0xa6]),
+        (Some("A-8"), 2, Some(900), &[0xa7]),
+        (Some("A-9"), 1, None, &[0xa8]),
+        (Some("A-7"), 1, Some(40), &[0x13]),
+    ];
+    let mut ids = StringColumn::new(alloc);
+    let mut parts = Column::new(alloc);
+    let mut paid = Column::new(alloc);
+    let mut references = BinaryColumn::new(alloc);
+    for (id, part, amount, reference) in rows {
+        ids.push(id)?;
+        parts.push(part)?;
+        paid.push_maybe(amount, 0)?;
+        references.push(Some(reference))?;
+    }
+    let mut columns = List::new(alloc);
+    columns.push(Series::from_string(Text::from_str(alloc, "id")?, ids))?;
+    columns.push(Series::from_int32(Text::from_str(alloc, "part")?, parts))?;
+    columns.push(Series::from_int64(Text::from_str(alloc, "paid")?, paid))?;
+    columns.push(Series::from_binary(Text::from_str(alloc, "ref")?, references))?;
+    DataFrame::new(alloc, columns.into_vec())
+}
+
+/// The two frames of an inner join: k 1, 1, 2 with x p, q, r, and k 1, 1, 3 with y s, t, u.
+fn sides(alloc: Global) -> Result<(DataFrame, DataFrame), FrameError> {
+    let k = ints(alloc, "k", &[Some(1), Some(1), Some(2)])?;
+    let x = texts(alloc, "x", &[Some("p"), Some("q"), Some("r")])?;
+    let left = pair(alloc, k, x)?;
+    let k = ints(alloc, "k", &[Some(1), Some(1), Some(3)])?;
+    let y = texts(alloc, "y", &[Some("s"), Some("t"), Some("u")])?;
+    Ok((left, pair(alloc, k, y)?))
+}
+
+/// Whether two frames have the same schema and the same cells, row by row.
+fn same_frames(a: &DataFrame, b: &DataFrame) -> Result<bool, AllocError> {
+    if a.schema().len() != b.schema().len() || a.height() != b.height() {
         return Ok(false);
     }
+    for i in 0..a.schema().len() {
+        let (left, right) = (a.schema().field(i), b.schema().field(i));
+        if left.name.as_bytes() != right.name.as_bytes() || left.dtype != right.dtype {
+            return Ok(false);
+        }
+    }
     for i in 0..a.height() {
-        let left = a.row(alloc, i)?;
-        let right = b.row(alloc, i)?;
+        let left = a.row(i)?;
+        let right = b.row(i)?;
         if left.len() != right.len() {
             return Ok(false);
         }
@@ -330,28 +378,48 @@ fn same_rows(alloc: Global, a: &DataFrame, b: &DataFrame) -> Result<bool, AllocE
 }
 
 #[test]
-fn copies_and_chunks(rt: HostRuntime) -> Result<(), Fail> {
+fn copies_of_the_ledger(rt: HostRuntime) -> Result<(), Fail> {
     let alloc = rt.alloc();
-    let ledger = orders(alloc)?;
-    assert_eq!(rt; (ledger.height(), ledger.width()), (12, 4));
-    let copy = ledger.try_clone()?;
-    assert!(rt; same_rows(alloc, &ledger, &copy)?);
-    let chunk = DataChunk::new(7, worked(alloc)?);
-    let schema = chunk.frame.schema().try_clone()?;
+    let orders = orders(alloc)?;
+    assert_eq!(rt; (orders.height(), orders.width()), (12, 4));
+    assert!(rt; same_frames(&orders, &orders.try_clone()?)?);
+    let payments = payments(alloc)?;
+    assert_eq!(rt; (payments.height(), payments.width()), (10, 4));
+    assert!(rt; same_frames(&payments, &payments.try_clone()?)?);
+    assert!(rt; !same_frames(&orders, &payments)?);
+    Ok(())
+}
+
+#[test]
+fn copies_of_two_sides(rt: HostRuntime) -> Result<(), Fail> {
+    let alloc = rt.alloc();
+    let (left, right) = sides(alloc)?;
+    assert!(rt; same_frames(&left, &left.try_clone()?)?);
+    assert!(rt; same_frames(&right, &right.try_clone()?)?);
+    assert!(rt; !same_frames(&left, &right)?);
+    let schema = left.schema().try_clone()?;
     assert_eq!(rt;
-        (schema.len(), schema.index_of(b"x"), schema.index_of(b"z")),
+        (schema.len(), schema.index_of(b"x"), schema.index_of(b"y")),
         (2, Some(1), None)
     );
+    Ok(())
+}
+
+#[test]
+fn chunks_and_their_frame(rt: HostRuntime) -> Result<(), Fail> {
+    let alloc = rt.alloc();
+    let chunk = DataChunk::new(7, sides(alloc)?.0);
+    let schema = chunk.frame.schema().try_clone()?;
     let again = chunk.try_clone()?;
     assert_eq!(rt; (again.chunk_index, again.is_empty()), (7, false));
-    assert!(rt; same_rows(alloc, &chunk.frame, &again.frame)?);
+    assert!(rt; same_frames(&chunk.frame, &again.frame)?);
     let mut chunks = List::new(alloc);
     chunks.push(chunk)?;
     chunks.push(again)?;
     let whole = chunks_to_df_unchecked(alloc, chunks.into_vec(), &schema)?;
     assert_eq!(rt;
-        (whole.height(), text_at(&whole, 1, 3), text_at(&whole, 1, 4)),
-        (8, "r", "p")
+        (whole.height(), text_at(&whole, 1, 2), text_at(&whole, 1, 3)),
+        (6, "r", "p")
     );
     Ok(())
 }
