@@ -1,7 +1,9 @@
 -- Readers and writers in memory.
-use Rattle.std.specs.Prelude.{ℕ, List, [], ◌∷◌, slice_index_or, Option, Some, None, if◌then◌else◌}
+use Rattle.std.specs.Prelude.{ℕ, ◌+◌, ◌==◌, min, Bool, List, [], ◌∷◌, slice_index_or, Option, Some, None, if◌then◌else◌}
+use Rattle.std.specs.List.{list_any}
 use Rattle.std.specs.Str.{bytes_eq}
-use Rattle.pipe_cli.specs.declared.memory.NamedBytes.{NamedBytes}
+use Rattle.pipe_frame.specs.Counts.{last_count}
+use Rattle.pipe_cli.specs.declared.shelf.NamedBytes.{NamedBytes}
 
 -- the bytes of the first file of this name
 abbrev pub bytes_named : List NamedBytes → List ℕ → Option (List ℕ)
@@ -16,3 +18,33 @@ no_file = record { name = []; bytes = [] }
 abbrev pub source_bytes : List ℕ → List NamedBytes → Option ℕ → List ℕ
 source_bytes standard files None = standard
 source_bytes standard files (Some place) = (slice_index_or files place no_file).bytes
+
+-- the number of the next call; it stands still at the last value of a count
+abbrev pub call_number : ℕ → ℕ
+call_number made = min (made + 1) last_count
+
+-- whether a number is among those of the calls that are to fail
+abbrev pub is_listed : ℕ → List ℕ → Bool
+is_listed number failing = list_any (λ n. n == number) failing
+
+-- a reader whose calls are counted, and of which those with the listed numbers fail
+pub record ScriptedReader : Type 0 where
+  pub left : List ℕ
+  pub files : List NamedBytes
+  -- how many bytes a read takes at most
+  pub most : ℕ
+  pub failing : List ℕ
+  -- how many calls were made, how many bytes taken, how many calls failed
+  pub made : ℕ
+  pub taken : ℕ
+  pub faults : ℕ
+
+-- a writer alike
+pub record ScriptedWriter : Type 0 where
+  pub written : List ℕ
+  -- how many bytes a write takes at most
+  pub most : ℕ
+  pub failing : List ℕ
+  -- how many calls were made, how many failed
+  pub made : ℕ
+  pub faults : ℕ
