@@ -6,3 +6,5 @@ pub mod Values
 pub mod Projections
 -- what a join makes of two lists of rows
 pub mod Joins
+-- the values of an expression, a column at a time
+pub mod Slots

@@ -5,6 +5,9 @@
 
 mod expr;
 mod join_words;
+mod operator;
+mod source;
+mod whole;
 
 pub use expr::{Expr, NamedExpr};
 pub use join_words::{FunctionIR, JoinCoalesce, JoinType, RenamePair};
