@@ -1,1 +1,4 @@
 pub mod Sources
+pub mod Sides
+pub mod Zips
+pub mod WholeCells

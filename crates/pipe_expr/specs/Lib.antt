@@ -8,3 +8,5 @@ pub mod Projections
 pub mod Joins
 -- the values of an expression, a column at a time
 pub mod Slots
+-- what a subexpression gives
+pub mod Operands

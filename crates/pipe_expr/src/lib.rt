@@ -3,9 +3,12 @@
 //! The one contract used above is the expression law: a series is the expression's value per row.
 #![tactic(auto)]
 
+mod arithmetic;
 mod expr;
 mod join_words;
+mod operand;
 mod operator;
+mod side;
 mod source;
 mod whole;
 

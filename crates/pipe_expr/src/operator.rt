@@ -8,7 +8,7 @@ use crate::whole::Whole;
 use std::cmp::Ordering;
 
 /// An operator on two values, each with a mark that tells whether it is there.
-pub(crate) trait Operator<T> {
+pub(crate) trait Operator<T>: Copy {
     /// The type of what it gives.
     type Output;
 
@@ -69,7 +69,7 @@ impl<T: Whole> Operator<T> for Product {
 }
 
 /// A test of how two values compare.
-pub(crate) trait Test {
+pub(crate) trait Test: Copy {
     /// Whether an order passes.
     ghost test: { Ordering → Bool };
 

@@ -1,0 +1,40 @@
+-- What a subexpression gives over so many rows.
+use Rattle.std.specs.Prelude.{◌≡◌, ℕ, List, Bool, Option, IsTrue, map, length, replicate}
+use Rattle.std.specs.Option.{option_copied}
+use Rattle.pipe_frame.specs.Cell.{fits_dtype}
+use Rattle.pipe_frame.specs.Column.{slots}
+use Rattle.pipe_frame.specs.declared.any_value.AnyValue.{AnyValue}
+use Rattle.pipe_frame.specs.declared.data_type.DataType.{DataType}
+use Rattle.pipe_expr.specs.Slots.{marked, zip_with}
+use Rattle.pipe_expr.specs.declared.operand.Operand.{Operand}
+use Rattle.pipe_expr.specs.declared.operand.Operand.TheVariants as operand
+use Rattle.pipe_expr.specs.declared.side.Side.{Side}
+use Rattle.pipe_expr.specs.declared.side.Side.TheVariants as side
+
+abbrev pub operand_dtype : Operand → DataType
+operand_dtype (operand.Lent series) = series.now.dtype
+operand_dtype (operand.Made series) = series.dtype
+operand_dtype (operand.Constant dtype cell) = dtype
+
+abbrev pub operand_cells : ℕ → Operand → List AnyValue
+operand_cells rows (operand.Lent series) = series.now.cells
+operand_cells rows (operand.Made series) = series.cells
+operand_cells rows (operand.Constant dtype cell) = replicate rows cell.now
+
+-- a column has so many cells, and a constant's cell is of its type
+abbrev pub IsOperand : ℕ → Operand → Type 0
+IsOperand rows (operand.Lent series) = length series.now.cells ≡ rows
+IsOperand rows (operand.Made series) = length series.cells ≡ rows
+IsOperand rows (operand.Constant dtype cell) = IsTrue (fits_dtype dtype cell.now)
+
+abbrev pub side_slots : {T : Type 0} → Side T → List (Option T)
+side_slots (side.Column column) = slots column.marks.now column.values.now
+side_slots (side.Constant constant) = replicate constant.rows (marked constant.present constant.value)
+
+-- cells that an operator gives of the values in two lists of cells
+pub record Zips {A B : Type 0} (of : Option A → AnyValue) (to : Option B → AnyValue) (gives : Option A → Option A → Option B) (left right made : List AnyValue) : Type 0 where
+  pub a : List (Option A)
+  pub b : List (Option A)
+  pub is_left : left ≡ map of a
+  pub is_right : right ≡ map of b
+  pub is_made : made ≡ map to (zip_with gives a b)

@@ -1,0 +1,244 @@
+//! The values of one fixed-width type that an operand has.
+
+ghost use Rattle.std.specs.Prelude.{◌≡◌, [], ◌∷◌, Option, length, map, IfOk, IfSome, IsTrue, is_some};
+ghost use Rattle.pipe_frame.specs.Cell.{eq_dtype, fits_dtype, int32_cell, int64_cell, uint32_cell, uint64_cell, boolean_cell};
+ghost use Rattle.pipe_frame.specs.declared.any_value.AnyValue.{AnyValue};
+ghost use Rattle.pipe_frame.specs.declared.data_type.DataType.{DataType};
+ghost use Rattle.pipe_frame.specs.declared.data_type.DataType.TheVariants as dtype;
+ghost use Rattle.pipe_expr.specs.Slots.{marked, zip_with};
+ghost use Rattle.pipe_expr.specs.Operands.{operand_dtype, operand_cells, IsOperand, side_slots, Zips};
+
+use crate::operand::Operand;
+use crate::operator::Operator;
+use crate::source::{Lent, Repeated, Zip, collect};
+use pipe_frame::{AnyValue, Column, DataType, Series, Text};
+use std::alloc::{AllocError, Global};
+
+/// A type whose columns hold one value of fixed width at each place.
+pub(crate) trait Native: Copy + Drop {
+    /// The type of a column.
+    ghost dtype_of: { DataType };
+
+    /// The cell of what may be a value.
+    ghost cell: { Option Self → AnyValue };
+
+    /// The column of a series, where it is of the type.
+    fn column(series: &Series) -> Option<&Column<Self>>
+        ensures typed { is_some result ≡ eq_dtype series.now.dtype dtype_of }
+        ensures cells { IfSome result (λ column. series.now.cells ≡ map cell column.now) };
+
+    /// Whether a cell has a value, and the value; where it has none, any.
+    fn value(from: &AnyValue) -> (bool, Self)
+        requires { IsTrue (fits_dtype dtype_of from.now) }
+        ensures { cell (marked result.0 result.1) ≡ from.now };
+
+    /// A series without a name.
+    fn series(alloc: Global, column: Column<Self>) -> Series
+        ensures dtype { result.dtype ≡ dtype_of }
+        ensures cells { result.cells ≡ map cell column };
+}
+
+impl Native for i32 {
+    ghost dtype_of = { dtype.Int32 };
+
+    ghost cell = { int32_cell };
+
+    fn column(series: &Series) -> Option<&Column<i32>> {
+        series.as_int32()
+    }
+
+    fn value(from: &AnyValue) -> (bool, i32) {
+        match from {
+            AnyValue::Int32(x) => (true, *x),
+            _ => (false, 0),
+        }
+    }
+
+    fn series(alloc: Global, column: Column<i32>) -> Series
+        ensures dtype { result.dtype ≡ dtype.Int32 }
+        ensures cells { result.cells ≡ map int32_cell column }
+    {
+        Series::from_int32(Text::new(alloc), column)
+    }
+}
+
+impl Native for i64 {
+    ghost dtype_of = { dtype.Int64 };
+
+    ghost cell = { int64_cell };
+
+    fn column(series: &Series) -> Option<&Column<i64>> {
+        series.as_int64()
+    }
+
+    fn value(from: &AnyValue) -> (bool, i64) {
+        match from {
+            AnyValue::Int64(x) => (true, *x),
+            _ => (false, 0),
+        }
+    }
+
+    fn series(alloc: Global, column: Column<i64>) -> Series
+        ensures dtype { result.dtype ≡ dtype.Int64 }
+        ensures cells { result.cells ≡ map int64_cell column }
+    {
+        Series::from_int64(Text::new(alloc), column)
+    }
+}
+
+impl Native for u32 {
+    ghost dtype_of = { dtype.UInt32 };
+
+    ghost cell = { uint32_cell };
+
+    fn column(series: &Series) -> Option<&Column<u32>> {
+        series.as_uint32()
+    }
+
+    fn value(from: &AnyValue) -> (bool, u32) {
+        match from {
+            AnyValue::UInt32(x) => (true, *x),
+            _ => (false, 0),
+        }
+    }
+
+    fn series(alloc: Global, column: Column<u32>) -> Series
+        ensures dtype { result.dtype ≡ dtype.UInt32 }
+        ensures cells { result.cells ≡ map uint32_cell column }
+    {
+        Series::from_uint32(Text::new(alloc), column)
+    }
+}
+
+impl Native for u64 {
+    ghost dtype_of = { dtype.UInt64 };
+
+    ghost cell = { uint64_cell };
+
+    fn column(series: &Series) -> Option<&Column<u64>> {
+        series.as_uint64()
+    }
+
+    fn value(from: &AnyValue) -> (bool, u64) {
+        match from {
+            AnyValue::UInt64(x) => (true, *x),
+            _ => (false, 0),
+        }
+    }
+
+    fn series(alloc: Global, column: Column<u64>) -> Series
+        ensures dtype { result.dtype ≡ dtype.UInt64 }
+        ensures cells { result.cells ≡ map uint64_cell column }
+    {
+        Series::from_uint64(Text::new(alloc), column)
+    }
+}
+
+impl Native for bool {
+    ghost dtype_of = { dtype.Boolean };
+
+    ghost cell = { boolean_cell };
+
+    fn column(series: &Series) -> Option<&Column<bool>> {
+        series.as_boolean()
+    }
+
+    fn value(from: &AnyValue) -> (bool, bool) {
+        match from {
+            AnyValue::Boolean(x) => (true, *x),
+            _ => (false, false),
+        }
+    }
+
+    fn series(alloc: Global, column: Column<bool>) -> Series
+        ensures dtype { result.dtype ≡ dtype.Boolean }
+        ensures cells { result.cells ≡ map boolean_cell column }
+    {
+        Series::from_boolean(Text::new(alloc), column)
+    }
+}
+
+/// The values of an operand of a type.
+#[derive(Clone, Copy)]
+pub(crate) enum Side<'a, T> {
+    Column(Lent<'a, T>),
+    Constant(Repeated<T>),
+}
+
+/// The values of a column of a type.
+fn lent<T: Native>(series: &Series) -> Side<'_, T>
+    requires { series.now.dtype ≡ T.dtype_of }
+    ensures { series.now.cells ≡ map T.cell (side_slots result) }
+{
+    let Some(column) = T::column(series) else {
+        unreachable!()
+    };
+    let (marks, values) = column.parts();
+    Side::Column(Lent { marks, values })
+}
+
+/// The values of an operand of a type.
+#[tactic(auto, using(crate::proofs::Sides::side_rules))]
+pub(crate) fn side_of<'a, T: Native>(rows: usize, operand: &'a Operand<'a>) -> Side<'a, T>
+    requires typed { operand_dtype operand.now ≡ T.dtype_of }
+    requires sized { IsOperand rows operand.now }
+    ensures { operand_cells rows operand.now ≡ map T.cell (side_slots result) }
+{
+    match operand {
+        Operand::Lent(series) => lent(series),
+        Operand::Made(series) => lent(series),
+        Operand::Constant(_, cell) => {
+            let (present, value) = T::value(cell);
+            Side::Constant(Repeated {
+                present,
+                value,
+                rows,
+            })
+        }
+    }
+}
+
+/// An operator on two sides, row by row.
+#[tactic(auto, using(crate::proofs::Sides::side_rules))]
+fn zip_sides<'a, T: Copy, O: Operator<T>>(
+    alloc: Global,
+    rows: usize,
+    left: Side<'a, T>,
+    right: Side<'a, T>,
+    operator: O,
+) -> Result<Column<O::Output>, AllocError>
+where
+    O::Output: Drop,
+    requires left { length (side_slots left) ≡ rows }
+    requires right { length (side_slots right) ≡ rows }
+    ensures { IfOk result (λ column. column ≡ zip_with O.gives (side_slots left.entry) (side_slots right.entry)) }
+{
+    match (left, right) {
+        (Side::Column(left), Side::Column(right)) => Ok(collect(alloc, rows, &Zip { left, right, operator })?),
+        (Side::Column(left), Side::Constant(right)) => Ok(collect(alloc, rows, &Zip { left, right, operator })?),
+        (Side::Constant(left), Side::Column(right)) => Ok(collect(alloc, rows, &Zip { left, right, operator })?),
+        (Side::Constant(left), Side::Constant(right)) => Ok(collect(alloc, rows, &Zip { left, right, operator })?),
+    }
+}
+
+/// An operator on two operands of a type, row by row.
+#[tactic(auto, using(crate::proofs::Sides::side_rules))]
+pub(crate) fn zip<T: Native, O: Operator<T>>(
+    alloc: Global,
+    rows: usize,
+    left: &Operand<'_>,
+    right: &Operand<'_>,
+    operator: O,
+) -> Result<Series, AllocError>
+where
+    O::Output: Native,
+    requires left { operand_dtype left.now ≡ T.dtype_of }
+    requires right { operand_dtype right.now ≡ T.dtype_of }
+    requires rows_left { IsOperand rows left.now }
+    requires rows_right { IsOperand rows right.now }
+    ensures dtype { IfOk result (λ made. made.dtype ≡ O.Output.dtype_of) }
+    ensures cells { IfOk result (λ made. Zips T.cell O.Output.cell O.gives (operand_cells rows left.now) (operand_cells rows right.now) made.cells) }
+{
+    let column = zip_sides(alloc, rows, side_of::<T>(rows, left), side_of::<T>(rows, right), operator)?;
+    Ok(<O::Output as Native>::series(alloc, column))
+}
