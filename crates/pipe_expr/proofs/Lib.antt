@@ -2,3 +2,8 @@ pub mod Sources
 pub mod Sides
 pub mod Zips
 pub mod WholeCells
+pub mod ComparedCells
+pub mod LogicCells
+pub mod NullCells
+pub mod NamedColumns
+pub mod ValueSteps

@@ -1,5 +1,5 @@
 -- Columns and constants of one type.
-use Rattle.std.proofs.Common.{◌≡◌, ℕ, zero, suc, List, [], ◌∷◌, length, map, replicate, refl, ap, sym, ◌∙◌, arith}
+use Rattle.std.proofs.Common.{◌≡◌, ℕ, zero, suc, List, [], ◌∷◌, ◌++◌, ◌+◌, length, map, replicate, refl, ap, sym, ◌∙◌, arith}
 use Rattle.pipe_expr.specs.Slots.{zip_with}
 
 -- as many as in each list
@@ -15,4 +15,15 @@ pub map-replicate : {A B : Type 0} (f : A → B) (n : ℕ) (x : A) → replicate
 map-replicate f zero x = refl
 map-replicate f (suc n) x = ap (λ l. f x ∷ l) (map-replicate f n x)
 
-pub ruleset side_rules = (length-zip, map-replicate)
+-- one more
+replicate-suc : {A : Type 0} (n : ℕ) (x : A) → replicate n x ++ x ∷ [] ≡ replicate (suc n) x
+replicate-suc zero x = refl
+replicate-suc (suc n) x = ap (λ l. x ∷ l) (replicate-suc n x)
+
+pub replicate-push : {A : Type 0} (n : ℕ) (x : A) → replicate n x ++ x ∷ [] ≡ replicate (n + 1) x
+replicate-push n x = replicate-suc n x ∙ (let e : suc n ≡ n + 1 = omega arith in ap (λ k. replicate k x) e)
+
+pub repeated_cell : {A B : Type 0} (f : A → B) (n : ℕ) (x : A) {c : B} → f x ≡ c → replicate n c ≡ map f (replicate n x)
+repeated_cell f n x h = ap (replicate n) (sym h) ∙ map-replicate f n x
+
+pub ruleset side_rules = (length-zip, map-replicate, replicate-push, repeated_cell)

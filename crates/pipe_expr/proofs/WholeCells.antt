@@ -43,4 +43,3 @@ products-uint32 z = zips-cells uint32_cell uint32_cell (strictly (λ (a b : ℕ)
 
 pub products-uint64 : {left right made : List AnyValue} → Zips uint64_cell uint64_cell (strictly (λ (a b : ℕ). (a * b) % 2 ^ 64)) left right made → made ≡ zip_with product_of left right
 products-uint64 z = zips-cells uint64_cell uint64_cell (strictly (λ (a b : ℕ). (a * b) % 2 ^ 64)) product_of (elim [ Some a ↦ elim [ Some b ↦ refl | None ↦ refl ] | None ↦ elim [ Some b ↦ refl | None ↦ refl ] ]) z
-

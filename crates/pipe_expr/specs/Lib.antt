@@ -10,3 +10,5 @@ pub mod Joins
 pub mod Slots
 -- what a subexpression gives
 pub mod Operands
+-- what the parts of an evaluation give
+pub mod Evaluation

@@ -8,6 +8,8 @@ use Rattle.pipe_frame.specs.declared.data_type.DataType.{DataType}
 use Rattle.pipe_expr.specs.Slots.{marked, zip_with}
 use Rattle.pipe_expr.specs.declared.operand.Operand.{Operand}
 use Rattle.pipe_expr.specs.declared.operand.Operand.TheVariants as operand
+use Rattle.pipe_expr.specs.declared.pieces.Pieces.{Pieces}
+use Rattle.pipe_expr.specs.declared.pieces.Pieces.TheVariants as pieces
 use Rattle.pipe_expr.specs.declared.side.Side.{Side}
 use Rattle.pipe_expr.specs.declared.side.Side.TheVariants as side
 
@@ -30,6 +32,11 @@ IsOperand rows (operand.Constant dtype cell) = IsTrue (fits_dtype dtype cell.now
 abbrev pub side_slots : {T : Type 0} → Side T → List (Option T)
 side_slots (side.Column column) = slots column.marks.now column.values.now
 side_slots (side.Constant constant) = replicate constant.rows (marked constant.present constant.value)
+
+abbrev pub piece_slots : Pieces → List (Option (List ℕ))
+piece_slots (pieces.Texts column) = column.now
+piece_slots (pieces.Bytes column) = column.now
+piece_slots (pieces.Repeated piece rows) = replicate rows (option_copied piece)
 
 -- cells that an operator gives of the values in two lists of cells
 pub record Zips {A B : Type 0} (of : Option A → AnyValue) (to : Option B → AnyValue) (gives : Option A → Option A → Option B) (left right made : List AnyValue) : Type 0 where

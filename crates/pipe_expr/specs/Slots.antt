@@ -1,6 +1,9 @@
 -- What operators give on values that may be missing, and on columns of them.
 use Rattle.std.specs.Prelude.{ℕ, List, [], ◌∷◌, Bool, true, false, not, Option, Some, None, map, replicate}
 use Rattle.std.specs.declared.cmp.Ordering.{Ordering}
+use Rattle.pipe_frame.specs.Cell.{is_null_cell}
+use Rattle.pipe_frame.specs.declared.any_value.AnyValue.{AnyValue}
+use Rattle.pipe_expr.specs.Values.{is_missing, is_present}
 
 -- a value where it is marked as present
 abbrev pub marked : {T : Type 0} → Bool → T → Option T
@@ -38,3 +41,13 @@ either_maybe _ _ = None
 abbrev pub opposite_maybe : Option Bool → Option Bool
 opposite_maybe (Some b) = Some (not b)
 opposite_maybe None = None
+
+-- whether a cell is null, where null is wanted, or isn't, where no null is
+abbrev pub null_is : Bool → AnyValue → Option Bool
+null_is true c = Some (is_null_cell c)
+null_is false c = Some (not (is_null_cell c))
+
+-- the same as a cell
+abbrev pub null_value : Bool → AnyValue → AnyValue
+null_value true c = is_missing c
+null_value false c = is_present c

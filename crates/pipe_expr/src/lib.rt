@@ -4,10 +4,18 @@
 #![tactic(auto)]
 
 mod arithmetic;
+mod comparison;
+mod constant;
+mod evaluate;
+#[cfg(test)]
+mod evaluate_tests;
 mod expr;
 mod join_words;
+mod logic;
+mod null_test;
 mod operand;
 mod operator;
+mod pieces;
 mod side;
 mod source;
 mod whole;

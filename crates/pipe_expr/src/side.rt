@@ -214,10 +214,42 @@ where
     ensures { IfOk result (λ column. column ≡ zip_with O.gives (side_slots left.entry) (side_slots right.entry)) }
 {
     match (left, right) {
-        (Side::Column(left), Side::Column(right)) => Ok(collect(alloc, rows, &Zip { left, right, operator })?),
-        (Side::Column(left), Side::Constant(right)) => Ok(collect(alloc, rows, &Zip { left, right, operator })?),
-        (Side::Constant(left), Side::Column(right)) => Ok(collect(alloc, rows, &Zip { left, right, operator })?),
-        (Side::Constant(left), Side::Constant(right)) => Ok(collect(alloc, rows, &Zip { left, right, operator })?),
+        (Side::Column(left), Side::Column(right)) => Ok(collect(
+            alloc,
+            rows,
+            &Zip {
+                left,
+                right,
+                operator,
+            },
+        )?),
+        (Side::Column(left), Side::Constant(right)) => Ok(collect(
+            alloc,
+            rows,
+            &Zip {
+                left,
+                right,
+                operator,
+            },
+        )?),
+        (Side::Constant(left), Side::Column(right)) => Ok(collect(
+            alloc,
+            rows,
+            &Zip {
+                left,
+                right,
+                operator,
+            },
+        )?),
+        (Side::Constant(left), Side::Constant(right)) => Ok(collect(
+            alloc,
+            rows,
+            &Zip {
+                left,
+                right,
+                operator,
+            },
+        )?),
     }
 }
 
@@ -239,6 +271,12 @@ where
     ensures dtype { IfOk result (λ made. made.dtype ≡ O.Output.dtype_of) }
     ensures cells { IfOk result (λ made. Zips T.cell O.Output.cell O.gives (operand_cells rows left.now) (operand_cells rows right.now) made.cells) }
 {
-    let column = zip_sides(alloc, rows, side_of::<T>(rows, left), side_of::<T>(rows, right), operator)?;
+    let column = zip_sides(
+        alloc,
+        rows,
+        side_of::<T>(rows, left),
+        side_of::<T>(rows, right),
+        operator,
+    )?;
     Ok(<O::Output as Native>::series(alloc, column))
 }

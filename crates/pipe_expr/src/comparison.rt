@@ -1,0 +1,172 @@
+//! Comparisons of columns.
+
+ghost use Rattle.std.specs.Prelude.{◌≡◌, length, IfOk};
+ghost use Rattle.std.specs.Ordering.{is_eq, is_ne, is_lt, is_le, is_gt, is_ge, nat_cmp};
+ghost use Rattle.std.specs.Cmp.Lexicographic.{slice_cmp};
+ghost use Rattle.pipe_frame.specs.declared.data_type.DataType.TheVariants as dtype;
+ghost use Rattle.pipe_expr.specs.Values.{compared};
+ghost use Rattle.pipe_expr.specs.Slots.{zip_with, strictly, tested};
+ghost use Rattle.pipe_expr.specs.Operands.{operand_dtype, operand_cells, IsOperand, piece_slots};
+
+use crate::operand::Operand;
+use crate::operator::{Compared, Test};
+use crate::pieces::{ComparedPieces, Pieces, bytes, texts};
+use crate::side::zip;
+use crate::source::collect;
+use pipe_frame::{Column, DataType, Series, Text};
+use std::alloc::{AllocError, Global};
+use std::cmp::Ordering;
+
+/// Whether the values are the same.
+#[derive(Clone, Copy)]
+pub(crate) struct IsEqual;
+
+impl Test for IsEqual {
+    ghost test = { is_eq };
+
+    fn passes(&self, order: Ordering) -> bool {
+        order.is_eq()
+    }
+}
+
+/// Whether the values differ.
+#[derive(Clone, Copy)]
+pub(crate) struct IsOther;
+
+impl Test for IsOther {
+    ghost test = { is_ne };
+
+    fn passes(&self, order: Ordering) -> bool {
+        order.is_ne()
+    }
+}
+
+/// Whether the left value is the lesser.
+#[derive(Clone, Copy)]
+pub(crate) struct IsLess;
+
+impl Test for IsLess {
+    ghost test = { is_lt };
+
+    fn passes(&self, order: Ordering) -> bool {
+        order.is_lt()
+    }
+}
+
+/// Whether the left value isn't the greater.
+#[derive(Clone, Copy)]
+pub(crate) struct IsLessOrEqual;
+
+impl Test for IsLessOrEqual {
+    ghost test = { is_le };
+
+    fn passes(&self, order: Ordering) -> bool {
+        order.is_le()
+    }
+}
+
+/// Whether the left value is the greater.
+#[derive(Clone, Copy)]
+pub(crate) struct IsGreater;
+
+impl Test for IsGreater {
+    ghost test = { is_gt };
+
+    fn passes(&self, order: Ordering) -> bool {
+        order.is_gt()
+    }
+}
+
+/// Whether the left value isn't the lesser.
+#[derive(Clone, Copy)]
+pub(crate) struct IsGreaterOrEqual;
+
+impl Test for IsGreaterOrEqual {
+    ghost test = { is_ge };
+
+    fn passes(&self, order: Ordering) -> bool {
+        order.is_ge()
+    }
+}
+
+/// A test of how byte strings compare, row by row.
+#[tactic(auto, using(crate::proofs::Sides::side_rules))]
+fn compare_pieces<C: Test>(
+    alloc: Global,
+    rows: usize,
+    left: Pieces<'_>,
+    right: Pieces<'_>,
+    test: C,
+) -> Result<Column<bool>, AllocError>
+    requires left { length (piece_slots left) ≡ rows }
+    requires right { length (piece_slots right) ≡ rows }
+    ensures { IfOk result (λ column. column ≡ zip_with (strictly (tested (slice_cmp nat_cmp) C.test)) (piece_slots left.entry) (piece_slots right.entry)) }
+{
+    Ok(collect(alloc, rows, &ComparedPieces { left, right, test })?)
+}
+
+/// A test of how two operands of texts compare, row by row.
+#[tactic(auto, using(crate::proofs::Sides::side_rules))]
+fn compare_texts<C: Test>(
+    alloc: Global,
+    rows: usize,
+    left: &Operand<'_>,
+    right: &Operand<'_>,
+    test: C,
+) -> Result<Series, AllocError>
+    requires left { operand_dtype left.now ≡ dtype.String }
+    requires right { operand_dtype right.now ≡ dtype.String }
+    requires rows_left { IsOperand rows left.now }
+    requires rows_right { IsOperand rows right.now }
+    ensures dtype { IfOk result (λ made. made.dtype ≡ dtype.Boolean) }
+    ensures cells { IfOk result (λ made. made.cells ≡ zip_with (compared C.test) (operand_cells rows left.now) (operand_cells rows right.now)) }
+{
+    let column = compare_pieces(alloc, rows, texts(rows, left), texts(rows, right), test)?;
+    Ok(Series::from_boolean(Text::new(alloc), column))
+}
+
+/// A test of how two operands of byte strings compare, row by row.
+#[tactic(auto, using(crate::proofs::Sides::side_rules))]
+fn compare_bytes<C: Test>(
+    alloc: Global,
+    rows: usize,
+    left: &Operand<'_>,
+    right: &Operand<'_>,
+    test: C,
+) -> Result<Series, AllocError>
+    requires left { operand_dtype left.now ≡ dtype.Binary }
+    requires right { operand_dtype right.now ≡ dtype.Binary }
+    requires rows_left { IsOperand rows left.now }
+    requires rows_right { IsOperand rows right.now }
+    ensures dtype { IfOk result (λ made. made.dtype ≡ dtype.Boolean) }
+    ensures cells { IfOk result (λ made. made.cells ≡ zip_with (compared C.test) (operand_cells rows left.now) (operand_cells rows right.now)) }
+{
+    let column = compare_pieces(alloc, rows, bytes(rows, left), bytes(rows, right), test)?;
+    Ok(Series::from_boolean(Text::new(alloc), column))
+}
+
+/// A test of how two operands of one type compare, row by row.
+pub(crate) fn compare<C: Test>(
+    alloc: Global,
+    rows: usize,
+    left: &Operand<'_>,
+    right: &Operand<'_>,
+    test: C,
+) -> Result<Series, AllocError>
+    requires same { operand_dtype right.now ≡ operand_dtype left.now }
+    requires rows_left { IsOperand rows left.now }
+    requires rows_right { IsOperand rows right.now }
+    ensures dtype { IfOk result (λ made. made.dtype ≡ dtype.Boolean) }
+    ensures cells { IfOk result (λ made. made.cells ≡ zip_with (compared C.test) (operand_cells rows left.now) (operand_cells rows right.now)) }
+{
+    let by = Compared { test };
+    match left.dtype() {
+        DataType::Int32 => Ok(zip::<i32, Compared<C>>(alloc, rows, left, right, by)?),
+        DataType::Int64 => Ok(zip::<i64, Compared<C>>(alloc, rows, left, right, by)?),
+        DataType::UInt32 => Ok(zip::<u32, Compared<C>>(alloc, rows, left, right, by)?),
+        DataType::UInt64 => Ok(zip::<u64, Compared<C>>(alloc, rows, left, right, by)?),
+        DataType::Boolean => Ok(zip::<bool, Compared<C>>(alloc, rows, left, right, by)?),
+        DataType::String => Ok(compare_texts(alloc, rows, left, right, test)?),
+        DataType::Binary => Ok(compare_bytes(alloc, rows, left, right, test)?),
+    }
+}
