@@ -7,3 +7,7 @@ pub mod LogicCells
 pub mod NullCells
 pub mod NamedColumns
 pub mod ValueSteps
+pub mod Known
+pub mod Copies
+pub mod SameExpr
+pub mod SameColumn

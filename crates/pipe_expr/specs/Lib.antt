@@ -1,5 +1,7 @@
 -- the type of an expression, and the columns that it names
 pub mod Types
+-- why an expression has no type
+pub mod Typing
 -- the value of an expression at a row
 pub mod Values
 -- what filters, projections and functions make of a row
@@ -12,3 +14,7 @@ pub mod Slots
 pub mod Operands
 -- what the parts of an evaluation give
 pub mod Evaluation
+-- expressions that are the same, wherever their parts lie in memory
+pub mod Alike
+-- expressions that were made for a schema, and the columns that they give
+pub mod Physical

@@ -6,11 +6,13 @@
 mod arithmetic;
 mod comparison;
 mod constant;
+mod error;
 mod evaluate;
 #[cfg(test)]
 mod evaluate_tests;
 mod expr;
 mod join_words;
+mod laws;
 mod logic;
 mod null_test;
 mod operand;
@@ -18,7 +20,13 @@ mod operator;
 mod pieces;
 mod side;
 mod source;
+mod try_clone;
+mod typing;
 mod whole;
 
+pub use error::ExprError;
 pub use expr::{Expr, NamedExpr};
 pub use join_words::{FunctionIR, JoinCoalesce, JoinType, RenamePair};
+pub use laws::{alike_means_same, typed_names_are_known};
+pub use try_clone::{copy_exprs, copy_named_exprs};
+pub use typing::{column_type, expr_type, type_of, unknown_name};

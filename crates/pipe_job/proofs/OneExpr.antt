@@ -16,7 +16,8 @@ use Rattle.pipe_expr.specs.declared.expr.Expr.{Expr, Col, Lit, Add', Sub', Mul',
 use Rattle.pipe_job.specs.Spelling.{type_spelling, cell_spelling, FitsType}
 use Rattle.pipe_job.specs.ExprSpelling.{expr_spelling, ExprFits}
 use Rattle.pipe_job.specs.Shape.{type_at}
-use Rattle.pipe_job.specs.Alike.{Alike, EachAlike, IsFlat}
+use Rattle.pipe_expr.specs.Alike.{Alike, EachAlike}
+use Rattle.pipe_job.specs.Alike.{IsFlat}
 use Rattle.pipe_job.proofs.Again.{type_again}
 
 -- ---- types and cells

@@ -35,7 +35,8 @@ use Rattle.pipe_job.specs.ExprSpelling.{expr_spelling, ExprFits, named_spelling,
 use Rattle.pipe_job.specs.PlanSpelling.{how_spelling, coalesce_spelling, hint_spelling, pair_spelling, slice_spelling, function_spelling, node_spelling, NodeFits}
 use Rattle.pipe_job.specs.FrameSpelling.{column_spelling, ColumnFits, frame_spelling, FrameFits}
 use Rattle.pipe_job.specs.JobSpelling.{job_spelling, Spells}
-use Rattle.pipe_job.specs.Alike.{Alike, EachAlike, NamedAlike, NodeAlike, JobAlike, NamedIsFlat, NodeIsFlat}
+use Rattle.pipe_expr.specs.Alike.{Alike, EachAlike, NamedAlike}
+use Rattle.pipe_job.specs.Alike.{NodeAlike, JobAlike, NamedIsFlat, NodeIsFlat}
 use Rattle.pipe_job.proofs.OneExpr.{one_type, one_cell, one_expr, flat_expr, flat_exprs}
 use Rattle.pipe_job.specs.declared.jobs.Job.{Job}
 
