@@ -5,6 +5,7 @@ ghost use Rattle.pipe_frame.specs.Frame.{cell_of_row};
 ghost use Rattle.pipe_frame.specs.Schema.{place_of};
 ghost use Rattle.pipe_expr.specs.Projections.{known_type};
 ghost use Rattle.pipe_expr.specs.Types.{type_of, type_of_column};
+ghost use Rattle.pipe_expr.specs.Typing.{IsTyped};
 ghost use Rattle.pipe_expr.specs.Values.{value_of};
 ghost use Rattle.pipe_expr.specs.Slots.{zip_with};
 ghost use Rattle.pipe_expr.specs.Operands.{operand_dtype, operand_cells, IsOperand};
@@ -77,7 +78,7 @@ fn operand_of<'a>(
     expr: &'a Expr,
     frame: &'a DataFrame,
 ) -> Result<Operand<'a>, AllocError>
-    requires typed { is_some (type_of expr.now frame.now.schema) ≡ true }
+    requires { IsTyped expr.now frame.now.schema }
     ensures { IfOk result (λ operand. IsValueOf expr.now frame.now operand) }
 {
     let rows = frame.height();
@@ -121,7 +122,7 @@ pub(crate) fn evaluate_expr(
     expr: &Expr,
     frame: &DataFrame,
 ) -> Result<Series, AllocError>
-    requires typed { is_some (type_of expr.now frame.now.schema) ≡ true }
+    requires { IsTyped expr.now frame.now.schema }
     ensures { IfOk result (λ s. s ≡ record { name = name; dtype = known_type (type_of expr.now frame.now.schema); cells = map (value_of expr.now frame.now.schema) frame.now.rows }) }
 {
     let operand = operand_of(alloc, expr, frame)?;

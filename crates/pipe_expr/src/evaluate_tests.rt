@@ -2,6 +2,7 @@
 
 use crate::evaluate::evaluate_expr;
 use crate::expr::Expr;
+use crate::typing::expr_type;
 use pipe_frame::{
     AnyValue, Column, DataFrame, DataType, FrameError, List, Series, StringColumn, Text,
 };
@@ -88,6 +89,9 @@ fn gives_ints(
     frame: &DataFrame,
     wanted: &[Option<i64>],
 ) -> Result<bool, AllocError> {
+    let Some(_) = expr_type(expr, frame.schema().fields()) else {
+        return Ok(false);
+    };
     let made = evaluate_expr(alloc, Text::new(alloc), expr, frame)?;
     let Some(column) = made.as_int64() else {
         return Ok(false);
@@ -110,6 +114,9 @@ fn gives(
     frame: &DataFrame,
     wanted: &[Option<bool>],
 ) -> Result<bool, AllocError> {
+    let Some(_) = expr_type(expr, frame.schema().fields()) else {
+        return Ok(false);
+    };
     let made = evaluate_expr(alloc, Text::new(alloc), expr, frame)?;
     let Some(column) = made.as_boolean() else {
         return Ok(false);

@@ -3,12 +3,12 @@ use Rattle.pipe_expr.proofs.ValueSteps.{literal_is_value, not_is_value, is_null_
 use Rattle.pipe_expr.proofs.evaluate.+operand_of.Goals as goal
 
 pub returns-in-Lit : goal.returns-in-Lit
-returns-in-Lit t c = rw c.in-Lit.is (literal_is_value c.in-Lit.dtype c.in-Lit.value c.args.frame.now _ refl (rw c.in-Lit.is at c.requires.typed))
+returns-in-Lit t c = rw c.in-Lit.is (literal_is_value c.in-Lit.dtype c.in-Lit.value c.args.frame.now _ refl (rw c.in-Lit.is at c.requires))
 
 pub returns-in_ok-negated-in-Not : goal.returns-in_ok-negated-in-Not
 returns-in_ok-negated-in-Not t c =
     let made = c.in_ok-negated-in-Not in
-    rw c.in-Not.is (not_is_value _ c.in-Not.inner.value c.args.frame.now c.in_ok-inner-in-Not.inner made.field-0 (rw c.deref.ensures at c.in_ok-inner-in-Not.ensures) (rw c.in-Not.is at c.requires.typed) made.ensures.dtype (rw c.height-rows.ensures at made.ensures.cells))
+    rw c.in-Not.is (not_is_value _ c.in-Not.inner.value c.args.frame.now c.in_ok-inner-in-Not.inner made.field-0 (rw c.deref.ensures at c.in_ok-inner-in-Not.ensures) (rw c.in-Not.is at c.requires) made.ensures.dtype (rw c.height-rows.ensures at made.ensures.cells))
 
 pub returns-in_ok-test_for_null-in-IsNull : goal.returns-in_ok-test_for_null-in-IsNull
 returns-in_ok-test_for_null-in-IsNull t c =
