@@ -9,3 +9,4 @@ pub mod DecodingLemmas
 pub mod ValueLemmas
 pub mod RowLemmas
 pub mod SortLaw
+pub mod FillingLemmas

@@ -12,3 +12,5 @@ pub mod Ordered
 pub mod Decoding
 -- a sort by the ordered encoding
 pub mod SortBytes
+-- rows that are filled column by column
+pub mod Filling

@@ -1,7 +1,7 @@
 //! Encoded rows: one buffer for the bytes of all rows, where each row ends, and one mark a row.
 
 ghost use Rattle.std.specs.Prelude.{◌≡◌, ◌<◌, [], ◌∷◌, ◌++◌, length, map, IfOk, OnOk, slice_index_or, slice_index, slice_range, false};
-ghost use Rattle.pipe_rows.specs.Encoded.{unmarked, start_at, IsAscending};
+ghost use Rattle.pipe_rows.specs.Encoded.{unmarked, start_at, cut_rows, IsAscending};
 
 use pipe_frame::Bytes;
 use std::alloc::{AllocError, Global};
@@ -67,6 +67,15 @@ impl RowsEncoded {
             ends: Vec::new(alloc),
             marks: Vec::new(alloc),
         }
+    }
+
+    /// The rows of a buffer that end at these places.
+    pub(crate) fn of_parts(bytes: Vec<u8>, ends: Vec<usize>, marks: Vec<bool>) -> RowsEncoded
+        requires marks { length marks.items ≡ length ends.items }
+        requires ascending { IsAscending 0 ends.items (length bytes.items) }
+        ensures { result ≡ cut_rows 0 ends.items marks.items bytes.items }
+    {
+        RowsEncoded { bytes, ends, marks }
     }
 
     /// How many rows there are.
@@ -150,14 +159,6 @@ impl RowWriter {
         ensures { OnOk result (self.new ≡ record self.old { open_bytes = self.old.open_bytes ++ bytes.now }) }
     {
         self.bytes.extend_from_slice(bytes)?;
-        Ok(())
-    }
-
-    /// Writes a byte of the open row.
-    pub(crate) fn push(&mut self, byte: u8) -> Result<(), AllocError>
-        ensures { OnOk result (self.new ≡ record self.old { open_bytes = self.old.open_bytes ++ byte ∷ [] }) }
-    {
-        self.bytes.push(byte)?;
         Ok(())
     }
 

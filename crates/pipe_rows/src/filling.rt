@@ -1,0 +1,102 @@
+//! Rows that are filled column by column in one buffer, each up to the width that it was given.
+
+ghost use Rattle.std.specs.Prelude.{◌≡◌, ◌<◌, ◌≤◌, ◌+◌, [], ◌∷◌, ◌++◌, length, map, IfOk, false, ℕ, slice_set, slice_index_or};
+ghost use Rattle.pipe_rows.specs.Filling.{slot_at, appended, patched, unwritten, HasRoom, AreFull};
+ghost use Rattle.pipe_rows.specs.Encoded.{unmarked};
+
+use crate::rows_encoded::RowsEncoded;
+use std::alloc::{AllocError, Global};
+use std::marker::Model;
+
+/// The byte before a value.
+const VALUE: u8 = 1;
+
+/// Writes bytes at a place of a buffer.
+fn put(buffer: &mut [u8], at: usize, bytes: &[u8])
+    requires { at + length bytes.now ≤ length buffer.old }
+    ensures { buffer.new ≡ patched buffer.old at bytes.now }
+{
+    buffer[at..at + bytes.len()].copy_from_slice(bytes);
+}
+
+/// Rows in the making, each with a part of the buffer that it will fill.
+#[derive(Drop)]
+pub(crate) struct RowFiller {
+    bytes: Vec<u8>,
+    ends: Vec<usize>,
+    cursors: Vec<usize>,
+}
+
+impl Model for RowFiller {
+    ghost use Rattle.std.specs.Prelude.{List, length};
+    ghost use Rattle.pipe_rows.specs.Filling.{Slot, slots_from, AreWithin};
+
+    ghost Value = { List Slot };
+
+    ghost view = { λ f. slots_from 0 f.cursors.items f.ends.items f.bytes.items };
+
+    ghost invariant = { λ f. AreWithin 0 f.cursors.items f.ends.items (length f.bytes.items) };
+}
+
+#[tactic(auto, using(crate::proofs::FillingLemmas::filling_rules))]
+impl RowFiller {
+    /// Rows of these widths, which have no byte yet. Their memory is taken at once.
+    pub(crate) fn new(alloc: Global, widths: &[usize]) -> Result<RowFiller, AllocError>
+        ensures { IfOk result (λ filler. filler ≡ map unwritten widths.now) }
+    {
+        let mut ends = Vec::with_capacity(alloc, widths.len())?;
+        let mut cursors = Vec::with_capacity(alloc, widths.len())?;
+        let mut end: usize = 0;
+        for width in widths {
+            let Some(next) = end.checked_add(*width) else {
+                return Err(AllocError);
+            };
+            cursors.push(end)?;
+            ends.push(next)?;
+            end = next;
+        }
+        let bytes = vec![in alloc; 0; end]?;
+        Ok(RowFiller {
+            bytes,
+            ends,
+            cursors,
+        })
+    }
+
+    /// Writes bytes at the end of what a row has.
+    pub(crate) fn append(&mut self, i: usize, bytes: &[u8])
+        requires inside { i < length self.old }
+        requires room { HasRoom bytes.now (slot_at self.old i) }
+        ensures { self.new ≡ slice_set self.old i (appended bytes.now (slot_at self.old i)) }
+    {
+        let start = self.cursors[i];
+        put(&mut self.bytes, start, bytes);
+        self.cursors[i] = start + bytes.len();
+    }
+
+    /// Writes the mark of a value and its bytes at the end of what a row has.
+    pub(crate) fn append_value(&mut self, i: usize, bytes: &[u8])
+        requires inside { i < length self.old }
+        requires room { HasRoom (1 ∷ bytes.now) (slot_at self.old i) }
+        ensures { self.new ≡ slice_set self.old i (appended (1 ∷ bytes.now) (slot_at self.old i)) }
+    {
+        self.append(i, &[VALUE]);
+        self.append(i, bytes);
+    }
+
+    /// The rows, each with its mark.
+    pub(crate) fn finish(self, marks: Vec<bool>) -> RowsEncoded
+        requires full { AreFull self }
+        requires marks { length marks.items ≡ length self }
+        ensures count { length result ≡ length self }
+        ensures rows { (i : ℕ) → i < length self → slice_index_or result i (unmarked []) ≡ record { bytes = (slot_at self i).written; has_null = slice_index_or marks.items i false } }
+    {
+        let RowFiller {
+            bytes,
+            ends,
+            cursors,
+        } = self;
+        drop(cursors);
+        RowsEncoded::of_parts(bytes, ends, marks)
+    }
+}
