@@ -85,46 +85,69 @@ fn assert_ordered(rt: &impl Abort, alloc: Global, column: &Series) -> Result<(),
 }
 
 #[test]
-fn orders_the_edges_of_each_type(rt: HostRuntime) -> Result<(), Fail> {
+fn orders_numbers_of_64_bits(rt: HostRuntime) -> Result<(), Fail> {
     let alloc = rt.alloc();
-    assert_ordered(
-        &rt,
-        alloc,
-        &numbers(alloc, &[i64::MIN, -256, -1, 0, 1, 255, 256, i64::MAX])?,
-    )?;
+    let column = numbers(alloc, &[i64::MIN, -256, -1, 0, 1, 255, 256, i64::MAX])?;
+    assert_ordered(&rt, alloc, &column)?;
+    Ok(())
+}
+
+#[test]
+fn orders_numbers_of_32_bits(rt: HostRuntime) -> Result<(), Fail> {
+    let alloc = rt.alloc();
     let column = values(alloc, 0, &[i32::MIN, -256, -1, 0, 1, 255, 256, i32::MAX])?;
     assert_ordered(&rt, alloc, &Series::from_int32(Text::new(alloc), column))?;
+    Ok(())
+}
+
+#[test]
+fn orders_numbers_of_32_bits_without_sign(rt: HostRuntime) -> Result<(), Fail> {
+    let alloc = rt.alloc();
     let column = values(alloc, 0, &[0, 1, 255, 256, u32::MAX])?;
     assert_ordered(&rt, alloc, &Series::from_uint32(Text::new(alloc), column))?;
+    Ok(())
+}
+
+#[test]
+fn orders_numbers_of_64_bits_without_sign(rt: HostRuntime) -> Result<(), Fail> {
+    let alloc = rt.alloc();
     let column = values(alloc, 0, &[0, 1, 255, 256, u64::MAX])?;
     assert_ordered(&rt, alloc, &Series::from_uint64(Text::new(alloc), column))?;
+    Ok(())
+}
+
+#[test]
+fn orders_truth_values(rt: HostRuntime) -> Result<(), Fail> {
+    let alloc = rt.alloc();
     let column = values(alloc, false, &[false, true])?;
     assert_ordered(&rt, alloc, &Series::from_boolean(Text::new(alloc), column))?;
-    assert_ordered(
-        &rt,
-        alloc,
-        &texts(
-            alloc,
-            &["", "\0", "\0\0", "\0a", "a", "a\0", "a\0b", "aa", "\u{ff}"],
-        )?,
-    )?;
-    assert_ordered(
-        &rt,
-        alloc,
-        &binaries(
-            alloc,
-            &[
-                &[],
-                &[0],
-                &[0, 0],
-                &[0, 255],
-                &[1],
-                &[255],
-                &[255, 0],
-                &[255, 255],
-            ],
-        )?,
-    )?;
+    Ok(())
+}
+
+#[test]
+fn orders_texts(rt: HostRuntime) -> Result<(), Fail> {
+    let alloc = rt.alloc();
+    let ascending = ["", "\0", "\0\0", "\0a", "a", "a\0", "a\0b", "aa", "\u{ff}"];
+    let column = texts(alloc, &ascending)?;
+    assert_ordered(&rt, alloc, &column)?;
+    Ok(())
+}
+
+#[test]
+fn orders_byte_strings(rt: HostRuntime) -> Result<(), Fail> {
+    let alloc = rt.alloc();
+    let ascending: [&[u8]; 8] = [
+        &[],
+        &[0],
+        &[0, 0],
+        &[0, 255],
+        &[1],
+        &[255],
+        &[255, 0],
+        &[255, 255],
+    ];
+    let column = binaries(alloc, &ascending)?;
+    assert_ordered(&rt, alloc, &column)?;
     Ok(())
 }
 
@@ -136,13 +159,50 @@ fn assert_row(rt: &impl Abort, rows: &RowsEncoded, i: usize, want: &[u8], has_nu
 }
 
 #[test]
-fn encodes_cells_for_equality(rt: HostRuntime) -> Result<(), Fail> {
+fn encodes_numbers_for_equality(rt: HostRuntime) -> Result<(), Fail> {
     let alloc = rt.alloc();
-    let rows = convert_columns_no_order(alloc, slice::from_ref(&numbers(alloc, &[1])?))?;
+    let column = numbers(alloc, &[1])?;
+    let rows = convert_columns_no_order(alloc, slice::from_ref(&column))?;
     assert_row(&rt, &rows, 0, &[0], true);
     assert_row(&rt, &rows, 1, &[1, 1, 0, 0, 0, 0, 0, 0, 0], false);
-    let rows = convert_columns_no_order(alloc, slice::from_ref(&texts(alloc, &["a"])?))?;
+    Ok(())
+}
+
+#[test]
+fn encodes_texts_for_equality(rt: HostRuntime) -> Result<(), Fail> {
+    let alloc = rt.alloc();
+    let column = texts(alloc, &["a"])?;
+    let rows = convert_columns_no_order(alloc, slice::from_ref(&column))?;
     assert_row(&rt, &rows, 1, &[1, 1, 0, 0, 0, 0, 0, 0, 0, 0x61], false);
+    Ok(())
+}
+
+/// A column of null and 1, and one of null and a.
+fn pair(alloc: Global) -> Result<[Series; 2], AllocError> {
+    Ok([numbers(alloc, &[1])?, texts(alloc, &["a"])?])
+}
+
+#[test]
+fn encodes_rows_of_two_columns_for_equality(rt: HostRuntime) -> Result<(), Fail> {
+    let alloc = rt.alloc();
+    let columns = pair(alloc)?;
+    assert!(rt; columns[0].len() == columns[1].len());
+    let rows = convert_columns_no_order(alloc, &columns)?;
+    assert_row(&rt, &rows, 0, &[0, 0], true);
+    let want = [1, 1, 0, 0, 0, 0, 0, 0, 0, 1, 1, 0, 0, 0, 0, 0, 0, 0, 0x61];
+    assert_row(&rt, &rows, 1, &want, false);
+    Ok(())
+}
+
+#[test]
+fn encodes_rows_of_two_columns_for_order(rt: HostRuntime) -> Result<(), Fail> {
+    let alloc = rt.alloc();
+    let columns = pair(alloc)?;
+    assert!(rt; columns[0].len() == columns[1].len());
+    let rows = convert_columns(alloc, &columns, &[field(false, false), field(true, true)])?;
+    assert_row(&rt, &rows, 0, &[0, 0xff], true);
+    let want = [1, 0x80, 0, 0, 0, 0, 0, 0, 1, 1, 0x9e, 0xff, 0xff];
+    assert_row(&rt, &rows, 1, &want, false);
     Ok(())
 }
 
@@ -164,14 +224,19 @@ fn assert_decoded(
     Ok(())
 }
 
+/// The ordered encoding of one column.
+fn ordered(alloc: Global, column: &Series, field: SortField) -> Result<RowsEncoded, AllocError> {
+    convert_columns(alloc, slice::from_ref(column), &[field])
+}
+
 #[test]
-fn encodes_cells_for_order_and_back(rt: HostRuntime) -> Result<(), Fail> {
+fn encodes_ascending_numbers_and_back(rt: HostRuntime) -> Result<(), Fail> {
     let alloc = rt.alloc();
-    let cells = [AnyValue::Null, AnyValue::Int64(1)];
     let column = numbers(alloc, &[1])?;
-    let rows = convert_columns(alloc, slice::from_ref(&column), &[field(false, false)])?;
+    let rows = ordered(alloc, &column, field(false, false))?;
     assert_row(&rt, &rows, 0, &[0], true);
     assert_row(&rt, &rows, 1, &[1, 0x80, 0, 0, 0, 0, 0, 0, 1], false);
+    let cells = [AnyValue::Null, AnyValue::Int64(1)];
     assert_decoded(
         &rt,
         alloc,
@@ -180,15 +245,18 @@ fn encodes_cells_for_order_and_back(rt: HostRuntime) -> Result<(), Fail> {
         field(false, false),
         &cells,
     )?;
-    let rows = convert_columns(alloc, slice::from_ref(&column), &[field(true, true)])?;
+    Ok(())
+}
+
+#[test]
+fn encodes_descending_numbers_and_back(rt: HostRuntime) -> Result<(), Fail> {
+    let alloc = rt.alloc();
+    let column = numbers(alloc, &[1])?;
+    let rows = ordered(alloc, &column, field(true, true))?;
     assert_row(&rt, &rows, 0, &[0xff], true);
-    assert_row(
-        &rt,
-        &rows,
-        1,
-        &[1, 0x7f, 0xff, 0xff, 0xff, 0xff, 0xff, 0xff, 0xfe],
-        false,
-    );
+    let want = [1, 0x7f, 0xff, 0xff, 0xff, 0xff, 0xff, 0xff, 0xfe];
+    assert_row(&rt, &rows, 1, &want, false);
+    let cells = [AnyValue::Null, AnyValue::Int64(1)];
     assert_decoded(
         &rt,
         alloc,
@@ -197,15 +265,28 @@ fn encodes_cells_for_order_and_back(rt: HostRuntime) -> Result<(), Fail> {
         field(true, true),
         &cells,
     )?;
-    let column = texts(alloc, &["a", "a\0"])?;
-    let cells = [
+    Ok(())
+}
+
+/// The cells null, a, and a with a zero byte behind it.
+fn text_cells(alloc: Global) -> Result<[AnyValue; 3], AllocError> {
+    let a = Text::from_str(alloc, "a")?;
+    let longer = Text::from_str(alloc, "a\0")?;
+    Ok([
         AnyValue::Null,
-        AnyValue::String(Text::from_str(alloc, "a")?),
-        AnyValue::String(Text::from_str(alloc, "a\0")?),
-    ];
-    let rows = convert_columns(alloc, slice::from_ref(&column), &[field(false, false)])?;
+        AnyValue::String(a),
+        AnyValue::String(longer),
+    ])
+}
+
+#[test]
+fn encodes_ascending_texts_and_back(rt: HostRuntime) -> Result<(), Fail> {
+    let alloc = rt.alloc();
+    let column = texts(alloc, &["a", "a\0"])?;
+    let rows = ordered(alloc, &column, field(false, false))?;
     assert_row(&rt, &rows, 1, &[1, 0x61, 0, 0], false);
     assert_row(&rt, &rows, 2, &[1, 0x61, 0, 0xff, 0, 0], false);
+    let cells = text_cells(alloc)?;
     assert_decoded(
         &rt,
         alloc,
@@ -214,8 +295,16 @@ fn encodes_cells_for_order_and_back(rt: HostRuntime) -> Result<(), Fail> {
         field(false, false),
         &cells,
     )?;
-    let rows = convert_columns(alloc, slice::from_ref(&column), &[field(true, false)])?;
+    Ok(())
+}
+
+#[test]
+fn encodes_descending_texts_and_back(rt: HostRuntime) -> Result<(), Fail> {
+    let alloc = rt.alloc();
+    let column = texts(alloc, &["a", "a\0"])?;
+    let rows = ordered(alloc, &column, field(true, false))?;
     assert_row(&rt, &rows, 1, &[1, 0x9e, 0xff, 0xff], false);
+    let cells = text_cells(alloc)?;
     assert_decoded(
         &rt,
         alloc,
