@@ -1,0 +1,4 @@
+pub mod KeyNames
+pub mod Walks
+pub mod FrameRows
+pub mod Ranges

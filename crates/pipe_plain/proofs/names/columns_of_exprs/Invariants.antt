@@ -1,0 +1,7 @@
+use Rattle.std.proofs.Common.{◌≡◌, take}
+use Rattle.std.specs.List.{flat_map}
+use Rattle.pipe_expr.specs.Types.{columns_in}
+use Rattle.pipe_plain.proofs.names.columns_of_exprs.Given as goal
+
+abbrev pub invariant-loop-expr : goal.invariant-loop-expr
+invariant-loop-expr l = l.names ≡ flat_map columns_in (take l.expr-index l.exprs)

@@ -1,0 +1,6 @@
+use Rattle.std.proofs.Common.{◌≡◌, map, take}
+use Rattle.pipe_expr.specs.Projections.{expr_name}
+use Rattle.pipe_plain.proofs.names.expr_names.Given as goal
+
+abbrev pub invariant-loop-expr : goal.invariant-loop-expr
+invariant-loop-expr l = l.names ≡ map expr_name (take l.expr-index l.exprs)

@@ -1,0 +1,6 @@
+use Rattle.std.proofs.Common.{◌≡◌, drop}
+use Rattle.pipe_expr.specs.Types.{first_unknown}
+use Rattle.pipe_plain.proofs.names.first_missing.Given as goal
+
+abbrev pub invariant-loop-name : goal.invariant-loop-name
+invariant-loop-name l = first_unknown l.schema (drop l.name-index l.names) ≡ first_unknown l.schema l.names

@@ -1,0 +1,17 @@
+use Rattle.std.proofs.Common.{◌∙◌, []}
+use Rattle.std.proofs.lemmas.List.{get_or_default}
+use Rattle.pipe_plan.specs.declared.ir.IR.TheVariants.{Union}
+use Rattle.pipe_plain.proofs.Walks.{schemas-more, rows-more}
+use Rattle.pipe_plain.proofs.plan.plan_rows.Goals as goal
+
+pub loop-node-preserved : goal.loop-node-preserved
+loop-node-preserved c =
+    let nodes = c.as_slice-node-items.ensures in
+    let within = rw nodes at c.loop-node-test.true in
+    let node = (rw nodes at c.node-item.is) ∙ get_or_default c.args.arena.now.nodes c.loop-node.node-index c.node-item.result (Union []) within in
+    let rows = rw (c.as_slice-frames.ensures, c.as_slice.ensures, c.as_slice-in-loop-node.ensures) at c.in_ok-rows.ensures in
+    let fields = rw (c.as_slice-frames.ensures, c.as_slice-in-loop-node-2.ensures) at c.in_ok-fields.ensures in
+    record {
+      schemas = c.in_ok-push-2.ensures.ok ∙ schemas-more c.args.arena.now c.loop-node.node-index c.loop-node.schemas c.node-item.result c.in_ok-fields.fields c.loop-node.invariant.schemas node fields;
+      tables = c.in_ok-push.ensures.ok ∙ rows-more c.args.arena.now c.loop-node.node-index c.loop-node.schemas c.loop-node.tables c.node-item.result c.in_ok-rows.rows c.loop-node.invariant.schemas c.loop-node.invariant.tables node rows;
+    }

@@ -1,0 +1,6 @@
+use Rattle.std.proofs.Common.{◌≡◌, drop}
+use Rattle.pipe_expr.specs.Projections.{expr_named}
+use Rattle.pipe_plain.proofs.projections.first_under.Given as goal
+
+abbrev pub invariant-loop-expr : goal.invariant-loop-expr
+invariant-loop-expr l = expr_named (drop l.expr-index l.exprs) l.name ≡ expr_named l.exprs l.name

@@ -1,0 +1,190 @@
+//! The value of an expression at a row.
+
+ghost use Rattle.std.specs.Prelude.{◌≡◌, IfOk};
+ghost use Rattle.pipe_frame.specs.Schema.{place_of};
+ghost use Rattle.pipe_expr.specs.Values.{named_cell, sum_of, difference_of, product_of, both_of, either_of, opposite_of, is_missing, is_present, value_of};
+
+use crate::comparison::Comparison;
+use pipe_expr::Expr;
+use pipe_frame::{AnyValue, Field, Text, TryClone};
+use std::alloc::AllocError;
+
+/// The sum of two numbers of one type, null where a side is null.
+fn sum(a: &AnyValue, b: &AnyValue) -> AnyValue
+    ensures { result ≡ sum_of a.now b.now }
+{
+    match (a, b) {
+        (AnyValue::Int32(a), AnyValue::Int32(b)) => AnyValue::Int32(a.wrapping_add(*b)),
+        (AnyValue::Int64(a), AnyValue::Int64(b)) => AnyValue::Int64(a.wrapping_add(*b)),
+        (AnyValue::UInt32(a), AnyValue::UInt32(b)) => AnyValue::UInt32(a.wrapping_add(*b)),
+        (AnyValue::UInt64(a), AnyValue::UInt64(b)) => AnyValue::UInt64(a.wrapping_add(*b)),
+        _ => AnyValue::Null,
+    }
+}
+
+/// The difference of two numbers of one type, null where a side is null.
+fn difference(a: &AnyValue, b: &AnyValue) -> AnyValue
+    ensures { result ≡ difference_of a.now b.now }
+{
+    match (a, b) {
+        (AnyValue::Int32(a), AnyValue::Int32(b)) => AnyValue::Int32(a.wrapping_sub(*b)),
+        (AnyValue::Int64(a), AnyValue::Int64(b)) => AnyValue::Int64(a.wrapping_sub(*b)),
+        (AnyValue::UInt32(a), AnyValue::UInt32(b)) => AnyValue::UInt32(a.wrapping_sub(*b)),
+        (AnyValue::UInt64(a), AnyValue::UInt64(b)) => AnyValue::UInt64(a.wrapping_sub(*b)),
+        _ => AnyValue::Null,
+    }
+}
+
+/// The product of two numbers of one type, null where a side is null.
+fn product(a: &AnyValue, b: &AnyValue) -> AnyValue
+    ensures { result ≡ product_of a.now b.now }
+{
+    match (a, b) {
+        (AnyValue::Int32(a), AnyValue::Int32(b)) => AnyValue::Int32(a.wrapping_mul(*b)),
+        (AnyValue::Int64(a), AnyValue::Int64(b)) => AnyValue::Int64(a.wrapping_mul(*b)),
+        (AnyValue::UInt32(a), AnyValue::UInt32(b)) => AnyValue::UInt32(a.wrapping_mul(*b)),
+        (AnyValue::UInt64(a), AnyValue::UInt64(b)) => AnyValue::UInt64(a.wrapping_mul(*b)),
+        _ => AnyValue::Null,
+    }
+}
+
+/// False if a side is false, else null if a side is null.
+fn both(a: &AnyValue, b: &AnyValue) -> AnyValue
+    ensures { result ≡ both_of a.now b.now }
+{
+    match (a, b) {
+        (AnyValue::Boolean(false), _) | (_, AnyValue::Boolean(false)) => AnyValue::Boolean(false),
+        (AnyValue::Boolean(true), AnyValue::Boolean(true)) => AnyValue::Boolean(true),
+        _ => AnyValue::Null,
+    }
+}
+
+/// True if a side is true, else null if a side is null.
+fn either(a: &AnyValue, b: &AnyValue) -> AnyValue
+    ensures { result ≡ either_of a.now b.now }
+{
+    match (a, b) {
+        (AnyValue::Boolean(true), _) | (_, AnyValue::Boolean(true)) => AnyValue::Boolean(true),
+        (AnyValue::Boolean(false), AnyValue::Boolean(false)) => AnyValue::Boolean(false),
+        _ => AnyValue::Null,
+    }
+}
+
+/// The other truth value, null of null.
+fn opposite(a: &AnyValue) -> AnyValue
+    ensures { result ≡ opposite_of a.now }
+{
+    match a {
+        AnyValue::Boolean(holds) => AnyValue::Boolean(!*holds),
+        _ => AnyValue::Null,
+    }
+}
+
+/// Whether a cell is null.
+fn missing(a: &AnyValue) -> AnyValue
+    ensures { result ≡ is_missing a.now }
+{
+    match a {
+        AnyValue::Null => AnyValue::Boolean(true),
+        _ => AnyValue::Boolean(false),
+    }
+}
+
+/// Whether a cell isn't null.
+fn present(a: &AnyValue) -> AnyValue
+    ensures { result ≡ is_present a.now }
+{
+    match a {
+        AnyValue::Null => AnyValue::Boolean(false),
+        _ => AnyValue::Boolean(true),
+    }
+}
+
+/// Where the first field of a name stands.
+pub(crate) fn place(schema: &[Field], name: &Text) -> Option<usize>
+    ensures { result ≡ place_of name.now schema.now }
+{
+    for (i, field) in schema.iter().enumerate() {
+        if field.name.is_same(name) {
+            return Some(i);
+        }
+    }
+    None
+}
+
+/// The cell of a row under the first column of a name, null where there is none.
+pub(crate) fn cell_named(
+    schema: &[Field],
+    row: &[AnyValue],
+    name: &Text,
+) -> Result<AnyValue, AllocError>
+    ensures { IfOk result (λ cell. cell ≡ named_cell schema.now row.now name.now) }
+{
+    match place(schema, name) {
+        Some(i) => {
+            if i < row.len() {
+                row[i].try_clone()
+            } else {
+                Ok(AnyValue::Null)
+            }
+        }
+        None => Ok(AnyValue::Null),
+    }
+}
+
+/// The value of an expression at a row.
+pub fn value_at(expr: &Expr, schema: &[Field], row: &[AnyValue]) -> Result<AnyValue, AllocError>
+    ensures { IfOk result (λ cell. cell ≡ value_of expr.now schema.now row.now) }
+{
+    match expr {
+        Expr::Col(name) => cell_named(schema, row, name),
+        Expr::Lit { dtype: _, value } => value.try_clone(),
+        Expr::Add(left, right) => Ok(sum(
+            &value_at(left, schema, row)?,
+            &value_at(right, schema, row)?,
+        )),
+        Expr::Sub(left, right) => Ok(difference(
+            &value_at(left, schema, row)?,
+            &value_at(right, schema, row)?,
+        )),
+        Expr::Mul(left, right) => Ok(product(
+            &value_at(left, schema, row)?,
+            &value_at(right, schema, row)?,
+        )),
+        Expr::Eq(left, right) => Ok(Comparison::Eq.of(
+            &value_at(left, schema, row)?,
+            &value_at(right, schema, row)?,
+        )),
+        Expr::NotEq(left, right) => Ok(Comparison::NotEq.of(
+            &value_at(left, schema, row)?,
+            &value_at(right, schema, row)?,
+        )),
+        Expr::Lt(left, right) => Ok(Comparison::Lt.of(
+            &value_at(left, schema, row)?,
+            &value_at(right, schema, row)?,
+        )),
+        Expr::LtEq(left, right) => Ok(Comparison::LtEq.of(
+            &value_at(left, schema, row)?,
+            &value_at(right, schema, row)?,
+        )),
+        Expr::Gt(left, right) => Ok(Comparison::Gt.of(
+            &value_at(left, schema, row)?,
+            &value_at(right, schema, row)?,
+        )),
+        Expr::GtEq(left, right) => Ok(Comparison::GtEq.of(
+            &value_at(left, schema, row)?,
+            &value_at(right, schema, row)?,
+        )),
+        Expr::And(left, right) => Ok(both(
+            &value_at(left, schema, row)?,
+            &value_at(right, schema, row)?,
+        )),
+        Expr::Or(left, right) => Ok(either(
+            &value_at(left, schema, row)?,
+            &value_at(right, schema, row)?,
+        )),
+        Expr::Not(inner) => Ok(opposite(&value_at(inner, schema, row)?)),
+        Expr::IsNull(inner) => Ok(missing(&value_at(inner, schema, row)?)),
+        Expr::IsNotNull(inner) => Ok(present(&value_at(inner, schema, row)?)),
+    }
+}
