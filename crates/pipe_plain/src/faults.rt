@@ -3,6 +3,7 @@
 ghost use Rattle.std.specs.Prelude.{◌≡◌, ◌==◌, ◌&&◌, ◌||◌, ◌<◌, ◌^◌, ◌++◌, ◌∷◌, [], None, length, not, if◌then◌else◌, IfOk, OnOk};
 ghost use Rattle.std.specs.List.{list_any, list_all, range_with_len};
 ghost use Rattle.std.specs.Cmp.Lexicographic.{pointwise};
+ghost use Rattle.pipe_frame.specs.Cell.{eq_dtype};
 ghost use Rattle.pipe_expr.specs.Joins.{column_names};
 ghost use Rattle.pipe_expr.specs.Types.{type_of_column};
 ghost use Rattle.pipe_plan.specs.Under.{node_at, is_under};
@@ -15,14 +16,20 @@ use crate::bad_node::{is_bad, is_none_there};
 use crate::joins::is_coalesced;
 use crate::names::{duplicate, repeated_name, unknown};
 use crate::plan::{fields_at, fields_of_node};
-use crate::typing::{column_type, expr_type, is_same_type};
 use crate::under::is_below;
-use pipe_expr::{Expr, FunctionIR, JoinType, NamedExpr};
+use pipe_expr::{Expr, FunctionIR, JoinType, NamedExpr, column_type, expr_type};
 use pipe_frame::{DataType, Field, List, Text, TryClone};
 use pipe_plan::{Arena, IR, JoinOptions, PipeError, PlanSlice, SortOptions};
 use std::alloc::{AllocError, Global};
 
 // ---- types
+
+/// Whether two types are the same.
+fn is_same_type(a: DataType, b: DataType) -> bool
+    ensures { result ≡ eq_dtype a b }
+{
+    a == b
+}
 
 /// Whether two types are there and the same.
 fn are_same_types(a: Option<DataType>, b: Option<DataType>) -> bool
@@ -237,7 +244,6 @@ fn push_column_name(names: &mut List<Text>, expr: &Expr) -> Result<(), AllocErro
 }
 
 /// The names of the plain columns among some expressions.
-
 fn plain_names(alloc: Global, exprs: &[Expr]) -> Result<List<Text>, AllocError>
     ensures { IfOk result (λ names. names ≡ column_names exprs.now) }
 {

@@ -1,25 +1,18 @@
 //! The plain program: what a plan's nodes give, computed by loops over lists straight from the definitions.
 //!
-//! The one contract used by tests: each answer is the definition's. Nothing here is fast, and no engine stands on it.
+//! The one contract used above: each answer is the definition's. Nothing here is fast, and no engine stands on it.
 #![tactic(auto)]
 
 mod bad_node;
 mod comparison;
-#[cfg(test)]
-mod fault_tests;
 mod faults;
 mod joins;
 mod names;
 mod plan;
 mod projections;
-#[cfg(test)]
-mod row_tests;
 mod sorting;
-mod typing;
 mod under;
 mod values;
-#[cfg(test)]
-mod written;
 
 pub use faults::plan_fault;
 pub use plan::{plan_rows, plan_schemas, rows, schema};
