@@ -55,20 +55,18 @@ fn columns(alloc: Global, expr: &Expr) -> Result<List<Text>, AllocError>
     match expr {
         Expr::Col(name) => one_name(alloc, name),
         Expr::Lit { dtype: _, value: _ } => Ok(List::new(alloc)),
-        Expr::Add(left, right) => Ok(joined(columns(alloc, left)?, columns(alloc, right)?)?),
-        Expr::Sub(left, right) => Ok(joined(columns(alloc, left)?, columns(alloc, right)?)?),
-        Expr::Mul(left, right) => Ok(joined(columns(alloc, left)?, columns(alloc, right)?)?),
-        Expr::Eq(left, right) => Ok(joined(columns(alloc, left)?, columns(alloc, right)?)?),
-        Expr::NotEq(left, right) => Ok(joined(columns(alloc, left)?, columns(alloc, right)?)?),
-        Expr::Lt(left, right) => Ok(joined(columns(alloc, left)?, columns(alloc, right)?)?),
-        Expr::LtEq(left, right) => Ok(joined(columns(alloc, left)?, columns(alloc, right)?)?),
-        Expr::Gt(left, right) => Ok(joined(columns(alloc, left)?, columns(alloc, right)?)?),
-        Expr::GtEq(left, right) => Ok(joined(columns(alloc, left)?, columns(alloc, right)?)?),
-        Expr::And(left, right) => Ok(joined(columns(alloc, left)?, columns(alloc, right)?)?),
-        Expr::Or(left, right) => Ok(joined(columns(alloc, left)?, columns(alloc, right)?)?),
-        Expr::Not(inner) => columns(alloc, inner),
-        Expr::IsNull(inner) => columns(alloc, inner),
-        Expr::IsNotNull(inner) => columns(alloc, inner),
+        Expr::Add(left, right)
+        | Expr::Sub(left, right)
+        | Expr::Mul(left, right)
+        | Expr::Eq(left, right)
+        | Expr::NotEq(left, right)
+        | Expr::Lt(left, right)
+        | Expr::LtEq(left, right)
+        | Expr::Gt(left, right)
+        | Expr::GtEq(left, right)
+        | Expr::And(left, right)
+        | Expr::Or(left, right) => Ok(joined(columns(alloc, left)?, columns(alloc, right)?)?),
+        Expr::Not(inner) | Expr::IsNull(inner) | Expr::IsNotNull(inner) => columns(alloc, inner),
     }
 }
 

@@ -2,7 +2,7 @@
 
 ghost use Rattle.std.specs.Prelude.{◌≡◌, ◌++◌, [], ℕ, length, slice_index_or, map, IfOk, OnOk};
 ghost use Rattle.std.specs.List.{flat_map};
-ghost use Rattle.pipe_expr.specs.Projections.{row_named, select_row, hstack_row, function_rows};
+ghost use Rattle.pipe_expr.specs.Projections.{row_named, select_row, hstack_row};
 ghost use Rattle.pipe_plan.specs.Schemas.{frame_at, scan_fields, union_fields, node_schema, schema_at, schema_of};
 ghost use Rattle.pipe_plan.specs.PlanRows.{scan_rows, node_rows, rows_at};
 ghost use Rattle.pipe_plan.specs.PlanRows.{rows_of as rows_of_plan};
@@ -10,11 +10,11 @@ ghost use Rattle.pipe_plain.specs.Tables.{table, at_place};
 
 use crate::joins::{Sides, copied_fields, joined_fields, joined_rows};
 use crate::projections::{
-    fields_of_function, filtered, named_fields, named_row, push_function_rows, selected_fields,
+    fields_of_function, filtered, named_fields, named_row, rows_of_function, selected_fields,
     selected_row, stacked_fields, stacked_row,
 };
 use crate::sorting::{copied_rows, kept_slice, sorted_rows};
-use pipe_expr::{FunctionIR, NamedExpr};
+use pipe_expr::NamedExpr;
 use pipe_frame::{DataFrame, Field, List, Row, Text, TryClone};
 use pipe_plan::{Arena, IR};
 use std::alloc::{AllocError, Global};
@@ -254,22 +254,6 @@ fn stacked_rows(
     let mut made = List::new(alloc);
     for row in rows {
         made.push(stacked_row(alloc, schema, exprs, row.as_slice())?)?;
-    }
-    Ok(made)
-}
-
-/// What a function makes of each row, in turn.
-fn rows_of_function(
-    alloc: Global,
-    function: &FunctionIR,
-    schema: &[Field],
-    rows: &[Row],
-) -> Result<List<Row>, AllocError>
-    ensures { IfOk result (λ made. made ≡ flat_map (function_rows function.now schema.now) rows.now) }
-{
-    let mut made = List::new(alloc);
-    for row in rows {
-        push_function_rows(&mut made, alloc, function, schema, row)?;
     }
     Ok(made)
 }

@@ -3,6 +3,7 @@
 ghost use Rattle.std.specs.Prelude.{◌≡◌, IfOk};
 ghost use Rattle.pipe_frame.specs.Schema.{place_of};
 ghost use Rattle.pipe_expr.specs.Values.{named_cell, sum_of, difference_of, product_of, both_of, either_of, opposite_of, is_missing, is_present, value_of};
+ghost use Rattle.pipe_plain.specs.Operands.{operated};
 
 use crate::comparison::Comparison;
 use pipe_expr::Expr;
@@ -132,6 +133,26 @@ pub(crate) fn cell_named(
     }
 }
 
+/// What an expression makes of the values of its two operands, null where it hasn't two.
+fn of_operands(expr: &Expr, a: &AnyValue, b: &AnyValue) -> AnyValue
+    ensures { result ≡ operated expr.now a.now b.now }
+{
+    match expr {
+        Expr::Add(_, _) => sum(a, b),
+        Expr::Sub(_, _) => difference(a, b),
+        Expr::Mul(_, _) => product(a, b),
+        Expr::Eq(_, _) => Comparison::Eq.of(a, b),
+        Expr::NotEq(_, _) => Comparison::NotEq.of(a, b),
+        Expr::Lt(_, _) => Comparison::Lt.of(a, b),
+        Expr::LtEq(_, _) => Comparison::LtEq.of(a, b),
+        Expr::Gt(_, _) => Comparison::Gt.of(a, b),
+        Expr::GtEq(_, _) => Comparison::GtEq.of(a, b),
+        Expr::And(_, _) => both(a, b),
+        Expr::Or(_, _) => either(a, b),
+        _ => AnyValue::Null,
+    }
+}
+
 /// The value of an expression at a row.
 pub fn value_at(expr: &Expr, schema: &[Field], row: &[AnyValue]) -> Result<AnyValue, AllocError>
     ensures { IfOk result (λ cell. cell ≡ value_of expr.now schema.now row.now) }
@@ -139,50 +160,21 @@ pub fn value_at(expr: &Expr, schema: &[Field], row: &[AnyValue]) -> Result<AnyVa
     match expr {
         Expr::Col(name) => cell_named(schema, row, name),
         Expr::Lit { dtype: _, value } => value.try_clone(),
-        Expr::Add(left, right) => Ok(sum(
-            &value_at(left, schema, row)?,
-            &value_at(right, schema, row)?,
-        )),
-        Expr::Sub(left, right) => Ok(difference(
-            &value_at(left, schema, row)?,
-            &value_at(right, schema, row)?,
-        )),
-        Expr::Mul(left, right) => Ok(product(
-            &value_at(left, schema, row)?,
-            &value_at(right, schema, row)?,
-        )),
-        Expr::Eq(left, right) => Ok(Comparison::Eq.of(
-            &value_at(left, schema, row)?,
-            &value_at(right, schema, row)?,
-        )),
-        Expr::NotEq(left, right) => Ok(Comparison::NotEq.of(
-            &value_at(left, schema, row)?,
-            &value_at(right, schema, row)?,
-        )),
-        Expr::Lt(left, right) => Ok(Comparison::Lt.of(
-            &value_at(left, schema, row)?,
-            &value_at(right, schema, row)?,
-        )),
-        Expr::LtEq(left, right) => Ok(Comparison::LtEq.of(
-            &value_at(left, schema, row)?,
-            &value_at(right, schema, row)?,
-        )),
-        Expr::Gt(left, right) => Ok(Comparison::Gt.of(
-            &value_at(left, schema, row)?,
-            &value_at(right, schema, row)?,
-        )),
-        Expr::GtEq(left, right) => Ok(Comparison::GtEq.of(
-            &value_at(left, schema, row)?,
-            &value_at(right, schema, row)?,
-        )),
-        Expr::And(left, right) => Ok(both(
-            &value_at(left, schema, row)?,
-            &value_at(right, schema, row)?,
-        )),
-        Expr::Or(left, right) => Ok(either(
-            &value_at(left, schema, row)?,
-            &value_at(right, schema, row)?,
-        )),
+        Expr::Add(left, right)
+        | Expr::Sub(left, right)
+        | Expr::Mul(left, right)
+        | Expr::Eq(left, right)
+        | Expr::NotEq(left, right)
+        | Expr::Lt(left, right)
+        | Expr::LtEq(left, right)
+        | Expr::Gt(left, right)
+        | Expr::GtEq(left, right)
+        | Expr::And(left, right)
+        | Expr::Or(left, right) => {
+            let a = value_at(left, schema, row)?;
+            let b = value_at(right, schema, row)?;
+            Ok(of_operands(expr, &a, &b))
+        }
         Expr::Not(inner) => Ok(opposite(&value_at(inner, schema, row)?)),
         Expr::IsNull(inner) => Ok(missing(&value_at(inner, schema, row)?)),
         Expr::IsNotNull(inner) => Ok(present(&value_at(inner, schema, row)?)),
