@@ -58,17 +58,6 @@ fn between<'a>(bytes: &'a [u8], ends: &[usize], i: usize) -> &'a [u8]
 
 #[tactic(auto, using(crate::proofs::EncodedLemmas::cut_rules))]
 impl RowsEncoded {
-    /// No rows, which take no memory.
-    pub(crate) fn new(alloc: Global) -> RowsEncoded
-        ensures { result ≡ [] }
-    {
-        RowsEncoded {
-            bytes: Vec::new(alloc),
-            ends: Vec::new(alloc),
-            marks: Vec::new(alloc),
-        }
-    }
-
     /// The rows of a buffer that end at these places.
     pub(crate) fn of_parts(bytes: Vec<u8>, ends: Vec<usize>, marks: Vec<bool>) -> RowsEncoded
         requires marks { length marks.items ≡ length ends.items }
