@@ -1,5 +1,5 @@
 -- Logic on cells is logic on the truth values in them.
-use Rattle.std.proofs.Common.{◌≡◌, ℕ, zero, suc, ◌<◌, Bool, true, false, List, [], ◌∷◌, Option, Some, None, length, map, refl, ap, sym, ◌∙◌, arith}
+use Rattle.std.proofs.Common.{◌≡◌, ℕ, zero, suc, Bool, true, false, List, [], ◌∷◌, Option, Some, None, map, refl, ap}
 use Rattle.std.proofs.lemmas.List.{length-map}
 use Rattle.pipe_frame.specs.Cell.{boolean_cell}
 use Rattle.pipe_frame.specs.Column.{slot_at}

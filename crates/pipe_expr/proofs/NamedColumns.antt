@@ -1,5 +1,5 @@
 -- The column under a name.
-use Rattle.std.proofs.Common.{◌≡◌, ℕ, zero, suc, ◌+◌, ◌<◌, Bool, true, false, cond, List, [], ◌∷◌, Option, Some, None, is_some, length, get_or, map, refl, ap, sym, ◌∙◌, arith, Bor}
+use Rattle.std.proofs.Common.{◌≡◌, ℕ, suc, ◌+◌, ◌<◌, Bool, true, false, cond, List, [], ◌∷◌, Some, None, is_some, length, get_or, map, refl, ap, sym, ◌∙◌, arith, Bor}
 use Rattle.std.specs.Str.{bytes_eq}
 use Rattle.std.proofs.lemmas.List.{length-map}
 use Rattle.pipe_frame.specs.Rows.{Row}
@@ -8,10 +8,10 @@ use Rattle.pipe_frame.specs.Schema.{place_from, place_of}
 use Rattle.pipe_frame.specs.Frame.{Table, cell_of_row, columns_from, columns_of}
 use Rattle.pipe_frame.specs.declared.field.Field.{Field}
 use Rattle.pipe_frame.proofs.Tables.{map_same}
-use Rattle.pipe_expr.specs.Types.{type_of, type_of_column}
+use Rattle.pipe_expr.specs.Types.{type_of_column}
 use Rattle.pipe_expr.specs.Values.{value_of, cell_there}
 use Rattle.pipe_expr.specs.Evaluation.{IsValueOf}
-use Rattle.pipe_expr.specs.declared.expr.Expr.{Expr, Col}
+use Rattle.pipe_expr.specs.declared.expr.Expr.{Col}
 use Rattle.pipe_expr.specs.declared.operand.Operand.TheVariants as operand
 
 -- a column of a type has a place

@@ -1,5 +1,5 @@
 -- What stands at a place of a source.
-use Rattle.std.proofs.Common.{◌≡◌, ℕ, zero, suc, ◌<◌, Bool, true, false, List, [], ◌∷◌, ◌++◌, ◌+◌, take, Option, Some, None, length, get_or, map, replicate, refl, ap, sym, ◌∙◌, arith}
+use Rattle.std.proofs.Common.{◌≡◌, ℕ, zero, suc, ◌<◌, Bool, true, false, List, [], ◌∷◌, ◌++◌, ◌+◌, take, Option, Some, None, length, get_or, replicate, refl, ap, sym, ◌∙◌, arith}
 use Rattle.pipe_frame.specs.Column.{slots, slot_at}
 use Rattle.pipe_expr.specs.Slots.{marked, zip_with}
 

@@ -1,6 +1,5 @@
 -- From the values of the parts of an expression to its own.
-use Rattle.std.proofs.Common.{◌≡◌, ℕ, Bool, true, false, cond, List, [], ◌∷◌, Option, Some, None, is_some, length, map, replicate, refl, ap, sym, ◌∙◌, Bor}
-use Rattle.std.specs.Prelude.{IsTrue}
+use Rattle.std.proofs.Common.{◌≡◌, Bool, true, false, cond, List, [], ◌∷◌, Option, Some, None, is_some, length, map, replicate, refl, ap, sym, ◌∙◌, Bor}
 use Rattle.std.proofs.lemmas.List.{length-map}
 use Rattle.pipe_frame.specs.Cell.{eq_dtype, fits_dtype}
 use Rattle.pipe_frame.specs.Rows.{Row}
@@ -13,7 +12,7 @@ use Rattle.pipe_frame.specs.declared.data_type.DataType.TheVariants as dtype
 use Rattle.pipe_expr.specs.Types.{type_of, literal_type, not_type, null_test_type}
 use Rattle.pipe_expr.specs.Values.{value_of, opposite_of}
 use Rattle.pipe_expr.specs.Slots.{zip_with, null_value}
-use Rattle.pipe_expr.specs.Operands.{operand_dtype, operand_cells, IsOperand}
+use Rattle.pipe_expr.specs.Operands.{operand_dtype, operand_cells}
 use Rattle.pipe_expr.specs.Evaluation.{IsValueOf, type_of_two, value_of_two}
 use Rattle.pipe_expr.specs.declared.expr.Expr.{Expr, Lit, Add', Sub', Mul', Eq', NotEq', Lt', LtEq', Gt', GtEq', And', Or', Not', IsNull', IsNotNull'}
 use Rattle.pipe_expr.specs.declared.operand.Operand.{Operand}

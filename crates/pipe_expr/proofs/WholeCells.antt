@@ -1,5 +1,5 @@
 -- Arithmetic on cells is arithmetic on the values in them.
-use Rattle.std.proofs.Common.{◌≡◌, ℕ, ℤ, ◌+◌, ◌-◌, ◌*◌, ◌%◌, ◌^◌, List, [], ◌∷◌, Option, Some, None, map, refl, ap, ◌∙◌}
+use Rattle.std.proofs.Common.{◌≡◌, ℕ, ℤ, ◌+◌, ◌-◌, ◌*◌, ◌%◌, ◌^◌, List, Some, None, refl}
 use Rattle.std.specs.Int.{int_wrapping_add, int_wrapping_sub, int_wrapping_mul, w32, w64}
 use Rattle.pipe_frame.specs.Cell.{int32_cell, int64_cell, uint32_cell, uint64_cell}
 use Rattle.pipe_frame.specs.declared.any_value.AnyValue.{AnyValue}

@@ -1,5 +1,5 @@
 -- An operator on cells, through the values in them.
-use Rattle.std.proofs.Common.{◌≡◌, ℕ, suc, List, [], ◌∷◌, Option, length, map, refl, ap, ◌∙◌, arith}
+use Rattle.std.proofs.Common.{◌≡◌, List, [], ◌∷◌, Option, map, refl, ap, ◌∙◌}
 use Rattle.pipe_frame.specs.declared.any_value.AnyValue.{AnyValue}
 use Rattle.pipe_expr.specs.Slots.{zip_with}
 use Rattle.pipe_expr.specs.Operands.{Zips}

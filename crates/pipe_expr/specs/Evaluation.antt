@@ -1,5 +1,5 @@
 -- What the parts of an evaluation give.
-use Rattle.std.specs.Prelude.{◌≡◌, ℕ, List, Option, Some, None, map, length}
+use Rattle.std.specs.Prelude.{◌≡◌, Option, Some, None, map, length}
 use Rattle.std.specs.Ordering.{is_eq, is_ne, is_lt, is_le, is_gt, is_ge}
 use Rattle.pipe_frame.specs.Frame.{Table}
 use Rattle.pipe_frame.specs.declared.any_value.AnyValue.{AnyValue}

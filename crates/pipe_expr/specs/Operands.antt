@@ -1,5 +1,5 @@
 -- What a subexpression gives over so many rows.
-use Rattle.std.specs.Prelude.{◌≡◌, ℕ, List, Bool, Option, IsTrue, map, length, replicate}
+use Rattle.std.specs.Prelude.{◌≡◌, ℕ, List, Option, IsTrue, map, length, replicate}
 use Rattle.std.specs.Option.{option_copied}
 use Rattle.pipe_frame.specs.Cell.{fits_dtype}
 use Rattle.pipe_frame.specs.Column.{slots}

@@ -1,5 +1,5 @@
 -- What operators give on values that may be missing, and on columns of them.
-use Rattle.std.specs.Prelude.{ℕ, List, [], ◌∷◌, Bool, true, false, not, Option, Some, None, map, replicate}
+use Rattle.std.specs.Prelude.{List, [], ◌∷◌, Bool, true, false, not, Option, Some, None}
 use Rattle.std.specs.declared.cmp.Ordering.{Ordering}
 use Rattle.pipe_frame.specs.Cell.{is_null_cell}
 use Rattle.pipe_frame.specs.declared.any_value.AnyValue.{AnyValue}

@@ -1,4 +1,4 @@
-use Rattle.std.proofs.Common.{◌≡◌, inl, inr, refl, ap, sym, ◌∙◌, length, map}
+use Rattle.std.proofs.Common.{inl, inr, refl}
 use Rattle.pipe_expr.proofs.ValueSteps.{literal_is_value, not_is_value, is_null_is_value, is_not_null_is_value, IsOfTwo, two_is_value, of_Add, of_Sub, of_Mul, of_Eq, of_NotEq, of_Lt, of_LtEq, of_Gt, of_GtEq, of_And, of_Or}
 use Rattle.pipe_expr.proofs.evaluate.+operand_of.Goals as goal
 
