@@ -1,8 +1,8 @@
 //! The series of an operand.
 
-ghost use Rattle.std.specs.Prelude.{◌≡◌, [], ◌++◌, ◌∷◌, length, map, replicate, IfOk, IsTrue, Option};
+ghost use Rattle.std.specs.Prelude.{◌≡◌, replicate, IfOk, IsTrue};
 ghost use Rattle.std.specs.Option.{option_copied};
-ghost use Rattle.pipe_frame.specs.Cell.{fits_dtype, string_cell, binary_cell};
+ghost use Rattle.pipe_frame.specs.Cell.{fits_dtype, string_cell};
 ghost use Rattle.pipe_frame.specs.declared.data_type.DataType.TheVariants as dtype;
 ghost use Rattle.pipe_expr.specs.Operands.{operand_dtype, operand_cells, IsOperand};
 

@@ -1,8 +1,6 @@
 //! The values of expressions over the rows of a frame, a column at a time.
 
-ghost use Rattle.std.specs.Prelude.{◌≡◌, ◌<◌, true, Some, None, is_some, length, map, slice_index_or, IfOk};
-ghost use Rattle.pipe_frame.specs.Frame.{cell_of_row};
-ghost use Rattle.pipe_frame.specs.Schema.{place_of};
+ghost use Rattle.std.specs.Prelude.{◌≡◌, ◌<◌, true, Some, is_some, length, map, slice_index_or, IfOk};
 ghost use Rattle.pipe_expr.specs.Projections.{known_type};
 ghost use Rattle.pipe_expr.specs.Types.{type_of, type_of_column};
 ghost use Rattle.pipe_expr.specs.Typing.{IsTyped};

@@ -180,8 +180,6 @@ fn comparisons(rt: HostRuntime) -> Result<(), Fail> {
     let frame = pair(alloc, k, t)?;
     let positive = Expr::Gt(col(alloc, "k")?, int(alloc, 0)?);
     assert!(rt; gives(alloc, &positive, &frame, &[None, Some(true), Some(false)])?);
-    let below = Expr::LtEq(col(alloc, "k")?, int(alloc, 0)?);
-    assert!(rt; gives(alloc, &below, &frame, &[None, Some(false), Some(true)])?);
     let same = Expr::Eq(col(alloc, "t")?, text(alloc, "ab")?);
     assert!(rt; gives(alloc, &same, &frame, &[Some(false), Some(true), None])?);
     let less = Expr::Lt(text(alloc, "abc")?, col(alloc, "t")?);

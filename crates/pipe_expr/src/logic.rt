@@ -1,10 +1,9 @@
 //! Three-valued `and`, `or` and `not` of columns.
 
 ghost use Rattle.std.specs.Prelude.{◌≡◌, length, map, IfOk};
-ghost use Rattle.pipe_frame.specs.Cell.{boolean_cell};
 ghost use Rattle.pipe_frame.specs.declared.data_type.DataType.TheVariants as dtype;
 ghost use Rattle.pipe_expr.specs.Values.{both_of, either_of, opposite_of};
-ghost use Rattle.pipe_expr.specs.Slots.{zip_with, marked, opposite_maybe};
+ghost use Rattle.pipe_expr.specs.Slots.{zip_with, opposite_maybe};
 ghost use Rattle.pipe_expr.specs.Operands.{operand_dtype, operand_cells, IsOperand, side_slots};
 
 use crate::operand::Operand;

@@ -1,6 +1,6 @@
 //! Tests for null of columns.
 
-ghost use Rattle.std.specs.Prelude.{◌≡◌, length, map, IfOk};
+ghost use Rattle.std.specs.Prelude.{◌≡◌, map, IfOk};
 ghost use Rattle.pipe_frame.specs.Cell.{is_null_cell};
 ghost use Rattle.pipe_frame.specs.declared.data_type.DataType.TheVariants as dtype;
 ghost use Rattle.pipe_expr.specs.Slots.{null_is, null_value};

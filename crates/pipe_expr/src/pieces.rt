@@ -7,7 +7,7 @@ ghost use Rattle.std.specs.Cmp.Lexicographic.{slice_cmp};
 ghost use Rattle.pipe_frame.specs.Cell.{fits_dtype, string_cell, binary_cell};
 ghost use Rattle.pipe_frame.specs.Column.{slot_at};
 ghost use Rattle.pipe_frame.specs.declared.data_type.DataType.TheVariants as dtype;
-ghost use Rattle.pipe_expr.specs.Slots.{marked, zip_with, strictly, tested};
+ghost use Rattle.pipe_expr.specs.Slots.{zip_with, strictly, tested};
 ghost use Rattle.pipe_expr.specs.Operands.{operand_dtype, operand_cells, IsOperand, piece_slots};
 
 use crate::operand::Operand;

@@ -1,6 +1,6 @@
 //! The values of one fixed-width type that an operand has.
 
-ghost use Rattle.std.specs.Prelude.{◌≡◌, [], ◌∷◌, Option, length, map, IfOk, IfSome, IsTrue, is_some};
+ghost use Rattle.std.specs.Prelude.{◌≡◌, Option, length, map, IfOk, IfSome, IsTrue, is_some};
 ghost use Rattle.pipe_frame.specs.Cell.{eq_dtype, fits_dtype, int32_cell, int64_cell, uint32_cell, uint64_cell, boolean_cell};
 ghost use Rattle.pipe_frame.specs.declared.any_value.AnyValue.{AnyValue};
 ghost use Rattle.pipe_frame.specs.declared.data_type.DataType.{DataType};

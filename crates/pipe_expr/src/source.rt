@@ -1,6 +1,6 @@
 //! What has a value, or none, at each of so many rows; and the one loop that makes a column of it.
 
-ghost use Rattle.std.specs.Prelude.{◌≡◌, ℕ, ◌<◌, List, Option, length, map, replicate, IfOk};
+ghost use Rattle.std.specs.Prelude.{◌≡◌, ◌<◌, List, Option, length, replicate, IfOk};
 ghost use Rattle.pipe_frame.specs.Column.{slot_at, slots};
 ghost use Rattle.pipe_expr.specs.Slots.{marked, zip_with};
 
