@@ -49,37 +49,34 @@ fn col(alloc: Global, name: &str) -> Result<Box<Expr>, AllocError> {
     Ok(Box::new(alloc, Expr::Col(Text::from_str(alloc, name)?))?)
 }
 
-/// A number.
-fn int(alloc: Global, value: i64) -> Result<Box<Expr>, AllocError> {
-    Ok(Box::new(
-        alloc,
-        Expr::Lit {
-            dtype: DataType::Int64,
-            value: AnyValue::Int64(value),
-        },
-    )?)
+/// A value of a type.
+fn lit(alloc: Global, dtype: DataType, value: AnyValue) -> Result<Box<Expr>, AllocError> {
+    Ok(Box::new(alloc, Expr::Lit { dtype, value })?)
 }
 
-/// A null of a type.
-fn null(alloc: Global, dtype: DataType) -> Result<Box<Expr>, AllocError> {
-    Ok(Box::new(
-        alloc,
-        Expr::Lit {
-            dtype,
-            value: AnyValue::Null,
-        },
-    )?)
+/// A number.
+fn int(alloc: Global, value: i64) -> Result<Box<Expr>, AllocError> {
+    lit(alloc, DataType::Int64, AnyValue::Int64(value))
 }
 
 /// A text.
 fn text(alloc: Global, value: &str) -> Result<Box<Expr>, AllocError> {
-    Ok(Box::new(
-        alloc,
-        Expr::Lit {
-            dtype: DataType::String,
-            value: AnyValue::String(Text::from_str(alloc, value)?),
-        },
-    )?)
+    let text = Text::from_str(alloc, value)?;
+    lit(alloc, DataType::String, AnyValue::String(text))
+}
+
+/// Whether a sum of two values of a type is a third.
+fn sum_is(
+    alloc: Global,
+    dtype: DataType,
+    left: AnyValue,
+    right: AnyValue,
+    wanted: AnyValue,
+) -> Result<Expr, AllocError> {
+    let left = lit(alloc, dtype, left)?;
+    let right = lit(alloc, dtype, right)?;
+    let sum = Box::new(alloc, Expr::Add(left, right))?;
+    Ok(Expr::Eq(sum, lit(alloc, dtype, wanted)?))
 }
 
 /// Whether the values of an expression are these numbers.
@@ -151,8 +148,6 @@ fn arithmetic_wraps(rt: HostRuntime) -> Result<(), Fail> {
     assert!(rt; gives_ints(alloc, &difference, &frame, &[Some(-5), None, Some(2)])?);
     let product = Expr::Mul(col(alloc, "k")?, col(alloc, "m")?);
     assert!(rt; gives_ints(alloc, &product, &frame, &[None, None, Some(2)])?);
-    let of_null = Expr::Mul(null(alloc, DataType::Int64)?, null(alloc, DataType::Int64)?);
-    assert!(rt; gives_ints(alloc, &of_null, &frame, &[None, None, None])?);
     assert!(rt;
         gives_ints(
             alloc,
@@ -172,6 +167,29 @@ fn arithmetic_wraps(rt: HostRuntime) -> Result<(), Fail> {
     Ok(())
 }
 
+/// Two rows.
+fn two_rows(alloc: Global) -> Result<DataFrame, FrameError> {
+    let k = ints(alloc, "k", &[None, Some(1)])?;
+    let m = ints(alloc, "m", &[None, Some(1)])?;
+    pair(alloc, k, m)
+}
+
+#[test]
+fn widths(rt: HostRuntime) -> Result<(), Fail> {
+    let alloc = rt.alloc();
+    let frame = two_rows(alloc)?;
+    let (low, high) = (AnyValue::Int32(-2147483648), AnyValue::Int32(2147483647));
+    let int32 = sum_is(alloc, DataType::Int32, high, AnyValue::Int32(1), low)?;
+    assert!(rt; gives(alloc, &int32, &frame, &[Some(true), Some(true)])?);
+    let (two, high) = (AnyValue::UInt32(2), AnyValue::UInt32(4294967295));
+    let uint32 = sum_is(alloc, DataType::UInt32, high, two, AnyValue::UInt32(1))?;
+    assert!(rt; gives(alloc, &uint32, &frame, &[Some(true), Some(true)])?);
+    let (one, high) = (AnyValue::UInt64(1), AnyValue::UInt64(18446744073709551615));
+    let uint64 = sum_is(alloc, DataType::UInt64, high, one, AnyValue::UInt64(0))?;
+    assert!(rt; gives(alloc, &uint64, &frame, &[Some(true), Some(true)])?);
+    Ok(())
+}
+
 #[test]
 fn comparisons(rt: HostRuntime) -> Result<(), Fail> {
     let alloc = rt.alloc();
@@ -184,7 +202,10 @@ fn comparisons(rt: HostRuntime) -> Result<(), Fail> {
     assert!(rt; gives(alloc, &same, &frame, &[Some(false), Some(true), None])?);
     let less = Expr::Lt(text(alloc, "abc")?, col(alloc, "t")?);
     assert!(rt; gives(alloc, &less, &frame, &[Some(true), Some(false), None])?);
-    let other = Expr::NotEq(null(alloc, DataType::String)?, col(alloc, "t")?);
+    let other = Expr::NotEq(
+        lit(alloc, DataType::String, AnyValue::Null)?,
+        col(alloc, "t")?,
+    );
     assert!(rt; gives(alloc, &other, &frame, &[None, None, None])?);
     let missing = Expr::IsNull(col(alloc, "t")?);
     assert!(rt;
@@ -204,7 +225,7 @@ fn comparisons(rt: HostRuntime) -> Result<(), Fail> {
             &[Some(false), Some(true), Some(true)]
         )?
     );
-    let no_text = Expr::IsNull(null(alloc, DataType::String)?);
+    let no_text = Expr::IsNull(lit(alloc, DataType::String, AnyValue::Null)?);
     assert!(rt;
         gives(
             alloc,
