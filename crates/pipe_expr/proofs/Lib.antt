@@ -1,4 +1,5 @@
 pub mod Sources
+pub mod Replaced
 pub mod Sides
 pub mod Zips
 pub mod WholeCells

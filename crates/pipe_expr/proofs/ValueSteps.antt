@@ -3,7 +3,6 @@ use Rattle.std.proofs.Common.{◌≡◌, Bool, true, false, cond, List, [], ◌�
 use Rattle.std.proofs.lemmas.List.{length-map}
 use Rattle.pipe_frame.specs.Cell.{eq_dtype, fits_dtype}
 use Rattle.pipe_frame.specs.Rows.{Row}
-use Rattle.pipe_frame.specs.Series.{Cells}
 use Rattle.pipe_frame.specs.Frame.{Table}
 use Rattle.pipe_frame.specs.declared.any_value.AnyValue.{AnyValue}
 use Rattle.pipe_frame.specs.declared.data_type.DataType.{DataType}
@@ -12,9 +11,10 @@ use Rattle.pipe_frame.specs.declared.data_type.DataType.TheVariants as dtype
 use Rattle.pipe_expr.specs.Types.{type_of, literal_type, not_type, null_test_type}
 use Rattle.pipe_expr.specs.Values.{value_of, opposite_of}
 use Rattle.pipe_expr.specs.Slots.{zip_with, null_value}
-use Rattle.pipe_expr.specs.Operands.{operand_dtype, operand_cells}
+use Rattle.pipe_expr.specs.Operands.{operand_dtype, operand_cells, made_dtype, made_cells}
 use Rattle.pipe_expr.specs.Evaluation.{IsValueOf, type_of_two, value_of_two}
 use Rattle.pipe_expr.specs.declared.expr.Expr.{Expr, Lit, Add', Sub', Mul', Eq', NotEq', Lt', LtEq', Gt', GtEq', And', Or', Not', IsNull', IsNotNull'}
+use Rattle.pipe_expr.specs.declared.made.Made.{Made}
 use Rattle.pipe_expr.specs.declared.operand.Operand.{Operand}
 use Rattle.pipe_expr.specs.declared.operand.Operand.TheVariants as operand
 
@@ -44,9 +44,9 @@ map_same_map : (f g : Row → AnyValue) (h : AnyValue → AnyValue) (rows : List
 map_same_map f g h [] e = refl
 map_same_map f g h (row ∷ rows) e = ap (λ x. x ∷ map h (map f rows)) (sym (e row)) ∙ ap (λ l. g row ∷ l) (map_same_map f g h rows e)
 
-one_is_value : (expr inner : Expr) (table : Table) (h : AnyValue → AnyValue) (o : Operand) (made : Cells) → ((row : Row) → value_of expr table.schema row ≡ h (value_of inner table.schema row)) → type_of expr table.schema ≡ Some made.dtype → IsValueOf inner table o → made.cells ≡ map h (operand_cells (length table.rows) o) → IsValueOf expr table (operand.Made made)
+one_is_value : (expr inner : Expr) (table : Table) (h : AnyValue → AnyValue) (o : Operand) (made : Made) → ((row : Row) → value_of expr table.schema row ≡ h (value_of inner table.schema row)) → type_of expr table.schema ≡ Some (made_dtype made) → IsValueOf inner table o → made_cells made ≡ map h (operand_cells (length table.rows) o) → IsValueOf expr table (operand.Made made)
 one_is_value expr inner table h o made e t v m =
-    let cells : made.cells ≡ map (value_of expr table.schema) table.rows = m ∙ ap (map h) v.cells ∙ map_same_map (value_of inner table.schema) (value_of expr table.schema) h table.rows e in
+    let cells : made_cells made ≡ map (value_of expr table.schema) table.rows = m ∙ ap (map h) v.cells ∙ map_same_map (value_of inner table.schema) (value_of expr table.schema) h table.rows e in
     record {
       typed = t;
       cells = cells;
@@ -59,13 +59,13 @@ not_typed (Some a) h =
     let split : (b : Bool) → is_some (cond b (Some dtype.Boolean) None) ≡ true → cond b (Some dtype.Boolean) None ≡ Some dtype.Boolean = elim [ true ↦ λ e. refl | false ↦ λ e. cc ]
     in split (eq_dtype a dtype.Boolean) h
 
-pub not_is_value : (p : _) (inner : Expr) (table : Table) (o : Operand) (made : Cells) → IsValueOf inner table o → is_some (type_of (Not' p inner) table.schema) ≡ true → made.dtype ≡ dtype.Boolean → made.cells ≡ map opposite_of (operand_cells (length table.rows) o) → IsValueOf (Not' p inner) table (operand.Made made)
+pub not_is_value : (p : _) (inner : Expr) (table : Table) (o : Operand) (made : Made) → IsValueOf inner table o → is_some (type_of (Not' p inner) table.schema) ≡ true → made_dtype made ≡ dtype.Boolean → made_cells made ≡ map opposite_of (operand_cells (length table.rows) o) → IsValueOf (Not' p inner) table (operand.Made made)
 not_is_value p inner table o made v h d m = one_is_value (Not' p inner) inner table opposite_of o made (λ row. refl) (not_typed (type_of inner table.schema) h ∙ ap Some (sym d)) v m
 
-pub is_null_is_value : (p : _) (inner : Expr) (table : Table) (o : Operand) (made : Cells) → IsValueOf inner table o → made.dtype ≡ dtype.Boolean → made.cells ≡ map (null_value true) (operand_cells (length table.rows) o) → IsValueOf (IsNull' p inner) table (operand.Made made)
+pub is_null_is_value : (p : _) (inner : Expr) (table : Table) (o : Operand) (made : Made) → IsValueOf inner table o → made_dtype made ≡ dtype.Boolean → made_cells made ≡ map (null_value true) (operand_cells (length table.rows) o) → IsValueOf (IsNull' p inner) table (operand.Made made)
 is_null_is_value p inner table o made v d m = one_is_value (IsNull' p inner) inner table (null_value true) o made (λ row. refl) (ap null_test_type v.typed ∙ ap Some (sym d)) v m
 
-pub is_not_null_is_value : (p : _) (inner : Expr) (table : Table) (o : Operand) (made : Cells) → IsValueOf inner table o → made.dtype ≡ dtype.Boolean → made.cells ≡ map (null_value false) (operand_cells (length table.rows) o) → IsValueOf (IsNotNull' p inner) table (operand.Made made)
+pub is_not_null_is_value : (p : _) (inner : Expr) (table : Table) (o : Operand) (made : Made) → IsValueOf inner table o → made_dtype made ≡ dtype.Boolean → made_cells made ≡ map (null_value false) (operand_cells (length table.rows) o) → IsValueOf (IsNotNull' p inner) table (operand.Made made)
 is_not_null_is_value p inner table o made v d m = one_is_value (IsNotNull' p inner) inner table (null_value false) o made (λ row. refl) (ap null_test_type v.typed ∙ ap Some (sym d)) v m
 
 -- ---- two sides
@@ -79,9 +79,9 @@ pub record IsOfTwo (expr left right : Expr) : Type 0 where
   pub typed : (schema : List Field) (a b : DataType) → type_of left schema ≡ Some a → type_of right schema ≡ Some b → type_of expr schema ≡ type_of_two expr a b
   pub value : (schema : List Field) (row : Row) → value_of expr schema row ≡ value_of_two expr (value_of left schema row) (value_of right schema row)
 
-pub two_is_value : (expr left right : Expr) (table : Table) (l r : Operand) (made : Cells) → IsOfTwo expr left right → IsValueOf left table l → IsValueOf right table r → type_of_two expr (operand_dtype l) (operand_dtype r) ≡ Some made.dtype → made.cells ≡ zip_with (value_of_two expr) (operand_cells (length table.rows) l) (operand_cells (length table.rows) r) → IsValueOf expr table (operand.Made made)
+pub two_is_value : (expr left right : Expr) (table : Table) (l r : Operand) (made : Made) → IsOfTwo expr left right → IsValueOf left table l → IsValueOf right table r → type_of_two expr (operand_dtype l) (operand_dtype r) ≡ Some (made_dtype made) → made_cells made ≡ zip_with (value_of_two expr) (operand_cells (length table.rows) l) (operand_cells (length table.rows) r) → IsValueOf expr table (operand.Made made)
 two_is_value expr left right table l r made is v w t m =
-    let cells : made.cells ≡ map (value_of expr table.schema) table.rows = m ∙ rw (v.cells, w.cells) (zip_rows (value_of left table.schema) (value_of right table.schema) (value_of expr table.schema) (value_of_two expr) table.rows (is.value table.schema)) in
+    let cells : made_cells made ≡ map (value_of expr table.schema) table.rows = m ∙ rw (v.cells, w.cells) (zip_rows (value_of left table.schema) (value_of right table.schema) (value_of expr table.schema) (value_of_two expr) table.rows (is.value table.schema)) in
     record {
       typed = is.typed table.schema (operand_dtype l) (operand_dtype r) v.typed w.typed ∙ t;
       cells = cells;

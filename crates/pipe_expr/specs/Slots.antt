@@ -38,10 +38,6 @@ either_maybe _ (Some true) = Some true
 either_maybe (Some false) (Some false) = Some false
 either_maybe _ _ = None
 
-abbrev pub opposite_maybe : Option Bool → Option Bool
-opposite_maybe (Some b) = Some (not b)
-opposite_maybe None = None
-
 -- whether a cell is null, where null is wanted, or isn't, where no null is
 abbrev pub null_is : Bool → AnyValue → Option Bool
 null_is true c = Some (is_null_cell c)

@@ -6,14 +6,15 @@ ghost use Rattle.std.specs.Cmp.Lexicographic.{slice_cmp};
 ghost use Rattle.pipe_frame.specs.declared.data_type.DataType.TheVariants as dtype;
 ghost use Rattle.pipe_expr.specs.Values.{compared};
 ghost use Rattle.pipe_expr.specs.Slots.{zip_with, strictly, tested};
-ghost use Rattle.pipe_expr.specs.Operands.{operand_dtype, operand_cells, IsOperand, piece_slots};
+ghost use Rattle.pipe_expr.specs.Operands.{operand_dtype, operand_cells, IsOperand, made_dtype, made_cells, piece_slots};
 
+use crate::made::Made;
 use crate::operand::Operand;
 use crate::operator::{Compared, Test};
+use crate::parts::{Parts, collect};
 use crate::pieces::{ComparedPieces, Pieces, bytes, texts};
 use crate::side::zip;
-use crate::source::collect;
-use pipe_frame::{Column, DataType, Series, Text};
+use pipe_frame::DataType;
 use std::alloc::{AllocError, Global};
 use std::cmp::Ordering;
 
@@ -97,10 +98,10 @@ fn compare_pieces<C: Test>(
     left: Pieces<'_>,
     right: Pieces<'_>,
     test: C,
-) -> Result<Column<bool>, AllocError>
+) -> Result<Parts<bool>, AllocError>
     requires left { length (piece_slots left) ≡ rows }
     requires right { length (piece_slots right) ≡ rows }
-    ensures { IfOk result (λ column. column ≡ zip_with (strictly (tested (slice_cmp nat_cmp) C.test)) (piece_slots left.entry) (piece_slots right.entry)) }
+    ensures { IfOk result (λ parts. parts ≡ zip_with (strictly (tested (slice_cmp nat_cmp) C.test)) (piece_slots left.entry) (piece_slots right.entry)) }
 {
     Ok(collect(alloc, rows, &ComparedPieces { left, right, test })?)
 }
@@ -110,19 +111,19 @@ fn compare_pieces<C: Test>(
 fn compare_texts<C: Test>(
     alloc: Global,
     rows: usize,
-    left: &Operand<'_>,
-    right: &Operand<'_>,
+    left: Operand<'_>,
+    right: Operand<'_>,
     test: C,
-) -> Result<Series, AllocError>
-    requires left { operand_dtype left.now ≡ dtype.String }
-    requires right { operand_dtype right.now ≡ dtype.String }
-    requires rows_left { IsOperand rows left.now }
-    requires rows_right { IsOperand rows right.now }
-    ensures dtype { IfOk result (λ made. made.dtype ≡ dtype.Boolean) }
-    ensures cells { IfOk result (λ made. made.cells ≡ zip_with (compared C.test) (operand_cells rows left.now) (operand_cells rows right.now)) }
+) -> Result<Made, AllocError>
+    requires left { operand_dtype left ≡ dtype.String }
+    requires right { operand_dtype right ≡ dtype.String }
+    requires rows_left { IsOperand rows left }
+    requires rows_right { IsOperand rows right }
+    ensures dtype { IfOk result (λ made. made_dtype made ≡ dtype.Boolean) }
+    ensures cells { IfOk result (λ made. made_cells made ≡ zip_with (compared C.test) (operand_cells rows left.entry) (operand_cells rows right.entry)) }
 {
-    let column = compare_pieces(alloc, rows, texts(rows, left), texts(rows, right), test)?;
-    Ok(Series::from_boolean(Text::new(alloc), column))
+    let parts = compare_pieces(alloc, rows, texts(rows, &left), texts(rows, &right), test)?;
+    Ok(Made::Boolean(parts))
 }
 
 /// A test of how two operands of byte strings compare, row by row.
@@ -130,34 +131,34 @@ fn compare_texts<C: Test>(
 fn compare_bytes<C: Test>(
     alloc: Global,
     rows: usize,
-    left: &Operand<'_>,
-    right: &Operand<'_>,
+    left: Operand<'_>,
+    right: Operand<'_>,
     test: C,
-) -> Result<Series, AllocError>
-    requires left { operand_dtype left.now ≡ dtype.Binary }
-    requires right { operand_dtype right.now ≡ dtype.Binary }
-    requires rows_left { IsOperand rows left.now }
-    requires rows_right { IsOperand rows right.now }
-    ensures dtype { IfOk result (λ made. made.dtype ≡ dtype.Boolean) }
-    ensures cells { IfOk result (λ made. made.cells ≡ zip_with (compared C.test) (operand_cells rows left.now) (operand_cells rows right.now)) }
+) -> Result<Made, AllocError>
+    requires left { operand_dtype left ≡ dtype.Binary }
+    requires right { operand_dtype right ≡ dtype.Binary }
+    requires rows_left { IsOperand rows left }
+    requires rows_right { IsOperand rows right }
+    ensures dtype { IfOk result (λ made. made_dtype made ≡ dtype.Boolean) }
+    ensures cells { IfOk result (λ made. made_cells made ≡ zip_with (compared C.test) (operand_cells rows left.entry) (operand_cells rows right.entry)) }
 {
-    let column = compare_pieces(alloc, rows, bytes(rows, left), bytes(rows, right), test)?;
-    Ok(Series::from_boolean(Text::new(alloc), column))
+    let parts = compare_pieces(alloc, rows, bytes(rows, &left), bytes(rows, &right), test)?;
+    Ok(Made::Boolean(parts))
 }
 
 /// A test of how two operands of one type compare, row by row.
 pub(crate) fn compare<C: Test>(
     alloc: Global,
     rows: usize,
-    left: &Operand<'_>,
-    right: &Operand<'_>,
+    left: Operand<'_>,
+    right: Operand<'_>,
     test: C,
-) -> Result<Series, AllocError>
-    requires same { operand_dtype right.now ≡ operand_dtype left.now }
-    requires rows_left { IsOperand rows left.now }
-    requires rows_right { IsOperand rows right.now }
-    ensures dtype { IfOk result (λ made. made.dtype ≡ dtype.Boolean) }
-    ensures cells { IfOk result (λ made. made.cells ≡ zip_with (compared C.test) (operand_cells rows left.now) (operand_cells rows right.now)) }
+) -> Result<Made, AllocError>
+    requires same { operand_dtype right ≡ operand_dtype left }
+    requires rows_left { IsOperand rows left }
+    requires rows_right { IsOperand rows right }
+    ensures dtype { IfOk result (λ made. made_dtype made ≡ dtype.Boolean) }
+    ensures cells { IfOk result (λ made. made_cells made ≡ zip_with (compared C.test) (operand_cells rows left.entry) (operand_cells rows right.entry)) }
 {
     let by = Compared { test };
     match left.dtype() {

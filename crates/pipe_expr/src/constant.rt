@@ -7,9 +7,10 @@ ghost use Rattle.pipe_frame.specs.declared.data_type.DataType.TheVariants as dty
 ghost use Rattle.pipe_expr.specs.Operands.{operand_dtype, operand_cells, IsOperand};
 
 use crate::operand::Operand;
+use crate::parts::collect;
 use crate::pieces::bytes_in;
 use crate::side::Native;
-use crate::source::{Repeated, collect};
+use crate::source::Repeated;
 use pipe_frame::{AnyValue, BinaryColumn, DataType, Series, StringColumn, Text, TryClone};
 use std::alloc::{AllocError, Global};
 
@@ -21,7 +22,7 @@ fn repeated<T: Native>(alloc: Global, rows: usize, from: &AnyValue) -> Result<Se
     ensures cells { IfOk result (λ made. made.cells ≡ replicate rows from.now) }
 {
     let (present, value) = T::value(from);
-    let column = collect(
+    let parts = collect(
         alloc,
         rows,
         &Repeated {
@@ -30,7 +31,7 @@ fn repeated<T: Native>(alloc: Global, rows: usize, from: &AnyValue) -> Result<Se
             rows,
         },
     )?;
-    Ok(T::series(alloc, column))
+    Ok(T::made(parts).into_series(Text::new(alloc)))
 }
 
 /// A text, or none, at each of so many rows.
@@ -119,10 +120,7 @@ pub(crate) fn named(
             copy.rename(name);
             Ok(copy)
         }
-        Operand::Made(mut series) => {
-            series.rename(name);
-            Ok(series)
-        }
+        Operand::Made(made) => Ok(made.into_series(name)),
         Operand::Constant(dtype, cell) => {
             let mut made = constant_series(alloc, rows, dtype, cell)?;
             made.rename(name);

@@ -6,7 +6,7 @@ ghost use Rattle.pipe_expr.specs.Types.{type_of, type_of_column};
 ghost use Rattle.pipe_expr.specs.Typing.{IsTyped};
 ghost use Rattle.pipe_expr.specs.Values.{value_of};
 ghost use Rattle.pipe_expr.specs.Slots.{zip_with};
-ghost use Rattle.pipe_expr.specs.Operands.{operand_dtype, operand_cells, IsOperand};
+ghost use Rattle.pipe_expr.specs.Operands.{operand_dtype, operand_cells, IsOperand, made_dtype, made_cells};
 ghost use Rattle.pipe_expr.specs.Evaluation.{IsValueOf, type_of_two, value_of_two};
 
 use crate::arithmetic::{differences, products, sums};
@@ -16,6 +16,7 @@ use crate::comparison::{
 use crate::constant::named;
 use crate::expr::Expr;
 use crate::logic::{both, either, negated};
+use crate::made::Made;
 use crate::null_test::test_for_null;
 use crate::operand::Operand;
 use pipe_frame::{DataFrame, Series, Text};
@@ -26,14 +27,14 @@ fn apply(
     alloc: Global,
     rows: usize,
     expr: &Expr,
-    left: &Operand<'_>,
-    right: &Operand<'_>,
-) -> Result<Series, AllocError>
-    requires typed { is_some (type_of_two expr.now (operand_dtype left.now) (operand_dtype right.now)) ≡ true }
-    requires rows_left { IsOperand rows left.now }
-    requires rows_right { IsOperand rows right.now }
-    ensures dtype { IfOk result (λ made. type_of_two expr.now (operand_dtype left.now) (operand_dtype right.now) ≡ Some made.dtype) }
-    ensures cells { IfOk result (λ made. made.cells ≡ zip_with (value_of_two expr.now) (operand_cells rows left.now) (operand_cells rows right.now)) }
+    left: Operand<'_>,
+    right: Operand<'_>,
+) -> Result<Made, AllocError>
+    requires typed { is_some (type_of_two expr.now (operand_dtype left) (operand_dtype right)) ≡ true }
+    requires rows_left { IsOperand rows left }
+    requires rows_right { IsOperand rows right }
+    ensures dtype { IfOk result (λ made. type_of_two expr.now (operand_dtype left.entry) (operand_dtype right.entry) ≡ Some (made_dtype made)) }
+    ensures cells { IfOk result (λ made. made_cells made ≡ zip_with (value_of_two expr.now) (operand_cells rows left.entry) (operand_cells rows right.entry)) }
 {
     match expr {
         Expr::Add(_, _) => Ok(sums(alloc, rows, left, right)?),
@@ -85,15 +86,15 @@ fn operand_of<'a>(
         Expr::Lit { dtype, value } => Ok(Operand::Constant(*dtype, value)),
         Expr::Not(inner) => {
             let inner = operand_of(alloc, inner, frame)?;
-            Ok(Operand::Made(negated(alloc, rows, &inner)?))
+            Ok(Operand::Made(negated(alloc, rows, inner)?))
         }
         Expr::IsNull(inner) => {
             let inner = operand_of(alloc, inner, frame)?;
-            Ok(Operand::Made(test_for_null(alloc, rows, &inner, true)?))
+            Ok(Operand::Made(test_for_null(alloc, rows, inner, true)?))
         }
         Expr::IsNotNull(inner) => {
             let inner = operand_of(alloc, inner, frame)?;
-            Ok(Operand::Made(test_for_null(alloc, rows, &inner, false)?))
+            Ok(Operand::Made(test_for_null(alloc, rows, inner, false)?))
         }
         Expr::Add(left, right)
         | Expr::Sub(left, right)
@@ -108,7 +109,7 @@ fn operand_of<'a>(
         | Expr::Or(left, right) => {
             let left = operand_of(alloc, left, frame)?;
             let right = operand_of(alloc, right, frame)?;
-            Ok(Operand::Made(apply(alloc, rows, expr, &left, &right)?))
+            Ok(Operand::Made(apply(alloc, rows, expr, left, right)?))
         }
     }
 }

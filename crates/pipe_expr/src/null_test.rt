@@ -4,11 +4,13 @@ ghost use Rattle.std.specs.Prelude.{◌≡◌, map, IfOk};
 ghost use Rattle.pipe_frame.specs.Cell.{is_null_cell};
 ghost use Rattle.pipe_frame.specs.declared.data_type.DataType.TheVariants as dtype;
 ghost use Rattle.pipe_expr.specs.Slots.{null_is, null_value};
-ghost use Rattle.pipe_expr.specs.Operands.{operand_cells, IsOperand};
+ghost use Rattle.pipe_expr.specs.Operands.{operand_cells, IsOperand, made_dtype, made_cells};
 
+use crate::made::Made;
 use crate::operand::Operand;
-use crate::source::{Repeated, Source, collect};
-use pipe_frame::{AnyValue, Column, Series, Text};
+use crate::parts::{Parts, collect};
+use crate::source::{Repeated, Source};
+use pipe_frame::{AnyValue, Series, Text};
 use std::alloc::{AllocError, Global};
 
 /// Whether null or no null is wanted and found, row by row.
@@ -44,15 +46,19 @@ fn is_null(cell: &AnyValue) -> bool
 fn found(
     alloc: Global,
     rows: usize,
-    inner: &Operand<'_>,
+    inner: Operand<'_>,
     wanted: bool,
-) -> Result<Column<bool>, AllocError>
-    requires { IsOperand rows inner.now }
-    ensures { IfOk result (λ column. column ≡ map (null_is wanted) (operand_cells rows inner.now)) }
+) -> Result<Parts<bool>, AllocError>
+    requires { IsOperand rows inner }
+    ensures { IfOk result (λ parts. parts ≡ map (null_is wanted) (operand_cells rows inner.entry)) }
 {
     match inner {
         Operand::Lent(series) => Ok(collect(alloc, rows, &NullTest { series, wanted })?),
-        Operand::Made(series) => Ok(collect(alloc, rows, &NullTest { series, wanted })?),
+        Operand::Made(made) => {
+            let series = made.into_series(Text::new(alloc));
+            let series = &series;
+            Ok(collect(alloc, rows, &NullTest { series, wanted })?)
+        }
         Operand::Constant(_, cell) => Ok(collect(
             alloc,
             rows,
@@ -70,13 +76,13 @@ fn found(
 pub(crate) fn test_for_null(
     alloc: Global,
     rows: usize,
-    inner: &Operand<'_>,
+    inner: Operand<'_>,
     wanted: bool,
-) -> Result<Series, AllocError>
-    requires { IsOperand rows inner.now }
-    ensures dtype { IfOk result (λ made. made.dtype ≡ dtype.Boolean) }
-    ensures cells { IfOk result (λ made. made.cells ≡ map (null_value wanted) (operand_cells rows inner.now)) }
+) -> Result<Made, AllocError>
+    requires { IsOperand rows inner }
+    ensures dtype { IfOk result (λ made. made_dtype made ≡ dtype.Boolean) }
+    ensures cells { IfOk result (λ made. made_cells made ≡ map (null_value wanted) (operand_cells rows inner.entry)) }
 {
-    let column = found(alloc, rows, inner, wanted)?;
-    Ok(Series::from_boolean(Text::new(alloc), column))
+    let parts = found(alloc, rows, inner, wanted)?;
+    Ok(Made::Boolean(parts))
 }

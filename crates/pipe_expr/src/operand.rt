@@ -3,6 +3,7 @@
 ghost use Rattle.std.specs.Prelude.{◌≡◌};
 ghost use Rattle.pipe_expr.specs.Operands.{operand_dtype};
 
+use crate::made::Made;
 use pipe_frame::{AnyValue, DataType, Series};
 
 /// The values of a subexpression.
@@ -11,7 +12,7 @@ pub(crate) enum Operand<'a> {
     /// A column of the frame.
     Lent(&'a Series),
     /// A column that was made.
-    Made(Series),
+    Made(Made),
     /// One cell of a type, at every row.
     Constant(DataType, &'a AnyValue),
 }
@@ -23,7 +24,7 @@ impl<'a> Operand<'a> {
     {
         match self {
             Operand::Lent(series) => series.dtype(),
-            Operand::Made(series) => series.dtype(),
+            Operand::Made(made) => made.dtype(),
             Operand::Constant(dtype, _) => *dtype,
         }
     }

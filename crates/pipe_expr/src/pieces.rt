@@ -95,7 +95,7 @@ pub(crate) fn texts<'a>(rows: usize, operand: &'a Operand<'a>) -> Pieces<'a>
 {
     match operand {
         Operand::Lent(series) => texts_of(series),
-        Operand::Made(series) => texts_of(series),
+        Operand::Made(_) => unreachable!(),
         Operand::Constant(_, cell) => Pieces::Repeated(text_in(cell), rows),
     }
 }
@@ -109,7 +109,7 @@ pub(crate) fn bytes<'a>(rows: usize, operand: &'a Operand<'a>) -> Pieces<'a>
 {
     match operand {
         Operand::Lent(series) => bytes_of(series),
-        Operand::Made(series) => bytes_of(series),
+        Operand::Made(_) => unreachable!(),
         Operand::Constant(_, cell) => Pieces::Repeated(bytes_in(cell), rows),
     }
 }

@@ -6,12 +6,14 @@ ghost use Rattle.pipe_frame.specs.declared.any_value.AnyValue.{AnyValue};
 ghost use Rattle.pipe_frame.specs.declared.data_type.DataType.{DataType};
 ghost use Rattle.pipe_frame.specs.declared.data_type.DataType.TheVariants as dtype;
 ghost use Rattle.pipe_expr.specs.Slots.{marked, zip_with};
-ghost use Rattle.pipe_expr.specs.Operands.{operand_dtype, operand_cells, IsOperand, side_slots, Zips};
+ghost use Rattle.pipe_expr.specs.Operands.{operand_dtype, operand_cells, IsOperand, made_dtype, made_cells, side_slots, Zips};
 
+use crate::made::Made;
 use crate::operand::Operand;
 use crate::operator::Operator;
-use crate::source::{Lent, Repeated, Zip, collect};
-use pipe_frame::{AnyValue, Column, DataType, Series, Text};
+use crate::parts::{Parts, collect, collect_into};
+use crate::source::{Lent, Repeated, Zip};
+use pipe_frame::{AnyValue, Column, Series};
 use std::alloc::{AllocError, Global};
 
 /// A type whose columns hold one value of fixed width at each place.
@@ -32,10 +34,20 @@ pub(crate) trait Native: Copy + Drop {
         requires { IsTrue (fits_dtype dtype_of from.now) }
         ensures { cell (marked result.0 result.1) ≡ from.now };
 
-    /// A series without a name.
-    fn series(alloc: Global, column: Column<Self>) -> Series
-        ensures dtype { result.dtype ≡ dtype_of }
-        ensures cells { result.cells ≡ map cell column };
+    /// The column of the type that was made.
+    fn parts(made: &Made) -> &Parts<Self>
+        requires { made_dtype made.now ≡ dtype_of }
+        ensures { made_cells made.now ≡ map cell result.now };
+
+    /// The column of the type that was made, by value.
+    fn into_parts(made: Made) -> Parts<Self>
+        requires { made_dtype made ≡ dtype_of }
+        ensures { made_cells made ≡ map cell result };
+
+    /// A column that was made.
+    fn made(parts: Parts<Self>) -> Made
+        ensures dtype { made_dtype result ≡ dtype_of }
+        ensures cells { made_cells result ≡ map cell parts };
 }
 
 impl Native for i32 {
@@ -54,11 +66,25 @@ impl Native for i32 {
         }
     }
 
-    fn series(alloc: Global, column: Column<i32>) -> Series
-        ensures dtype { result.dtype ≡ dtype.Int32 }
-        ensures cells { result.cells ≡ map int32_cell column }
+    fn parts(made: &Made) -> &Parts<i32> {
+        match made {
+            Made::Int32(parts) => parts,
+            _ => unreachable!(),
+        }
+    }
+
+    fn into_parts(made: Made) -> Parts<i32> {
+        match made {
+            Made::Int32(parts) => parts,
+            _ => unreachable!(),
+        }
+    }
+
+    fn made(parts: Parts<i32>) -> Made
+        ensures dtype { made_dtype result ≡ dtype.Int32 }
+        ensures cells { made_cells result ≡ map int32_cell parts }
     {
-        Series::from_int32(Text::new(alloc), column)
+        Made::Int32(parts)
     }
 }
 
@@ -78,11 +104,25 @@ impl Native for i64 {
         }
     }
 
-    fn series(alloc: Global, column: Column<i64>) -> Series
-        ensures dtype { result.dtype ≡ dtype.Int64 }
-        ensures cells { result.cells ≡ map int64_cell column }
+    fn parts(made: &Made) -> &Parts<i64> {
+        match made {
+            Made::Int64(parts) => parts,
+            _ => unreachable!(),
+        }
+    }
+
+    fn into_parts(made: Made) -> Parts<i64> {
+        match made {
+            Made::Int64(parts) => parts,
+            _ => unreachable!(),
+        }
+    }
+
+    fn made(parts: Parts<i64>) -> Made
+        ensures dtype { made_dtype result ≡ dtype.Int64 }
+        ensures cells { made_cells result ≡ map int64_cell parts }
     {
-        Series::from_int64(Text::new(alloc), column)
+        Made::Int64(parts)
     }
 }
 
@@ -102,11 +142,25 @@ impl Native for u32 {
         }
     }
 
-    fn series(alloc: Global, column: Column<u32>) -> Series
-        ensures dtype { result.dtype ≡ dtype.UInt32 }
-        ensures cells { result.cells ≡ map uint32_cell column }
+    fn parts(made: &Made) -> &Parts<u32> {
+        match made {
+            Made::UInt32(parts) => parts,
+            _ => unreachable!(),
+        }
+    }
+
+    fn into_parts(made: Made) -> Parts<u32> {
+        match made {
+            Made::UInt32(parts) => parts,
+            _ => unreachable!(),
+        }
+    }
+
+    fn made(parts: Parts<u32>) -> Made
+        ensures dtype { made_dtype result ≡ dtype.UInt32 }
+        ensures cells { made_cells result ≡ map uint32_cell parts }
     {
-        Series::from_uint32(Text::new(alloc), column)
+        Made::UInt32(parts)
     }
 }
 
@@ -126,11 +180,25 @@ impl Native for u64 {
         }
     }
 
-    fn series(alloc: Global, column: Column<u64>) -> Series
-        ensures dtype { result.dtype ≡ dtype.UInt64 }
-        ensures cells { result.cells ≡ map uint64_cell column }
+    fn parts(made: &Made) -> &Parts<u64> {
+        match made {
+            Made::UInt64(parts) => parts,
+            _ => unreachable!(),
+        }
+    }
+
+    fn into_parts(made: Made) -> Parts<u64> {
+        match made {
+            Made::UInt64(parts) => parts,
+            _ => unreachable!(),
+        }
+    }
+
+    fn made(parts: Parts<u64>) -> Made
+        ensures dtype { made_dtype result ≡ dtype.UInt64 }
+        ensures cells { made_cells result ≡ map uint64_cell parts }
     {
-        Series::from_uint64(Text::new(alloc), column)
+        Made::UInt64(parts)
     }
 }
 
@@ -150,11 +218,25 @@ impl Native for bool {
         }
     }
 
-    fn series(alloc: Global, column: Column<bool>) -> Series
-        ensures dtype { result.dtype ≡ dtype.Boolean }
-        ensures cells { result.cells ≡ map boolean_cell column }
+    fn parts(made: &Made) -> &Parts<bool> {
+        match made {
+            Made::Boolean(parts) => parts,
+            _ => unreachable!(),
+        }
+    }
+
+    fn into_parts(made: Made) -> Parts<bool> {
+        match made {
+            Made::Boolean(parts) => parts,
+            _ => unreachable!(),
+        }
+    }
+
+    fn made(parts: Parts<bool>) -> Made
+        ensures dtype { made_dtype result ≡ dtype.Boolean }
+        ensures cells { made_cells result ≡ map boolean_cell parts }
     {
-        Series::from_boolean(Text::new(alloc), column)
+        Made::Boolean(parts)
     }
 }
 
@@ -186,7 +268,7 @@ pub(crate) fn side_of<'a, T: Native>(rows: usize, operand: &'a Operand<'a>) -> S
 {
     match operand {
         Operand::Lent(series) => lent(series),
-        Operand::Made(series) => lent(series),
+        Operand::Made(made) => Side::Column(T::parts(made).lent()),
         Operand::Constant(_, cell) => {
             let (present, value) = T::value(cell);
             Side::Constant(Repeated {
@@ -206,12 +288,12 @@ fn zip_sides<'a, T: Copy, O: Operator<T>>(
     left: Side<'a, T>,
     right: Side<'a, T>,
     operator: O,
-) -> Result<Column<O::Output>, AllocError>
+) -> Result<Parts<O::Output>, AllocError>
 where
     O::Output: Drop,
     requires left { length (side_slots left) ≡ rows }
     requires right { length (side_slots right) ≡ rows }
-    ensures { IfOk result (λ column. column ≡ zip_with O.gives (side_slots left.entry) (side_slots right.entry)) }
+    ensures { IfOk result (λ parts. parts ≡ zip_with O.gives (side_slots left.entry) (side_slots right.entry)) }
 {
     match (left, right) {
         (Side::Column(left), Side::Column(right)) => Ok(collect(
@@ -258,25 +340,66 @@ where
 pub(crate) fn zip<T: Native, O: Operator<T>>(
     alloc: Global,
     rows: usize,
-    left: &Operand<'_>,
-    right: &Operand<'_>,
+    left: Operand<'_>,
+    right: Operand<'_>,
     operator: O,
-) -> Result<Series, AllocError>
+) -> Result<Made, AllocError>
 where
     O::Output: Native,
-    requires left { operand_dtype left.now ≡ T.dtype_of }
-    requires right { operand_dtype right.now ≡ T.dtype_of }
-    requires rows_left { IsOperand rows left.now }
-    requires rows_right { IsOperand rows right.now }
-    ensures dtype { IfOk result (λ made. made.dtype ≡ O.Output.dtype_of) }
-    ensures cells { IfOk result (λ made. Zips T.cell O.Output.cell O.gives (operand_cells rows left.now) (operand_cells rows right.now) made.cells) }
+    requires left { operand_dtype left ≡ T.dtype_of }
+    requires right { operand_dtype right ≡ T.dtype_of }
+    requires rows_left { IsOperand rows left }
+    requires rows_right { IsOperand rows right }
+    ensures dtype { IfOk result (λ made. made_dtype made ≡ O.Output.dtype_of) }
+    ensures cells { IfOk result (λ made. Zips T.cell O.Output.cell O.gives (operand_cells rows left.entry) (operand_cells rows right.entry) (made_cells made)) }
 {
-    let column = zip_sides(
+    let parts = zip_sides(
         alloc,
         rows,
-        side_of::<T>(rows, left),
-        side_of::<T>(rows, right),
+        side_of::<T>(rows, &left),
+        side_of::<T>(rows, &right),
         operator,
     )?;
-    Ok(<O::Output as Native>::series(alloc, column))
+    Ok(<O::Output as Native>::made(parts))
+}
+
+/// An operator on a column that was made and a side, row by row, in the column's memory.
+#[tactic(auto, using(crate::proofs::Sides::side_rules))]
+fn zip_parts<'a, T: Copy, O: Operator<T, Output = T>>(
+    left: Parts<T>,
+    right: Side<'a, T>,
+    operator: O,
+) -> Parts<T>
+    requires { length (side_slots right) ≡ length left }
+    ensures { result ≡ zip_with O.gives left (side_slots right.entry) }
+{
+    match right {
+        Side::Column(right) => collect_into(left, &right, operator),
+        Side::Constant(right) => collect_into(left, &right, operator),
+    }
+}
+
+/// An operator that gives its operands' type, row by row, in the memory of the left one where that was made.
+#[tactic(auto, using(crate::proofs::Sides::side_rules))]
+pub(crate) fn zip_into<T: Native, O: Operator<T, Output = T>>(
+    alloc: Global,
+    rows: usize,
+    left: Operand<'_>,
+    right: Operand<'_>,
+    operator: O,
+) -> Result<Made, AllocError>
+    requires left { operand_dtype left ≡ T.dtype_of }
+    requires right { operand_dtype right ≡ T.dtype_of }
+    requires rows_left { IsOperand rows left }
+    requires rows_right { IsOperand rows right }
+    ensures dtype { IfOk result (λ made. made_dtype made ≡ T.dtype_of) }
+    ensures cells { IfOk result (λ made. Zips T.cell T.cell O.gives (operand_cells rows left.entry) (operand_cells rows right.entry) (made_cells made)) }
+{
+    match left {
+        Operand::Made(made) => {
+            let right = side_of::<T>(rows, &right);
+            Ok(T::made(zip_parts(T::into_parts(made), right, operator)))
+        }
+        left => Ok(zip::<T, O>(alloc, rows, left, right, operator)?),
+    }
 }

@@ -1,12 +1,10 @@
-//! What has a value, or none, at each of so many rows; and the one loop that makes a column of it.
+//! What has a value, or none, at each of so many rows.
 
-ghost use Rattle.std.specs.Prelude.{◌≡◌, ◌<◌, List, Option, length, replicate, IfOk};
+ghost use Rattle.std.specs.Prelude.{◌≡◌, ◌<◌, List, Option, length, replicate};
 ghost use Rattle.pipe_frame.specs.Column.{slot_at, slots};
 ghost use Rattle.pipe_expr.specs.Slots.{marked, zip_with};
 
 use crate::operator::Operator;
-use pipe_frame::Column;
-use std::alloc::{AllocError, Global};
 
 /// What has a value, or none, at each of so many rows.
 pub(crate) trait Source {
@@ -20,28 +18,6 @@ pub(crate) trait Source {
     fn slot(&self, i: usize) -> (bool, Self::Value)
         requires { i < length (slots self.now) }
         ensures { marked result.0 result.1 ≡ slot_at (slots self.now) i };
-}
-
-/// The column of a source.
-#[tactic(auto, using(crate::proofs::Sources::source_rules))]
-pub(crate) fn collect<S: Source>(
-    alloc: Global,
-    rows: usize,
-    source: &S,
-) -> Result<Column<S::Value>, AllocError>
-where
-    S::Value: Drop,
-    requires { rows ≡ length (S.slots source.now) }
-    ensures { IfOk result (λ column. column ≡ S.slots source.now) }
-{
-    let mut marks = Vec::with_capacity(alloc, rows)?;
-    let mut values = Vec::with_capacity(alloc, rows)?;
-    for i in 0..rows {
-        let (present, value) = source.slot(i);
-        marks.push_reserved(present);
-        values.push_reserved(value);
-    }
-    Ok(Column::from_parts(marks, values))
 }
 
 /// The marks and values of a column.

@@ -1,4 +1,4 @@
-use Rattle.std.proofs.Common.{ap, map, ◌∙◌}
+use Rattle.std.proofs.Common.{ap, map}
 use Rattle.pipe_frame.specs.Cell.{boolean_cell}
 use Rattle.pipe_expr.specs.Operands.{piece_slots}
 use Rattle.pipe_expr.proofs.ComparedCells.{compared-binary}
@@ -10,5 +10,5 @@ returns-clause-cells g c = compared-binary g.C.Test.test (record {
   b = piece_slots c.bytes-2.result;
   is_left = c.bytes.ensures;
   is_right = c.bytes-2.ensures;
-  is_made = ap (λ s. s.cells) c.from_boolean.ensures ∙ ap (map boolean_cell) c.in_ok-column.ensures;
+  is_made = ap (map boolean_cell) c.in_ok-parts.ensures;
 })

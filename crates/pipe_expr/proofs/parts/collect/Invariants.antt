@@ -1,6 +1,6 @@
 use Rattle.std.proofs.Common.{◌≡◌, ◌≤◌, length, take, vec_capacity}
 use Rattle.pipe_frame.specs.Column.{slots}
-use Rattle.pipe_expr.proofs.source.collect.Given as goal
+use Rattle.pipe_expr.proofs.parts.collect.Given as goal
 
 abbrev pub invariant-loop-i : goal.invariant-loop-i
 invariant-loop-i g l = record {
