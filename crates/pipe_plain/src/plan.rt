@@ -57,7 +57,7 @@ fn rows_of_frame(alloc: Global, frame: &DataFrame) -> Result<List<Row>, AllocErr
 {
     let mut rows = List::new(alloc);
     for i in 0..frame.height() {
-        rows.push(frame.row(alloc, i)?)?;
+        rows.push(frame.row(i)?)?;
     }
     Ok(rows)
 }
