@@ -1,14 +1,104 @@
-//! The answer to a job: the fault of its plan, or the names of its columns and its rows.
+//! The answer to a plan: its fault, or the names of its columns and its rows.
 
 ghost use Rattle.std.specs.Prelude.{◌<◌, ◌^◌, length};
 
-use crate::frames::frame_of;
-use crate::texts::{fault_text, side_text, text_of};
-use pipe_frame::DataFrame;
-use pipe_job::{Job, JobError, head_line, read_job, row_line};
+use crate::plan::Plan;
+use pipe_frame::{AnyValue, Field, Row};
 use pipe_plain::{plan_fault, rows, schema};
-use pipe_plan::IR;
+use pipe_plan::{Arena, IR, PipeError, swap_join_order};
 use std::alloc::{AllocError, Global};
+
+/// A cell in JSON, binary ones in hexadecimal digits.
+fn cell_text(alloc: Global, cell: &AnyValue) -> Result<String, AllocError> {
+    match cell {
+        AnyValue::Null => String::from_str(alloc, "null"),
+        AnyValue::Int32(x) => format!(in alloc; "{x}"),
+        AnyValue::Int64(x) => format!(in alloc; "{x}"),
+        AnyValue::UInt32(x) => format!(in alloc; "{x}"),
+        AnyValue::UInt64(x) => format!(in alloc; "{x}"),
+        AnyValue::Boolean(x) => format!(in alloc; "{x}"),
+        AnyValue::String(x) => format!(in alloc; "\"{}\"", x.as_str()),
+        AnyValue::Binary(x) => {
+            let digits = hex::encode(alloc, x.as_slice())?;
+            format!(in alloc; "\"{digits}\"")
+        }
+    }
+}
+
+/// The line of the cells of a row.
+fn row_line(alloc: Global, row: &Row) -> Result<String, AllocError> {
+    let mut line = String::from_str(alloc, "[")?;
+    for (place, cell) in row.as_slice().iter().enumerate() {
+        if place > 0 {
+            line.push_str(",")?;
+        }
+        line.push_str(cell_text(alloc, cell)?.as_str())?;
+    }
+    line.push_str("]\n")?;
+    Ok(line)
+}
+
+/// The line of the names of some columns.
+fn head_line(alloc: Global, fields: &[Field]) -> Result<String, AllocError> {
+    let mut line = String::from_str(alloc, "[")?;
+    for (place, field) in fields.iter().enumerate() {
+        if place > 0 {
+            line.push_str(",")?;
+        }
+        line.push_str(format!(in alloc; "\"{}\"", field.name.as_str())?.as_str())?;
+    }
+    line.push_str("]\n")?;
+    Ok(line)
+}
+
+/// The lines of some rows, in the order of their texts where no other is asked for.
+fn row_lines(alloc: Global, rows: &[Row], is_in_order: bool) -> Result<Vec<String>, AllocError> {
+    let mut lines = Vec::new(alloc);
+    for row in rows {
+        lines.push(row_line(alloc, row)?)?;
+    }
+    if !is_in_order {
+        lines.sort()?;
+    }
+    Ok(lines)
+}
+
+/// Which side is built, where the node is a join.
+fn side_line(node: Option<&IR>) -> &'static str {
+    match node {
+        Some(
+            IR::Join {
+                left: _,
+                right: _,
+                left_on: _,
+                right_on: _,
+                options,
+            },
+        ) => if swap_join_order(options) {
+            "right side built\n"
+        } else {
+            "left side built\n"
+        },
+        _ => "",
+    }
+}
+
+/// The line of a fault.
+fn fault_line(alloc: Global, fault: &PipeError) -> Result<String, AllocError> {
+    match fault {
+        PipeError::BadNode(n) => format!(in alloc; "BadNode at node {n}\n"),
+        PipeError::UnknownColumn(n, name) => {
+            format!(in alloc; "UnknownColumn at node {n}: \"{}\"\n", name.as_str())
+        }
+        PipeError::DuplicateName(n, name) => {
+            format!(in alloc; "DuplicateName at node {n}: \"{}\"\n", name.as_str())
+        }
+        PipeError::TypeMismatch(n) => format!(in alloc; "TypeMismatch at node {n}\n"),
+        PipeError::BadJoin(n) => format!(in alloc; "BadJoin at node {n}\n"),
+        PipeError::BadSort(n) => format!(in alloc; "BadSort at node {n}\n"),
+        _ => String::from_str(alloc, "no fault of a plan\n"),
+    }
+}
 
 /// Whether a node puts its rows in an order.
 fn is_sort(node: Option<&IR>) -> bool {
@@ -22,59 +112,35 @@ fn is_sort(node: Option<&IR>) -> bool {
     )
 }
 
-/// The lines of a frame's rows, in the order of their texts where no other is asked for.
-fn row_lines(
-    alloc: Global,
-    frame: &DataFrame,
-    is_in_order: bool,
-) -> Result<Vec<String>, AllocError> {
-    let mut lines = Vec::new(alloc);
-    for i in 0..frame.height() {
-        lines.push(text_of(alloc, row_line(alloc, frame, i)?.as_slice())?)?;
-    }
-    if !is_in_order {
-        lines.sort()?;
-    }
-    Ok(lines)
-}
-
-/// The names of a frame's columns, and its rows.
-fn frame_text(alloc: Global, frame: &DataFrame, is_in_order: bool) -> Result<String, AllocError> {
-    let mut text = text_of(alloc, head_line(alloc, frame.schema())?.as_slice())?;
-    for line in &row_lines(alloc, frame, is_in_order)? {
+/// What the plain program gives for a plan that has no fault.
+fn rows_text(alloc: Global, arena: &Arena, root: u32) -> Result<String, AllocError> {
+    let node = arena.nodes.as_slice().get(root as usize);
+    let mut text = String::from_str(alloc, side_line(node))?;
+    text.push_str(head_line(alloc, schema(alloc, arena, root)?.as_slice())?.as_str())?;
+    let rows = rows(alloc, arena, root)?;
+    for line in &row_lines(alloc, rows.as_slice(), is_sort(node))? {
         text.push_str(line.as_str())?;
     }
     Ok(text)
 }
 
-/// What the plain program gives for a plan that has no fault.
-fn rows_text(alloc: Global, job: &Job) -> Result<String, AllocError> {
-    let root = job.arena.nodes.as_slice().get(job.root as usize);
-    let fields = schema(alloc, &job.arena, job.root)?;
-    let rows = rows(alloc, &job.arena, job.root)?;
-    let mut text = side_text(alloc, root)?;
-    match frame_of(alloc, fields.as_slice(), rows.as_slice())? {
-        Some(frame) => text.push_str(frame_text(alloc, &frame, is_sort(root))?.as_str())?,
-        None => text.push_str("no frame\n")?,
-    }
-    Ok(text)
-}
-
 /// The fault of a plan, or what it gives.
-fn plan_text(alloc: Global, job: &Job) -> Result<String, AllocError>
-    requires { length job.now.arena.nodes < 2 ^ 32 }
+fn plan_text(alloc: Global, arena: &Arena, root: u32) -> Result<String, AllocError>
+    requires { length arena.now.nodes < 2 ^ 32 }
 {
-    match plan_fault(alloc, &job.arena, job.root)? {
-        Some(fault) => fault_text(alloc, &fault),
-        None => rows_text(alloc, job),
+    match plan_fault(alloc, arena, root)? {
+        Some(fault) => fault_line(alloc, &fault),
+        None => rows_text(alloc, arena, root),
     }
 }
 
-/// The answer to a job.
-pub(crate) fn answer(alloc: Global, job: &[u8]) -> Result<String, AllocError> {
-    match read_job(alloc, job) {
-        Ok(job) if job.arena.nodes.len() < 4294967296 => plan_text(alloc, &job),
-        Err(JobError::Memory) => Err(AllocError),
-        _ => String::from_str(alloc, "not a job\n"),
+/// Appends what a plan shows, and its answer.
+pub(crate) fn tell(answers: &mut String, plan: Plan) -> Result<(), AllocError> {
+    answers.push_str("# ")?;
+    answers.push_str(plan.shows)?;
+    answers.push_str("\n")?;
+    if plan.arena.nodes.len() < 4294967296 {
+        answers.push_str(plan_text(plan.alloc, &plan.arena, plan.root)?.as_str())?;
     }
+    Ok(())
 }
