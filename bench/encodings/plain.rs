@@ -1,30 +1,15 @@
 //! The same work as `main.rattle`, over plain vectors, column by column into one buffer that is sized first.
 //! Each line that it writes is a name, nanoseconds, and a byte count.
 
+#[path = "../random.rs"]
+mod random;
+
+use random::{next, text_of};
 use std::time::Instant;
 
 const ROWS: usize = 1_000_000;
 const ROUNDS: usize = 9;
 const TOP_BIT: u64 = 1 << 63;
-
-fn next(state: u64) -> u64 {
-    state
-        .wrapping_mul(6_364_136_223_846_793_005)
-        .wrapping_add(1_442_695_040_888_963_407)
-}
-
-fn text_of(x: u64) -> Option<&'static str> {
-    match x % 8 {
-        0 => Some("Alfa"),
-        1 => Some("Bravo in the north"),
-        2 => Some("Charlie"),
-        3 => Some(""),
-        4 => Some("Echo of an echo"),
-        5 => Some("Foxtrot, Golf, Hotel, India"),
-        6 => Some("J"),
-        _ => None,
-    }
-}
 
 /// Values of 64 bits, with marks beside them.
 #[derive(Default)]

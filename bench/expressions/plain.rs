@@ -1,30 +1,15 @@
 //! The same work as `main.rattle`, each expression as one loop that is fused by hand, over plain vectors.
 //! Each line that it writes is a name, nanoseconds, and how many rows are true.
 
+#[path = "../random.rs"]
+mod random;
+
+use random::{next, text_of};
 use std::time::Instant;
 
 const ROWS: usize = 1_000_000;
 const CHUNK: usize = 20_000;
 const ROUNDS: usize = 9;
-
-fn next(state: u64) -> u64 {
-    state
-        .wrapping_mul(6_364_136_223_846_793_005)
-        .wrapping_add(1_442_695_040_888_963_407)
-}
-
-fn text_of(x: u64) -> Option<&'static str> {
-    match x % 8 {
-        0 => Some("Alfa"),
-        1 => Some("Bravo in the north"),
-        2 => Some("Charlie"),
-        3 => Some(""),
-        4 => Some("Echo of an echo"),
-        5 => Some("Foxtrot, Golf, Hotel, India"),
-        6 => Some("J"),
-        _ => None,
-    }
-}
 
 /// Values, with marks beside them.
 #[derive(Default)]
