@@ -16,6 +16,7 @@ eq_cell-sound (cell.UInt64 a) (cell.UInt64 b) h = ap cell.UInt64 ((Decides-eqb a
 eq_cell-sound (cell.Boolean a) (cell.Boolean b) h = ap cell.Boolean ((booleans_Decides a b).0 h)
 eq_cell-sound (cell.String a) (cell.String b) h = ap cell.String ((bytes_decides a b).0 h)
 eq_cell-sound (cell.Binary a) (cell.Binary b) h = ap cell.Binary ((bytes_decides a b).0 h)
+eq_cell-sound (cell.Int128 a) (cell.Int128 b) h = ap cell.Int128 ((signed_Decides a b).0 h)
 eq_cell-sound _ _ h = cc
 
 pub eq_cell-refl : (a : AnyValue) → eq_cell a a ≡ true
@@ -27,3 +28,4 @@ eq_cell-refl (cell.UInt64 a) = (Decides-eqb a a).1 refl
 eq_cell-refl (cell.Boolean a) = (booleans_Decides a a).1 refl
 eq_cell-refl (cell.String a) = (bytes_decides a a).1 refl
 eq_cell-refl (cell.Binary a) = (bytes_decides a a).1 refl
+eq_cell-refl (cell.Int128 a) = (signed_Decides a a).1 refl

@@ -1,4 +1,4 @@
-pub mod Slots
+pub mod Nullables
 pub mod Texts
 pub mod Pieces
 pub mod Cells
@@ -7,6 +7,8 @@ pub mod Tables
 pub mod RowOps
 pub mod Sizes
 pub mod Selects
-pub mod Numbers
 pub mod Weights
 pub mod NamePlaces
+pub mod NativeBytes
+pub mod NameOrders
+pub mod NameSets

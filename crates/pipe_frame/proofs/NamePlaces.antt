@@ -1,9 +1,10 @@
 -- Names of a schema: each stands once, so a field's name finds its place.
-use Rattle.std.proofs.Common.{◌≡◌, ℕ, zero, suc, ◌+◌, ◌<◌, Bool, true, false, cond, List, [], ◌∷◌, Option, Some, None, length, get_or, refl, ap, sym, ◌∙◌, arith}
-use Rattle.std.specs.Prelude.{option_map, ◌||◌}
+use Rattle.std.proofs.Common.{◌≡◌, ℕ, zero, suc, ◌+◌, ◌<◌, Bool, true, false, cond, List, [], ◌∷◌, Option, Some, None, length, get_or, map, drop, refl, ap, sym, ◌∙◌, arith}
+use Rattle.std.specs.Prelude.{is_some, option_map, ◌||◌}
 use Rattle.std.specs.Str.{bytes_eq}
 use Rattle.std.specs.Cmp.Lexicographic.{bytes_decides}
-use Rattle.pipe_frame.specs.Schema.{has_name, first_repeated, names_of, names_fault, place_from, place_of, IsSchema}
+use Rattle.std.proofs.lemmas.List.{drop_more}
+use Rattle.pipe_frame.specs.Schema.{has_name, first_repeated, names_of, place_from, place_of, first_unknown, IsSchema}
 use Rattle.pipe_frame.specs.declared.field.Field.{Field}
 use Rattle.pipe_frame.specs.declared.error.FrameError.TheVariants as fault
 
@@ -17,6 +18,23 @@ has_name-at (field ∷ fields) zero d lt = rw bytes_eq-refl refl
 has_name-at (field ∷ fields) (suc k) d lt =
     let later = has_name-at fields k d (omega arith) in
     elim (bytes_eq field.name (get_or fields k d).name) as (λ b. (b || has_name (names_of fields) (get_or fields k d).name) ≡ true) [ true ↦ refl | false ↦ later ]
+
+-- a name has a place where it is among the names
+pub is_some-place_from : (n : ℕ) (name : List ℕ) (fields : List Field) → is_some (place_from n name fields) ≡ has_name (names_of fields) name
+is_some-place_from n name [] = refl
+is_some-place_from n name (field ∷ fields) =
+    elim (bytes_eq field.name name) as (λ b. is_some (cond b (Some n) (place_from (n + 1) name fields)) ≡ (b || has_name (names_of fields) name)) [ true ↦ refl | false ↦ is_some-place_from (n + 1) name fields ]
+
+-- the names of some things from a place on
+pub names_more : {N : Type 0} (f : N → List ℕ) (items : List N) (i : ℕ) (item : N) (name : List ℕ) → i < length items → item ≡ get_or items i item → name ≡ f item → map f (drop i items) ≡ name ∷ map f (drop (i + 1) items)
+names_more f items i item name lt is named = ap (map f) (drop_more items i item lt) ∙ ap (λ n. n ∷ map f (drop (i + 1) items)) (ap f (sym is) ∙ sym named)
+
+-- a name that no field has, and one that a field has
+pub unknown_here : (fields : List Field) (name : List ℕ) (rest : List (List ℕ)) (r : Option ℕ) → r ≡ place_of name fields → r ≡ None → first_unknown fields (name ∷ rest) ≡ Some name
+unknown_here fields name rest r e none = ap (λ b. cond b (first_unknown fields rest) (Some name)) (sym (is_some-place_from 0 name fields) ∙ ap is_some (sym e ∙ none))
+
+pub known_here : (fields : List Field) (name : List ℕ) (rest : List (List ℕ)) (r : Option ℕ) → r ≡ place_of name fields → is_some r ≡ true → first_unknown fields (name ∷ rest) ≡ first_unknown fields rest
+known_here fields name rest r e some = ap (λ b. cond b (first_unknown fields rest) (Some name)) (sym (is_some-place_from 0 name fields) ∙ ap is_some (sym e) ∙ some)
 
 -- names of which none stands again
 pub record IsDistinct (fields : List Field) : Type 0 where

@@ -11,11 +11,11 @@ use Rattle.pipe_frame.specs.Cell.{boolean_cell}
 use Rattle.pipe_frame.specs.Series.{Cells, cell_at, cell_or_null}
 use Rattle.pipe_frame.specs.Schema.{IsSchema}
 use Rattle.pipe_frame.specs.Columns.{taken_column, taken_columns, part_column, front_column, stacked_column, stacked_front, true_places}
-use Rattle.pipe_frame.specs.Frame.{Table, field_of, row_at, rows_of, table_of, AllOfHeight, IsRowOrNone, row_or_nulls, chosen_rows, kept_rows, height_of}
+use Rattle.pipe_frame.specs.Frame.{Table, field_of, row_at, column_rows, table_of, AllOfHeight, IsRowOrNone, row_or_nulls, chosen_rows, kept_rows, height_of}
 use Rattle.pipe_frame.specs.declared.field.Field.{Field}
 use Rattle.pipe_frame.specs.declared.any_value.AnyValue.{AnyValue}
 use Rattle.pipe_frame.specs.declared.any_value.AnyValue.TheVariants as cell
-use Rattle.pipe_frame.proofs.Tables.{length-rows_of, get_or-rows_of}
+use Rattle.pipe_frame.proofs.Tables.{length-column_rows, get_or-column_rows}
 
 -- ---- one column after another
 
@@ -118,11 +118,11 @@ nulls [] = refl
 nulls (c ∷ columns) = ap (λ l. cell.Null ∷ l) (nulls columns)
 
 row_in-table : (columns : List Cells) (height : ℕ) (place : Option ℕ) → IsRowOrNone height place → row_or_nulls (table_of columns height) place ≡ row_in columns place
-row_in-table columns height (Some i) lt = get_or-rows_of columns height i lt
+row_in-table columns height (Some i) lt = get_or-column_rows columns height i lt
 row_in-table columns height None lt = sym (nulls columns)
 
-rows_of-taken : (columns : List Cells) (height : ℕ) (places : List (Option ℕ)) → All (IsRowOrNone height) places → rows_of (taken_columns places columns) (length places) ≡ map (row_or_nulls (table_of columns height)) places
-rows_of-taken columns height places inside =
+column_rows-taken : (columns : List Cells) (height : ℕ) (places : List (Option ℕ)) → All (IsRowOrNone height) places → column_rows (taken_columns places columns) (length places) ≡ map (row_or_nulls (table_of columns height)) places
+column_rows-taken columns height places inside =
     sym (fill_by_all (row_at (taken_columns places columns)) (map (row_or_nulls (table_of columns height)) places) (length places) [] (length-map places _)
     (λ k lt. get_or-map (row_or_nulls (table_of columns height)) places k None [] lt ∙ row_in-table columns height (get_or places k None) (inside k None lt) ∙ sym (row_at-taken columns places k lt)))
 
@@ -131,8 +131,8 @@ pub table_of-taken : (columns : List Cells) (height : ℕ) (places : List (Optio
 table_of-taken columns height places n {table = table} {items = items} v inside e count =
     let Claim : Table → Type 0 = λ t. All (IsRowOrNone (length t.rows)) places → table_of items n ≡ record { schema = t.schema; rows = map (row_or_nulls t) places } in
     let proof : Claim (table_of columns height) = λ all.
-    let within : All (IsRowOrNone height) places = rw length-rows_of at all in
-    rw (e, count) (ap (λ s. record { schema = s; rows = rows_of (taken_columns places columns) (length places) }) (fields-kept (taken_column places) (λ c. refl) columns) ∙ ap (λ r. record { schema = map field_of columns; rows = r }) (rows_of-taken columns height places within))
+    let within : All (IsRowOrNone height) places = rw length-column_rows at all in
+    rw (e, count) (ap (λ s. record { schema = s; rows = column_rows (taken_columns places columns) (length places) }) (fields-kept (taken_column places) (λ c. refl) columns) ∙ ap (λ r. record { schema = map field_of columns; rows = r }) (column_rows-taken columns height places within))
     in subst Claim v proof inside
 
 even-map : (f : Cells → Cells) (n : ℕ) (columns : List Cells) → ((k : ℕ) (d : Cells) → k < length columns → length (f (get_or columns k d)).cells ≡ n) → AllOfHeight n (map f columns)
@@ -155,33 +155,33 @@ places-inside height rows inside k d lt =
     let below : k < length rows = omega (arith, length-map rows (λ (i : ℕ). Some i)) in
     rw (get_or-map (λ (i : ℕ). Some i) rows k 0 d below) (inside k 0 below)
 
--- ---- rows whose mark is true
+-- ---- rows where a mask is true
 
 below_more : (n m : ℕ) (places : List ℕ) → All (λ i. i < n) places → n ≤ m → All (λ i. i < m) places
 below_more n m places h le k d lt = omega (arith, h k d lt)
 
-pub true_places-below : (n : ℕ) (marks : List (Option Bool)) → All (λ i. i < n + length marks) (true_places n marks)
+pub true_places-below : (n : ℕ) (mask : List (Option Bool)) → All (λ i. i < n + length mask) (true_places n mask)
 true_places-below n [] = let P : ℕ → Type 0 = λ i. i < n + 0 in All-nil P
-true_places-below n (Some true ∷ marks) = let P : ℕ → Type 0 = λ i. i < n + suc (length marks) in All-cons P n (true_places (n + 1) marks) (omega arith) (below_more (n + 1 + length marks) (n + suc (length marks)) _ (true_places-below (n + 1) marks) (omega arith))
-true_places-below n (Some false ∷ marks) = below_more (n + 1 + length marks) (n + suc (length marks)) _ (true_places-below (n + 1) marks) (omega arith)
-true_places-below n (None ∷ marks) = below_more (n + 1 + length marks) (n + suc (length marks)) _ (true_places-below (n + 1) marks) (omega arith)
+true_places-below n (Some true ∷ mask) = let P : ℕ → Type 0 = λ i. i < n + suc (length mask) in All-cons P n (true_places (n + 1) mask) (omega arith) (below_more (n + 1 + length mask) (n + suc (length mask)) _ (true_places-below (n + 1) mask) (omega arith))
+true_places-below n (Some false ∷ mask) = below_more (n + 1 + length mask) (n + suc (length mask)) _ (true_places-below (n + 1) mask) (omega arith)
+true_places-below n (None ∷ mask) = below_more (n + 1 + length mask) (n + suc (length mask)) _ (true_places-below (n + 1) mask) (omega arith)
 
-rows-kept : (all : List Row) (n : ℕ) (marks : List (Option Bool)) → n + length marks ≤ length all → chosen_rows all (true_places n marks) ≡ kept_rows (map boolean_cell marks) (drop n all)
+rows-kept : (all : List Row) (n : ℕ) (mask : List (Option Bool)) → n + length mask ≤ length all → chosen_rows all (true_places n mask) ≡ kept_rows (map boolean_cell mask) (drop n all)
 rows-kept all n [] le = refl
-rows-kept all n (Some true ∷ marks) le =
-    ap (λ l. get_or all n [] ∷ l) (rows-kept all (n + 1) marks (omega arith)) ∙ sym (ap (kept_rows (cell.Boolean true ∷ map boolean_cell marks)) (drop_more all n [] (omega arith)))
-rows-kept all n (Some false ∷ marks) le = rows-kept all (n + 1) marks (omega arith) ∙ sym (ap (kept_rows (cell.Boolean false ∷ map boolean_cell marks)) (drop_more all n [] (omega arith)))
-rows-kept all n (None ∷ marks) le = rows-kept all (n + 1) marks (omega arith) ∙ sym (ap (kept_rows (cell.Null ∷ map boolean_cell marks)) (drop_more all n [] (omega arith)))
+rows-kept all n (Some true ∷ mask) le =
+    ap (λ l. get_or all n [] ∷ l) (rows-kept all (n + 1) mask (omega arith)) ∙ sym (ap (kept_rows (cell.Boolean true ∷ map boolean_cell mask)) (drop_more all n [] (omega arith)))
+rows-kept all n (Some false ∷ mask) le = rows-kept all (n + 1) mask (omega arith) ∙ sym (ap (kept_rows (cell.Boolean false ∷ map boolean_cell mask)) (drop_more all n [] (omega arith)))
+rows-kept all n (None ∷ mask) le = rows-kept all (n + 1) mask (omega arith) ∙ sym (ap (kept_rows (cell.Null ∷ map boolean_cell mask)) (drop_more all n [] (omega arith)))
 
-pub rows-filtered : (table : Table) (marks : List (Option Bool)) (cells : List AnyValue) (places : List ℕ) → cells ≡ map boolean_cell marks → length cells ≡ length table.rows → places ≡ true_places 0 marks → map (row_or_nulls table) (map Some places) ≡ kept_rows cells table.rows
-rows-filtered table marks cells places e even p =
-    let long : length marks ≡ length table.rows = sym (length-map marks boolean_cell) ∙ ap length (sym e) ∙ even in
-    rows-chosen table places ∙ ap (chosen_rows table.rows) p ∙ rows-kept table.rows 0 marks (omega arith) ∙ ap (λ l. kept_rows l table.rows) (sym e)
+pub rows-filtered : (table : Table) (mask : List (Option Bool)) (cells : List AnyValue) (places : List ℕ) → cells ≡ map boolean_cell mask → length cells ≡ length table.rows → places ≡ true_places 0 mask → map (row_or_nulls table) (map Some places) ≡ kept_rows cells table.rows
+rows-filtered table mask cells places e even p =
+    let long : length mask ≡ length table.rows = sym (length-map mask boolean_cell) ∙ ap length (sym e) ∙ even in
+    rows-chosen table places ∙ ap (chosen_rows table.rows) p ∙ rows-kept table.rows 0 mask (omega arith) ∙ ap (λ l. kept_rows l table.rows) (sym e)
 
-pub places-filtered : (height : ℕ) (marks : List (Option Bool)) (cells : List AnyValue) (places : List ℕ) → cells ≡ map boolean_cell marks → length cells ≡ height → places ≡ true_places 0 marks → All (IsRowOrNone height) (map Some places)
-places-filtered height marks cells places e even p =
-    let long : length marks ≡ height = sym (length-map marks boolean_cell) ∙ ap length (sym e) ∙ even in
-    places-inside height places (rw p (below_more (0 + length marks) height (true_places 0 marks) (true_places-below 0 marks) (omega arith)))
+pub places-filtered : (height : ℕ) (mask : List (Option Bool)) (cells : List AnyValue) (places : List ℕ) → cells ≡ map boolean_cell mask → length cells ≡ height → places ≡ true_places 0 mask → All (IsRowOrNone height) (map Some places)
+places-filtered height mask cells places e even p =
+    let long : length mask ≡ height = sym (length-map mask boolean_cell) ∙ ap length (sym e) ∙ even in
+    places-inside height places (rw p (below_more (0 + length mask) height (true_places 0 mask) (true_places-below 0 mask) (omega arith)))
 
 -- ---- so many rows from a place on
 
@@ -193,22 +193,22 @@ row_at-part (c ∷ columns) from count k lt =
 part-length : {X : Type 0} (xs : List X) (from count : ℕ) → from + count ≤ length xs → length (take count (drop from xs)) ≡ count
 part-length xs from count le = length-take-le count (drop from xs) (omega (arith, length-drop from xs))
 
-rows_of-part : (columns : List Cells) (height from count : ℕ) → from + count ≤ height → rows_of (map (part_column from count) columns) count ≡ take count (drop from (rows_of columns height))
-rows_of-part columns height from count le =
-    sym (fill_by_all (row_at (map (part_column from count) columns)) (take count (drop from (rows_of columns height))) count [] (part-length (rows_of columns height) from count (rw length-rows_of le))
-    (λ k lt. get_or-take count (drop from (rows_of columns height)) k [] lt ∙ get_or-drop from (rows_of columns height) k [] ∙ get_or-rows_of columns height (from + k) (omega arith) ∙ sym (row_at-part columns from count k lt)))
+column_rows-part : (columns : List Cells) (height from count : ℕ) → from + count ≤ height → column_rows (map (part_column from count) columns) count ≡ take count (drop from (column_rows columns height))
+column_rows-part columns height from count le =
+    sym (fill_by_all (row_at (map (part_column from count) columns)) (take count (drop from (column_rows columns height))) count [] (part-length (column_rows columns height) from count (rw length-column_rows le))
+    (λ k lt. get_or-take count (drop from (column_rows columns height)) k [] lt ∙ get_or-drop from (column_rows columns height) k [] ∙ get_or-column_rows columns height (from + k) (omega arith) ∙ sym (row_at-part columns from count k lt)))
 
 pub table_of-part : (columns : List Cells) (height from count : ℕ) {table : Table} {items : List Cells} → table_of columns height ≡ table → from + count ≤ length table.rows → items ≡ map (part_column from count) columns → table_of items count ≡ record { schema = table.schema; rows = take count (drop from table.rows) }
 table_of-part columns height from count {table = table} {items = items} v inside e =
     let Claim : Table → Type 0 = λ t. from + count ≤ length t.rows → table_of items count ≡ record { schema = t.schema; rows = take count (drop from t.rows) } in
     let proof : Claim (table_of columns height) = λ le.
-    let within : from + count ≤ height = rw length-rows_of at le in
-    rw e (ap (λ s. record { schema = s; rows = rows_of (map (part_column from count) columns) count }) (fields-kept (part_column from count) (λ c. refl) columns) ∙ ap (λ r. record { schema = map field_of columns; rows = r }) (rows_of-part columns height from count within))
+    let within : from + count ≤ height = rw length-column_rows at le in
+    rw e (ap (λ s. record { schema = s; rows = column_rows (map (part_column from count) columns) count }) (fields-kept (part_column from count) (λ c. refl) columns) ∙ ap (λ r. record { schema = map field_of columns; rows = r }) (column_rows-part columns height from count within))
     in subst Claim v proof inside
 
 pub good-part : (columns : List Cells) (height from count : ℕ) {table : Table} {schema copy : List Field} {items : List Cells} → table_of columns height ≡ table → from + count ≤ length table.rows → schema ≡ map field_of columns → IsSchema schema → AllOfHeight height columns → copy ≡ schema → items ≡ map (part_column from count) columns → (copy ≡ map field_of items) × IsSchema copy × AllOfHeight count items
 good-part columns height from count v inside same good even again e =
-    let within : from + count ≤ height = omega (arith, inside, ap (λ t. length t.rows) v, length-rows_of columns height) in
+    let within : from + count ≤ height = omega (arith, inside, ap (λ t. length t.rows) v, length-column_rows columns height) in
     (again ∙ same ∙ sym (fields-kept (part_column from count) (λ c. refl) columns) ∙ sym (ap (map field_of) e), rw again good, rw e (even-map (part_column from count) count columns (λ k d lt. part-length (get_or columns k d).cells from count (omega (arith, even k d lt)))))
 
 -- ---- rows behind rows
@@ -227,17 +227,17 @@ row_at-stacked_high height k (c ∷ columns) [] even same le = absurd (omega ari
 row_at-stacked_high height k (c ∷ columns) (o ∷ others) even same le =
     ap (λ x. x ∷ row_at (stacked_front (length columns) columns others) k) (get_or-append_right c.cells o.cells height k cell.Null (even-head height c columns even) le) ∙ ap (λ l. cell_at o.cells (k - height) ∷ l) (row_at-stacked_high height k columns others (even-rest height c columns even) (omega arith) le)
 
-rows_of-stacked : (columns others : List Cells) (height further : ℕ) → AllOfHeight height columns → length columns ≡ length others → rows_of (stacked_front (length columns) columns others) (height + further) ≡ rows_of columns height ++ rows_of others further
-rows_of-stacked columns others height further even same =
+column_rows-stacked : (columns others : List Cells) (height further : ℕ) → AllOfHeight height columns → length columns ≡ length others → column_rows (stacked_front (length columns) columns others) (height + further) ≡ column_rows columns height ++ column_rows others further
+column_rows-stacked columns others height further even same =
     let stacked : List Cells = stacked_front (length columns) columns others in
-    let front = length-rows_of columns height in
-    let back = length-rows_of others further in
-    let at : (k : ℕ) → k < height + further → get_or (rows_of columns height ++ rows_of others further) k [] ≡ row_at stacked k = λ k lt.
-    let split : (k < height) ⊎ (height ≤ k) → get_or (rows_of columns height ++ rows_of others further) k [] ≡ row_at stacked k = elim [
-      | inl low ↦ get_or_append_left (rows_of columns height) (rows_of others further) [] k (omega arith) ∙ get_or-rows_of columns height k low ∙ sym (row_at-stacked_low (length columns) height k columns others even low)
-      | inr high ↦ get_or-append_right (rows_of columns height) (rows_of others further) height k [] front high ∙ get_or-rows_of others further (k - height) (omega arith) ∙ sym (row_at-stacked_high height k columns others even same high)
+    let front = length-column_rows columns height in
+    let back = length-column_rows others further in
+    let at : (k : ℕ) → k < height + further → get_or (column_rows columns height ++ column_rows others further) k [] ≡ row_at stacked k = λ k lt.
+    let split : (k < height) ⊎ (height ≤ k) → get_or (column_rows columns height ++ column_rows others further) k [] ≡ row_at stacked k = elim [
+      | inl low ↦ get_or_append_left (column_rows columns height) (column_rows others further) [] k (omega arith) ∙ get_or-column_rows columns height k low ∙ sym (row_at-stacked_low (length columns) height k columns others even low)
+      | inr high ↦ get_or-append_right (column_rows columns height) (column_rows others further) height k [] front high ∙ get_or-column_rows others further (k - height) (omega arith) ∙ sym (row_at-stacked_high height k columns others even same high)
     ] in split (cases_lt k height)
-    in sym (fill_by_all (row_at stacked) (rows_of columns height ++ rows_of others further) (height + further) [] (length-append (rows_of columns height) (rows_of others further) ∙ omega arith) at)
+    in sym (fill_by_all (row_at stacked) (column_rows columns height ++ column_rows others further) (height + further) [] (length-append (column_rows columns height) (column_rows others further) ∙ omega arith) at)
 
 height_of-stacked : (columns others : List Cells) (height further : ℕ) (n : ℕ) → AllOfHeight height columns → AllOfHeight further others → length columns ≡ length others → 0 < length columns → n ≡ length columns → height_of (stacked_front n columns others) ≡ height + further
 height_of-stacked [] others height further n even later same some e = absurd (omega arith)
@@ -264,9 +264,9 @@ table_of-stacked columns others height further n {table = table} {other = other}
     let fields : map field_of columns ≡ map field_of others = ap (λ t. t.schema) v ∙ same ∙ sym (ap (λ t. t.schema) w) in
     let long : length columns ≡ length others = same_length columns others fields in
     let total : n ≡ height + further = count ∙ ap height_of e ∙ height_of-stacked columns others height further (length columns) even later long (some_field columns good) refl in
-    let rows : table_of items n ≡ record { schema = map field_of columns; rows = rows_of columns height ++ rows_of others further } =
-    rw (e, total) (ap (λ s. record { schema = s; rows = rows_of (stacked_front (length columns) columns others) (height + further) }) (fields-stacked (length columns) columns others) ∙ ap (λ r. record { schema = map field_of columns; rows = r }) (rows_of-stacked columns others height further even long))
-    in (rw (e, total) (even-stacked columns others height further even later long), rows ∙ ap (λ t. record { schema = t.schema; rows = t.rows ++ rows_of others further }) v ∙ ap (λ t. record { schema = table.schema; rows = table.rows ++ t.rows }) w)
+    let rows : table_of items n ≡ record { schema = map field_of columns; rows = column_rows columns height ++ column_rows others further } =
+    rw (e, total) (ap (λ s. record { schema = s; rows = column_rows (stacked_front (length columns) columns others) (height + further) }) (fields-stacked (length columns) columns others) ∙ ap (λ r. record { schema = map field_of columns; rows = r }) (column_rows-stacked columns others height further even long))
+    in (rw (e, total) (even-stacked columns others height further even later long), rows ∙ ap (λ t. record { schema = t.schema; rows = t.rows ++ column_rows others further }) v ∙ ap (λ t. record { schema = table.schema; rows = table.rows ++ t.rows }) w)
 
 pub good-stacked : (columns others : List Cells) (height further n : ℕ) {schema : List Field} {table other : Table} {items : List Cells} → table_of columns height ≡ table → table_of others further ≡ other → table.schema ≡ other.schema → schema ≡ map field_of columns → IsSchema schema → AllOfHeight height columns → AllOfHeight further others → items ≡ stacked_front (length columns) columns others → n ≡ height_of items → (schema ≡ map field_of items) × IsSchema schema × AllOfHeight n items
 good-stacked columns others height further n v w same fields good even later e count =

@@ -8,9 +8,10 @@ use Rattle.std.proofs.lemmas.Option.{slice_get-map, slice_get-get_or}
 use Rattle.std.proofs.lemmas.List.{length-map, take_more, drop_more}
 use Rattle.std.proofs.lemmas.List.Elements.{All-cons, All-nil, filter_map-append}
 use Rattle.pipe_frame.specs.Series.{Cells}
-use Rattle.pipe_frame.specs.Schema.{name_of, names_of, names_fault, IsSchema, place_from, place_of, first_unknown}
-use Rattle.pipe_frame.specs.Frame.{Table, field_of, cell_in, row_at, rows_of, table_of, AllOfHeight, at_places, place_named, places_named, row_at_places, selected}
+use Rattle.pipe_frame.specs.Schema.{has_name, name_of, names_of, names_fault, IsSchema, place_from, place_of, first_unknown}
+use Rattle.pipe_frame.specs.Frame.{Table, field_of, cell_in, row_at, column_rows, table_of, AllOfHeight, at_places, place_named, places_named, row_at_places, selected}
 use Rattle.pipe_frame.specs.declared.field.Field.{Field}
+use Rattle.pipe_frame.proofs.NamePlaces.{is_some-place_from}
 use Rattle.pipe_frame.proofs.Tables.{map_map, map_same}
 
 -- ---- what stands at places
@@ -39,8 +40,8 @@ even-at_places height columns (i ∷ places) even =
     ] in split (slice_get columns i) refl
 
 -- selecting in each column is selecting in each row
-rows_of-selected : (columns : List Cells) (height : ℕ) (places : List ℕ) → rows_of (at_places columns places) height ≡ map (row_at_places places) (rows_of columns height)
-rows_of-selected columns height places =
+column_rows-selected : (columns : List Cells) (height : ℕ) (places : List ℕ) → column_rows (at_places columns places) height ≡ map (row_at_places places) (column_rows columns height)
+column_rows-selected columns height places =
     map_same (row_at (at_places columns places)) (λ k. row_at_places places (row_at columns k)) (range_with_len 0 height) (λ k. sym (at_places-map (cell_in k) columns places))
     ∙ sym (map_map (row_at_places places) (row_at columns) (range_with_len 0 height))
 
@@ -72,7 +73,7 @@ names-found fields (name ∷ names) h =
     let split : (o : Option ℕ) → place_of name fields ≡ o → cond (is_some o) (first_unknown fields names) (Some name) ≡ None → at_places (names_of fields) (cons_option o (places_named fields names)) ≡ name ∷ names = elim [
       | Some i ↦ λ e rest. ap (λ x. cons_option x (at_places (names_of fields) (places_named fields names))) (place_of-name name fields i e) ∙ ap (λ l. name ∷ l) (names-found fields names rest)
       | None ↦ λ e none. absurd (cc)
-    ] in split (place_of name fields) refl h
+    ] in split (place_of name fields) refl (ap (λ b. cond b (first_unknown fields names) (Some name)) (is_some-place_from 0 name fields) ∙ h)
 
 -- the fields of known names have these names
 names-selected : (fields : List Field) (names : List (List ℕ)) → first_unknown fields names ≡ None → names_of (at_places fields (places_named fields names)) ≡ names
@@ -97,7 +98,8 @@ selected-more columns fields names k name i x y h lt e found inside p copy a =
 pub known-more : (fields : List Field) (names : List (List ℕ)) (k : ℕ) (name : List ℕ) (i : ℕ) → first_unknown fields (drop k names) ≡ first_unknown fields names → k < length names → name ≡ get_or names k name → Some i ≡ place_of name fields → first_unknown fields (drop (k + 1) names) ≡ first_unknown fields names
 known-more fields names k name i h lt e found =
     let rest : drop k names ≡ name ∷ drop (k + 1) names = drop_more names k name lt ∙ ap (λ n. n ∷ drop (k + 1) names) (sym e) in
-    ap (λ o. cond (is_some o) (first_unknown fields (drop (k + 1) names)) (Some name)) found ∙ sym (ap (first_unknown fields) rest) ∙ h
+    let there : has_name (names_of fields) name ≡ true = sym (is_some-place_from 0 name fields) ∙ ap is_some (sym found) in
+    sym (ap (λ b. cond b (first_unknown fields (drop (k + 1) names)) (Some name)) there) ∙ sym (ap (first_unknown fields) rest) ∙ h
 
 -- ---- the frame of the selected columns
 
@@ -112,6 +114,6 @@ table_of-selected columns height fields names {table = table} {items = items} v 
     let places : List ℕ = places_named (map field_of columns) names in
     let schema : map field_of (at_places columns places) ≡ at_places (map field_of columns) places = sym (at_places-map field_of columns places) in
     ap (λ l. table_of l height) whole
-    ∙ ap (λ s. record { schema = s; rows = rows_of (at_places columns places) height }) schema
-    ∙ ap (λ r. record { schema = at_places (map field_of columns) places; rows = r }) (rows_of-selected columns height places)
+    ∙ ap (λ s. record { schema = s; rows = column_rows (at_places columns places) height }) schema
+    ∙ ap (λ r. record { schema = at_places (map field_of columns) places; rows = r }) (column_rows-selected columns height places)
     ∙ ap (λ t. selected t names) v

@@ -5,11 +5,11 @@ use Rattle.std.specs.Prelude.{sum_by}
 use Rattle.std.specs.List.{range_with_len}
 use Rattle.std.proofs.lemmas.List.Sums.{sum_by-append}
 use Rattle.std.proofs.lemmas.List.FromFn.{fill_by_all}
-use Rattle.pipe_frame.specs.Cell.{int32_cell, int64_cell, uint32_cell, uint64_cell, boolean_cell, string_cell, binary_cell}
+use Rattle.pipe_frame.specs.Cell.{int32_cell, int64_cell, uint32_cell, uint64_cell, boolean_cell, string_cell, binary_cell, int128_cell}
 use Rattle.pipe_frame.specs.Rows.{Row}
 use Rattle.pipe_frame.specs.Series.{Cells, cell_at}
-use Rattle.pipe_frame.specs.Frame.{Table, field_of, row_at, rows_of, table_of, AllOfHeight}
-use Rattle.pipe_frame.specs.Sizes.{width_of, length_of, cell_size, row_size, frame_size, column_size, slot_length}
+use Rattle.pipe_frame.specs.Frame.{Table, field_of, row_at, column_rows, table_of, AllOfHeight}
+use Rattle.pipe_frame.specs.Sizes.{width_of, length_of, cell_size, row_size, frame_size, column_size, nullable_length}
 use Rattle.pipe_frame.specs.declared.any_value.AnyValue.{AnyValue}
 use Rattle.pipe_frame.specs.declared.any_value.AnyValue.TheVariants as cell
 use Rattle.pipe_frame.specs.declared.field.Field.{Field}
@@ -22,68 +22,76 @@ no_sum [] = refl
 no_sum (k ∷ places) = omega (arith, no_sum places)
 
 -- cells that count their type's width alone
-one_size : {T : Type 0} (d : DataType) (f : Option T → AnyValue) (column : List (Option T)) → ((slot : Option T) → length_of (f slot) ≡ 0) → total (cell_size d) (map f column) ≡ width_of d * length column
+one_size : {T : Type 0} (d : DataType) (f : Option T → AnyValue) (column : List (Option T)) → ((x : Option T) → length_of (f x) ≡ 0) → total (cell_size d) (map f column) ≡ width_of d * length column
 one_size d f [] h = omega arith
-one_size d f (slot ∷ column) h = omega (arith, h slot, one_size d f column h, mul-suc (width_of d) (length column))
+one_size d f (x ∷ column) h = omega (arith, h x, one_size d f column h, mul-suc (width_of d) (length column))
 
-sized : {T : Type 0} (d : DataType) (f : Option T → AnyValue) (column : List (Option T)) → ((slot : Option T) → length_of (f slot) ≡ 0) → sum_by (cell_size d) (map f column) ≡ width_of d * length column
+pub sized : {T : Type 0} (d : DataType) (f : Option T → AnyValue) (column : List (Option T)) → ((x : Option T) → length_of (f x) ≡ 0) → sum_by (cell_size d) (map f column) ≡ width_of d * length column
 sized d f column h = sym (total-sum_by (cell_size d) (map f column)) ∙ one_size d f column h
 
-no_length32 : (slot : Option ℤ) → length_of (int32_cell slot) ≡ 0
-no_length32 (Some x) = refl
-no_length32 None = refl
+-- a value of fixed width has no length
+no_length-int32 : (x : Option ℤ) → length_of (int32_cell x) ≡ 0
+no_length-int32 (Some x) = refl
+no_length-int32 None = refl
 
-no_length64 : (slot : Option ℤ) → length_of (int64_cell slot) ≡ 0
-no_length64 (Some x) = refl
-no_length64 None = refl
+no_length-int64 : (x : Option ℤ) → length_of (int64_cell x) ≡ 0
+no_length-int64 (Some x) = refl
+no_length-int64 None = refl
 
-no_length_u32 : (slot : Option ℕ) → length_of (uint32_cell slot) ≡ 0
-no_length_u32 (Some x) = refl
-no_length_u32 None = refl
+no_length-uint32 : (x : Option ℕ) → length_of (uint32_cell x) ≡ 0
+no_length-uint32 (Some x) = refl
+no_length-uint32 None = refl
 
-no_length_u64 : (slot : Option ℕ) → length_of (uint64_cell slot) ≡ 0
-no_length_u64 (Some x) = refl
-no_length_u64 None = refl
+no_length-uint64 : (x : Option ℕ) → length_of (uint64_cell x) ≡ 0
+no_length-uint64 (Some x) = refl
+no_length-uint64 None = refl
 
-no_length_bool : (slot : Option Bool) → length_of (boolean_cell slot) ≡ 0
-no_length_bool (Some x) = refl
-no_length_bool None = refl
+no_length-boolean : (x : Option Bool) → length_of (boolean_cell x) ≡ 0
+no_length-boolean (Some x) = refl
+no_length-boolean None = refl
+
+no_length-int128 : (x : Option ℤ) → length_of (int128_cell x) ≡ 0
+no_length-int128 (Some x) = refl
+no_length-int128 None = refl
 
 pub size-int32 : (column : List (Option ℤ)) → sum_by (cell_size dtype.Int32) (map int32_cell column) ≡ 4 * length column
-size-int32 column = sized dtype.Int32 int32_cell column no_length32
+size-int32 column = sized dtype.Int32 int32_cell column no_length-int32
 
 pub size-int64 : (column : List (Option ℤ)) → sum_by (cell_size dtype.Int64) (map int64_cell column) ≡ 8 * length column
-size-int64 column = sized dtype.Int64 int64_cell column no_length64
+size-int64 column = sized dtype.Int64 int64_cell column no_length-int64
 
 pub size-uint32 : (column : List (Option ℕ)) → sum_by (cell_size dtype.UInt32) (map uint32_cell column) ≡ 4 * length column
-size-uint32 column = sized dtype.UInt32 uint32_cell column no_length_u32
+size-uint32 column = sized dtype.UInt32 uint32_cell column no_length-uint32
 
 pub size-uint64 : (column : List (Option ℕ)) → sum_by (cell_size dtype.UInt64) (map uint64_cell column) ≡ 8 * length column
-size-uint64 column = sized dtype.UInt64 uint64_cell column no_length_u64
+size-uint64 column = sized dtype.UInt64 uint64_cell column no_length-uint64
 
-pub size-boolean : (column : List (Option Bool)) → sum_by (cell_size dtype.Boolean) (map boolean_cell column) ≡ length column
-size-boolean column = sized dtype.Boolean boolean_cell column no_length_bool ∙ omega arith
+pub size-boolean : (column : List (Option Bool)) → sum_by (cell_size dtype.Boolean) (map boolean_cell column) ≡ 1 * length column
+size-boolean column = sized dtype.Boolean boolean_cell column no_length-boolean
+
+pub size-int128 : (column : List (Option ℤ)) → sum_by (cell_size dtype.Int128) (map int128_cell column) ≡ 16 * length column
+size-int128 column = sized dtype.Int128 int128_cell column no_length-int128
 
 -- cells that count their length too
-long_size : (d : DataType) (f : Option (List ℕ) → AnyValue) (column : List (Option (List ℕ))) → ((slot : Option (List ℕ)) → length_of (f slot) ≡ slot_length slot) → total (cell_size d) (map f column) ≡ width_of d * length column + total slot_length column
+long_size : (d : DataType) (f : Option (List ℕ) → AnyValue) (column : List (Option (List ℕ))) → ((x : Option (List ℕ)) → length_of (f x) ≡ nullable_length x) → total (cell_size d) (map f column) ≡ width_of d * length column + total nullable_length column
 long_size d f [] h = omega arith
-long_size d f (slot ∷ column) h = omega (arith, h slot, long_size d f column h, mul-suc (width_of d) (length column))
+long_size d f (x ∷ column) h = omega (arith, h x, long_size d f column h, mul-suc (width_of d) (length column))
 
-length_string : (slot : Option (List ℕ)) → length_of (string_cell slot) ≡ slot_length slot
+length_string : (x : Option (List ℕ)) → length_of (string_cell x) ≡ nullable_length x
 length_string (Some x) = refl
 length_string None = refl
 
-length_binary : (slot : Option (List ℕ)) → length_of (binary_cell slot) ≡ slot_length slot
+length_binary : (x : Option (List ℕ)) → length_of (binary_cell x) ≡ nullable_length x
 length_binary (Some x) = refl
 length_binary None = refl
 
-pub size-string : (column : List (Option (List ℕ))) → sum_by (cell_size dtype.String) (map string_cell column) ≡ 8 * length column + sum_by slot_length column
-size-string column = sym (total-sum_by (cell_size dtype.String) (map string_cell column)) ∙ long_size dtype.String string_cell column length_string ∙ ap (λ n. 8 * length column + n) (total-sum_by slot_length column)
+pub size-string : (column : List (Option (List ℕ))) → sum_by (cell_size dtype.String) (map string_cell column) ≡ 8 * length column + sum_by nullable_length column
+size-string column = sym (total-sum_by (cell_size dtype.String) (map string_cell column)) ∙ long_size dtype.String string_cell column length_string ∙ ap (λ n. 8 * length column + n) (total-sum_by nullable_length column)
 
-pub size-binary : (column : List (Option (List ℕ))) → sum_by (cell_size dtype.Binary) (map binary_cell column) ≡ 8 * length column + sum_by slot_length column
-size-binary column = sym (total-sum_by (cell_size dtype.Binary) (map binary_cell column)) ∙ long_size dtype.Binary binary_cell column length_binary ∙ ap (λ n. 8 * length column + n) (total-sum_by slot_length column)
+pub size-binary : (column : List (Option (List ℕ))) → sum_by (cell_size dtype.Binary) (map binary_cell column) ≡ 8 * length column + sum_by nullable_length column
+size-binary column = sym (total-sum_by (cell_size dtype.Binary) (map binary_cell column)) ∙ long_size dtype.Binary binary_cell column length_binary ∙ ap (λ n. 8 * length column + n) (total-sum_by nullable_length column)
 
-pub ruleset size_rules = (size-int32, size-int64, size-uint32, size-uint64, size-boolean, size-string, size-binary)
+pub ruleset size_rules = (size-int32, size-int64, size-uint32, size-uint64, size-boolean, size-int128, size-string, size-binary)
 
 -- ---- by columns and by rows
 
@@ -91,7 +99,7 @@ pub ruleset size_rules = (size-int32, size-int64, size-uint32, size-uint64, size
 cells-range : (cells : List AnyValue) (height : ℕ) → length cells ≡ height → cells ≡ map (cell_at cells) (range_with_len 0 height)
 cells-range cells height long = fill_by_all (cell_at cells) cells height cell.Null long (λ k lt. refl)
 
-sum-rows : (columns : List Cells) (height : ℕ) → AllOfHeight height columns → total (row_size (map field_of columns)) (rows_of columns height) ≡ total column_size columns
+sum-rows : (columns : List Cells) (height : ℕ) → AllOfHeight height columns → total (row_size (map field_of columns)) (column_rows columns height) ≡ total column_size columns
 sum-rows [] height even = total-map (row_at []) (row_size []) (range_with_len 0 height) ∙ no_sum (range_with_len 0 height)
 sum-rows (c ∷ columns) height even =
     let rest = sum-rows columns height (λ k d lt. even (suc k) d (omega arith)) in
@@ -107,7 +115,7 @@ sum-rows (c ∷ columns) height even =
 -- the size of a frame is the sum of the sizes of its columns
 pub size-columns : (columns : List Cells) (height : ℕ) {table : Table} → table_of columns height ≡ table → AllOfHeight height columns → frame_size table ≡ sum_by column_size columns
 size-columns columns height v even =
-    sym (ap frame_size v) ∙ sym (total-sum_by (row_size (map field_of columns)) (rows_of columns height)) ∙ sum-rows columns height even ∙ total-sum_by column_size columns
+    sym (ap frame_size v) ∙ sym (total-sum_by (row_size (map field_of columns)) (column_rows columns height)) ∙ sum-rows columns height even ∙ total-sum_by column_size columns
 
 -- the size of rows behind rows
 pub size-append : (schema : List Field) (a b : List Row) → sum_by (row_size schema) (a ++ b) ≡ sum_by (row_size schema) a + sum_by (row_size schema) b

@@ -10,21 +10,21 @@ use Rattle.std.proofs.lemmas.Option.{slice_get-get_or}
 use Rattle.std.proofs.lemmas.Bool.Decides.{Decides-eqb}
 use Rattle.pipe_frame.specs.Rows.{Row}
 use Rattle.pipe_frame.specs.Series.{Cells, cell_at, chosen_cells}
-use Rattle.pipe_frame.specs.Frame.{Table, field_of, cell_in, row_at, rows_of, table_of, AllOfHeight, chosen_rows, chosen_column, chosen_columns, cell_of_row, columns_from, columns_of, other_height, height_of}
+use Rattle.pipe_frame.specs.Frame.{Table, field_of, cell_in, row_at, column_rows, table_of, AllOfHeight, chosen_rows, chosen_column, chosen_columns, cell_of_row, columns_from, columns_of, other_height, height_of}
 use Rattle.pipe_frame.specs.Schema.{IsSchema}
 use Rattle.pipe_frame.specs.declared.field.Field.{Field}
 use Rattle.pipe_frame.specs.declared.any_value.AnyValue.TheVariants as cell
 
 -- as many rows as the height says
-pub length-rows_of : (columns : List Cells) (height : ℕ) → length (rows_of columns height) ≡ height
-length-rows_of columns height = length-map-range_with_len (row_at columns) 0 height
+pub length-column_rows : (columns : List Cells) (height : ℕ) → length (column_rows columns height) ≡ height
+length-column_rows columns height = length-map-range_with_len (row_at columns) 0 height
 
 -- the row at a place
-pub get_or-rows_of : (columns : List Cells) (height i : ℕ) → i < height → get_or (rows_of columns height) i [] ≡ row_at columns i
-get_or-rows_of columns height i lt = get_or-map-range_with_len (row_at columns) 0 height i i [] lt (omega arith)
+pub get_or-column_rows : (columns : List Cells) (height i : ℕ) → i < height → get_or (column_rows columns height) i [] ≡ row_at columns i
+get_or-column_rows columns height i lt = get_or-map-range_with_len (row_at columns) 0 height i i [] lt (omega arith)
 
-pub slice_get-rows_of : (columns : List Cells) (height i : ℕ) → i < height → slice_get (rows_of columns height) i ≡ Some (row_at columns i)
-slice_get-rows_of columns height i lt = slice_get-get_or (rows_of columns height) i [] (rw length-rows_of lt) ∙ ap Some (get_or-rows_of columns height i lt)
+pub slice_get-column_rows : (columns : List Cells) (height i : ℕ) → i < height → slice_get (column_rows columns height) i ≡ Some (row_at columns i)
+slice_get-column_rows columns height i lt = slice_get-get_or (column_rows columns height) i [] (rw length-column_rows lt) ∙ ap Some (get_or-column_rows columns height i lt)
 
 -- ---- choosing rows
 
@@ -35,18 +35,18 @@ row_at-chosen (column ∷ columns) places k lt =
     in ap (λ x. x ∷ row_at (chosen_columns columns places) k) here ∙ ap (λ l. cell_at column.cells (get_or places k 0) ∷ l) (row_at-chosen columns places k lt)
 
 -- choosing in each column is choosing rows
-pub rows_of-chosen : (columns : List Cells) (height : ℕ) (places : List ℕ) → All (λ i. i < height) places → rows_of (chosen_columns columns places) (length places) ≡ chosen_rows (rows_of columns height) places
-rows_of-chosen columns height places inside =
-    sym (fill_by_all (row_at (chosen_columns columns places)) (chosen_rows (rows_of columns height) places) (length places) [] (length-map places _)
-    (λ k lt. get_or-map _ places k 0 [] lt ∙ get_or-rows_of columns height (get_or places k 0) (inside k 0 lt) ∙ sym (row_at-chosen columns places k lt)))
+pub column_rows-chosen : (columns : List Cells) (height : ℕ) (places : List ℕ) → All (λ i. i < height) places → column_rows (chosen_columns columns places) (length places) ≡ chosen_rows (column_rows columns height) places
+column_rows-chosen columns height places inside =
+    sym (fill_by_all (row_at (chosen_columns columns places)) (chosen_rows (column_rows columns height) places) (length places) [] (length-map places _)
+    (λ k lt. get_or-map _ places k 0 [] lt ∙ get_or-column_rows columns height (get_or places k 0) (inside k 0 lt) ∙ sym (row_at-chosen columns places k lt)))
 
 pub fields-chosen : (columns : List Cells) (places : List ℕ) → map field_of (chosen_columns columns places) ≡ map field_of columns
 fields-chosen [] places = refl
 fields-chosen (column ∷ columns) places = ap (λ l. field_of column ∷ l) (fields-chosen columns places)
 
 -- choosing in each column keeps the fields and chooses rows
-table_of-chosen : (columns : List Cells) (height : ℕ) (places : List ℕ) → All (λ i. i < height) places → table_of (chosen_columns columns places) (length places) ≡ record { schema = map field_of columns; rows = chosen_rows (rows_of columns height) places }
-table_of-chosen columns height places inside = rw (fields-chosen, rows_of-chosen columns height places inside) refl
+table_of-chosen : (columns : List Cells) (height : ℕ) (places : List ℕ) → All (λ i. i < height) places → table_of (chosen_columns columns places) (length places) ≡ record { schema = map field_of columns; rows = chosen_rows (column_rows columns height) places }
+table_of-chosen columns height places inside = rw (fields-chosen, column_rows-chosen columns height places inside) refl
 
 -- the chosen columns are of one height
 pub even-chosen : (columns : List Cells) (places : List ℕ) → AllOfHeight (length places) (chosen_columns columns places)
@@ -56,7 +56,7 @@ even-chosen columns places k d lt = rw (get_or-map (chosen_column places) column
 pub table_taken : (columns : List Cells) (height : ℕ) (places : List ℕ) {table : Table} {items : List Cells} → table_of columns height ≡ table → All (λ i. i < length table.rows) places → items ≡ chosen_columns columns places → table_of items (length places) ≡ record { schema = table.schema; rows = chosen_rows table.rows places }
 table_taken columns height places {table = table} v inside e =
     let Claim : Table → Type 0 = λ t. All (λ i. i < length t.rows) places → table_of (chosen_columns columns places) (length places) ≡ record { schema = t.schema; rows = chosen_rows t.rows places }
-    in rw e (subst Claim v (λ all. table_of-chosen columns height places (λ k d lt. rw length-rows_of at (all k d lt))) inside)
+    in rw e (subst Claim v (λ all. table_of-chosen columns height places (λ k d lt. rw length-column_rows at (all k d lt))) inside)
 
 -- ---- the columns of a frame
 
@@ -69,21 +69,21 @@ map_same f g [] h = refl
 map_same f g (x ∷ xs) h = ap (λ y. y ∷ map f xs) (h x) ∙ ap (λ l. g x ∷ l) (map_same f g xs h)
 
 -- the cells of the rows in one column are those of the column
-pub cells_of_rows : (columns : List Cells) (height i : ℕ) (column : Cells) → AllOfHeight height columns → i < length columns → get_or columns i column ≡ column → map (cell_of_row i) (rows_of columns height) ≡ column.cells
+pub cells_of_rows : (columns : List Cells) (height i : ℕ) (column : Cells) → AllOfHeight height columns → i < length columns → get_or columns i column ≡ column → map (cell_of_row i) (column_rows columns height) ≡ column.cells
 cells_of_rows columns height i column even within here =
     let long : length column.cells ≡ height = rw here at (even i column within) in
     map_map (cell_of_row i) (row_at columns) (range_with_len 0 height)
     ∙ map_same (λ k. cell_of_row i (row_at columns k)) (cell_at column.cells) (range_with_len 0 height) (λ k. get_or-map (cell_in k) columns i column cell.Null within ∙ ap (cell_in k) here)
     ∙ sym (fill_by_all (cell_at column.cells) column.cells height cell.Null long (λ k _. refl))
 
-columns_from-rows : (all : List Cells) (height : ℕ) (i : ℕ) (rest : List Cells) → AllOfHeight height all → drop i all ≡ rest → columns_from i (map field_of rest) (rows_of all height) ≡ rest
+columns_from-rows : (all : List Cells) (height : ℕ) (i : ℕ) (rest : List Cells) → AllOfHeight height all → drop i all ≡ rest → columns_from i (map field_of rest) (column_rows all height) ≡ rest
 columns_from-rows all height i [] even e = refl
 columns_from-rows all height i (column ∷ rest) even e =
     let within : i < length all = omega (arith, ap length e, length-drop i all) in
     let at : i ≡ i + 0 = omega arith in
     let here : get_or all i column ≡ column = ap (λ k. get_or all k column) at ∙ sym (get_or-drop i all 0 column) ∙ ap (λ l. get_or l 0 column) e in
     let later : drop (i + 1) all ≡ rest = sym (drop-drop 1 i all) ∙ ap (drop 1) e in
-    ap (λ cells. record { name = column.name; dtype = column.dtype; cells = cells } ∷ columns_from (i + 1) (map field_of rest) (rows_of all height)) (cells_of_rows all height i column even within here)
+    ap (λ cells. record { name = column.name; dtype = column.dtype; cells = cells } ∷ columns_from (i + 1) (map field_of rest) (column_rows all height)) (cells_of_rows all height i column even within here)
     ∙ ap (λ l. column ∷ l) (columns_from-rows all height (i + 1) rest even later)
 
 -- the columns of a frame that was made of columns are these
@@ -108,7 +108,7 @@ pub even_first : (columns : List Cells) (height : ℕ) → height ≡ height_of 
 even_first columns height e h = rw e at (even_all height columns (sym h))
 
 -- what the methods of a frame use
-pub ruleset table_rules = (length-rows_of, slice_get-rows_of, fields-chosen, rows_of-chosen, columns_of-table, even_columns, even_first)
+pub ruleset table_rules = (length-column_rows, slice_get-column_rows, fields-chosen, column_rows-chosen, columns_of-table, even_columns, even_first)
 
 -- the frame of chosen columns is a frame
 pub good_taken : {schema copy : List Field} (columns items : List Cells) (places : List ℕ) → schema ≡ map field_of columns → IsSchema schema → copy ≡ schema → items ≡ chosen_columns columns places → (copy ≡ map field_of items) × IsSchema copy × AllOfHeight (length places) items
@@ -120,4 +120,4 @@ pub row_of_frame : (columns : List Cells) (height i : ℕ) {table : Table} → t
 row_of_frame columns height i {table = table} v lt (Err e) h = tt
 row_of_frame columns height i {table = table} v lt (Ok row) h =
     let Claim : Table → Type 0 = λ t. i < length t.rows → slice_get t.rows i ≡ Some row in
-    subst Claim v (λ below. slice_get-rows_of columns height i (rw length-rows_of at below) ∙ ap Some (sym h)) lt
+    subst Claim v (λ below. slice_get-column_rows columns height i (rw length-column_rows at below) ∙ ap Some (sym h)) lt

@@ -1,5 +1,7 @@
 -- Chunks: frames with their places in a run.
 use Rattle.std.specs.Prelude.{◌≡◌, List}
+use Rattle.std.specs.List.{flat_map}
+use Rattle.pipe_frame.specs.Frame.{Table}
 use Rattle.pipe_frame.specs.Rows.{Row}
 use Rattle.pipe_frame.specs.declared.chunk.DataChunk.{DataChunk}
 use Rattle.pipe_frame.specs.declared.field.Field.{Field}
@@ -7,6 +9,10 @@ use Rattle.pipe_frame.specs.declared.field.Field.{Field}
 -- the rows of a chunk
 abbrev pub chunk_rows : DataChunk → List Row
 chunk_rows chunk = chunk.frame.rows
+
+-- the rows of chunks, in order, as one frame of a schema
+abbrev pub chunks_table : List Field → List DataChunk → Table
+chunks_table schema chunks = record { schema = schema; rows = flat_map chunk_rows chunks }
 
 -- a chunk has this schema
 abbrev pub HasSchema : List Field → DataChunk → Type 0

@@ -1,26 +1,39 @@
 -- A column of values of one type: at each place a value, or none where it is missing.
 use Rattle.std.specs.Str.{IsUtf8}
-use Rattle.std.specs.Prelude.{◌≡◌, ℕ, ◌+◌, ◌-◌, ◌≤◌, Bool, true, false, List, [], ◌∷◌, Option, Some, None, slice_index_or, slice_range}
+use Rattle.std.specs.Prelude.{◌≡◌, ℕ, ◌+◌, ◌-◌, ◌≤◌, Bool, true, false, List, [], ◌∷◌, Option, Some, None, map, slice_index_or, slice_range}
 
--- at each place the value, or none where it isn't marked as there
-abbrev pub slots : {T : Type 0} → List Bool → List T → List (Option T)
-slots (true ∷ marks) (x ∷ xs) = Some x ∷ slots marks xs
-slots (false ∷ marks) (x ∷ xs) = None ∷ slots marks xs
-slots _ _ = []
+-- a nullable value: the value where it is valid, and else none
+abbrev pub nullable : {T : Type 0} → Bool → T → Option T
+nullable true x = Some x
+nullable false x = None
+
+-- the nullable values of a column, by its validity and its values
+abbrev pub nullables : {T : Type 0} → List Bool → List T → List (Option T)
+nullables (true ∷ validity) (x ∷ xs) = Some x ∷ nullables validity xs
+nullables (false ∷ validity) (x ∷ xs) = None ∷ nullables validity xs
+nullables _ _ = []
 
 -- what stands at a place of a column
-abbrev pub slot_at : {T : Type 0} → List (Option T) → ℕ → Option T
-slot_at column i = slice_index_or column i None
+abbrev pub nullable_at : {T : Type 0} → List (Option T) → ℕ → Option T
+nullable_at column i = slice_index_or column i None
 
 -- what stands at a place of a column, or a missing value where there is no place
-abbrev pub slot_in : {T : Type 0} → List (Option T) → Option ℕ → Option T
-slot_in column (Some i) = slot_at column i
-slot_in column None = None
+abbrev pub nullable_in : {T : Type 0} → List (Option T) → Option ℕ → Option T
+nullable_in column (Some i) = nullable_at column i
+nullable_in column None = None
+
+-- what stands at these places of a column
+abbrev pub nullables_in : {T : Type 0} → List (Option T) → List (Option ℕ) → List (Option T)
+nullables_in column places = map (nullable_in column) places
 
 -- the value at a place, or another where there is none
 abbrev pub value_at : {T : Type 0} → List T → T → Option ℕ → T
 value_at values other (Some i) = slice_index_or values i other
 value_at values other None = other
+
+-- the values at these places, another where there is none
+abbrev pub values_at : {T : Type 0} → List T → T → List (Option ℕ) → List T
+values_at values other places = map (value_at values other) places
 
 -- byte strings that stand one after another, the first from a start on, each told by where it ends
 abbrev pub pieces_from : ℕ → List ℕ → List ℕ → List (List ℕ)

@@ -1,5 +1,5 @@
 -- Operations on the columns of a frame, column by column.
-use Rattle.std.specs.Prelude.{ℕ, ◌+◌, Bool, true, List, [], ◌∷◌, ◌++◌, suc, Option, Some, map, take, drop}
+use Rattle.std.specs.Prelude.{ℕ, ◌+◌, Bool, true, List, [], ◌∷◌, ◌++◌, suc, Option, Some, map, take, drop, length}
 use Rattle.pipe_frame.specs.Series.{Cells, cell_or_null}
 
 -- a column with the cells at these places, null where there is none
@@ -23,11 +23,16 @@ stacked_column column other = record column { cells = column.cells ++ other.cell
 
 -- columns of which so many, from the front, have the cells of others behind their own
 abbrev pub stacked_front : ℕ → List Cells → List Cells → List Cells
-stacked_front (suc n) (column ∷ columns) (other ∷ others) = stacked_column column other ∷ stacked_front n columns others
+stacked_front (suc n) (column ∷ columns) (other ∷ others) =
+    stacked_column column other ∷ stacked_front n columns others
 stacked_front _ columns _ = columns
 
--- the places where a mark is true, counted from n
+-- columns with the cells of others behind their own
+abbrev pub stacked_columns : List Cells → List Cells → List Cells
+stacked_columns columns others = stacked_front (length columns) columns others
+
+-- the places where a mask is true, counted from n
 abbrev pub true_places : ℕ → List (Option Bool) → List ℕ
 true_places n [] = []
-true_places n (Some true ∷ marks) = n ∷ true_places (n + 1) marks
-true_places n (_ ∷ marks) = true_places (n + 1) marks
+true_places n (Some true ∷ mask) = n ∷ true_places (n + 1) mask
+true_places n (_ ∷ mask) = true_places (n + 1) mask

@@ -1,9 +1,13 @@
 -- Counts of 64 bits that stand still at their last value.
-use Rattle.std.specs.Prelude.{◌≡◌, ℕ, Bool, ◌+◌, ◌-◌, ◌^◌, ◌<◌, ◌≤◌, ◌⊎◌}
+use Rattle.std.specs.Prelude.{◌≡◌, ℕ, Bool, ◌+◌, ◌-◌, ◌^◌, ◌<◌, ◌≤◌, ◌⊎◌, nat_lt, if◌then◌else◌}
 
 -- the last value of a count
 abbrev pub last_count : ℕ
 last_count = 2 ^ 64 - 1
+
+-- a count that has risen by n, or as far as it can
+abbrev pub counted : ℕ → ℕ → ℕ
+counted n old = if nat_lt last_count (old + n) then last_count else old + n
 
 -- a count has risen by n, or as far as it can
 abbrev pub Counts : ℕ → ℕ → ℕ → Type 0

@@ -1,5 +1,5 @@
 -- Frames (relational algebra): a frame stands for its schema and its list of rows.
-use Rattle.std.specs.Prelude.{◌≡◌, ℕ, ◌+◌, ◌<◌, List, [], ◌∷◌, ◌==◌, if◌then◌else◌, Option, Some, None, map, All, length, replicate, slice_get, slice_index_or, filter_map, option_map}
+use Rattle.std.specs.Prelude.{◌≡◌, ℕ, ◌+◌, ◌<◌, List, [], ◌∷◌, ◌++◌, take, drop, ◌==◌, if◌then◌else◌, Option, Some, None, map, All, length, replicate, slice_get, slice_index_or, filter_map, option_map}
 use Rattle.std.specs.List.{range_with_len}
 use Rattle.pipe_frame.specs.Rows.{Row}
 use Rattle.pipe_frame.specs.Series.{Cells, cell_at, chosen_cells}
@@ -28,12 +28,21 @@ abbrev pub row_at : List Cells → ℕ → Row
 row_at columns i = map (cell_in i) columns
 
 -- the rows of some columns
-abbrev pub rows_of : List Cells → ℕ → List Row
-rows_of columns height = map (row_at columns) (range_with_len 0 height)
+abbrev pub column_rows : List Cells → ℕ → List Row
+column_rows columns height = map (row_at columns) (range_with_len 0 height)
+
+-- the height of the first column
+abbrev pub height_of : List Cells → ℕ
+height_of [] = 0
+height_of (column ∷ columns) = length column.cells
+
+-- the rows of columns of one height
+abbrev pub even_rows : List Cells → List Row
+even_rows columns = column_rows columns (height_of columns)
 
 -- the frame of some columns
 abbrev pub table_of : List Cells → ℕ → Table
-table_of columns height = record { schema = map field_of columns; rows = rows_of columns height }
+table_of columns height = record { schema = map field_of columns; rows = column_rows columns height }
 
 -- each column has so many cells
 abbrev pub AllOfHeight : ℕ → List Cells → Type 0
@@ -68,11 +77,8 @@ columns_of table = columns_from 0 table.schema table.rows
 -- the first height that isn't this one
 abbrev pub other_height : ℕ → List Cells → Option ℕ
 other_height height [] = None
-other_height height (column ∷ columns) = if length column.cells == height then other_height height columns else Some (length column.cells)
-
-abbrev pub height_of : List Cells → ℕ
-height_of [] = 0
-height_of (column ∷ columns) = length column.cells
+other_height height (column ∷ columns) =
+    if length column.cells == height then other_height height columns else Some (length column.cells)
 
 abbrev pub differing : ℕ → Option ℕ → Option FrameError
 differing first None = None
@@ -84,7 +90,24 @@ else_fault None later = later
 
 -- why some columns are no frame, if they aren't: the least of the errors
 abbrev pub frame_fault : List Cells → Option FrameError
-frame_fault columns = else_fault (names_fault (names_of (map field_of columns))) (differing (height_of columns) (other_height (height_of columns) columns))
+frame_fault columns =
+    else_fault (names_fault (names_of (map field_of columns))) (differing (height_of columns) (other_height (height_of columns) columns))
+
+-- a frame with other rows
+abbrev pub with_rows : Table → List Row → Table
+with_rows table rows = record table { rows = rows }
+
+-- the rows at these places
+abbrev pub chosen : Table → List ℕ → Table
+chosen table places = with_rows table (chosen_rows table.rows places)
+
+-- so many rows from a place on
+abbrev pub sliced : ℕ → ℕ → Table → Table
+sliced offset count table = with_rows table (take count (drop offset table.rows))
+
+-- the rows of another frame behind those of a frame
+abbrev pub stacked : Table → Table → Table
+stacked table other = with_rows table (table.rows ++ other.rows)
 
 -- a row number that is there, or none
 abbrev pub IsRowOrNone : ℕ → Option ℕ → Type 0
@@ -96,10 +119,19 @@ abbrev pub row_or_nulls : Table → Option ℕ → Row
 row_or_nulls table (Some i) = slice_index_or table.rows i []
 row_or_nulls table None = replicate (length table.schema) cell.Null
 
--- the rows whose mark is true (a null mark isn't)
+-- the rows at these places, and a row of nulls where there is none
+abbrev pub taken : Table → List (Option ℕ) → Table
+taken table places = with_rows table (map (row_or_nulls table) places)
+
+-- the rows where a mask is true (SQL: null is not true)
 abbrev pub kept_rows : List AnyValue → List Row → List Row
-kept_rows (mark ∷ marks) (row ∷ rows) = if is_true_cell mark then row ∷ kept_rows marks rows else kept_rows marks rows
+kept_rows (keep ∷ mask) (row ∷ rows) =
+    if is_true_cell keep then row ∷ kept_rows mask rows else kept_rows mask rows
 kept_rows _ _ = []
+
+-- the rows of a frame where a mask is true (selection of relational algebra)
+abbrev pub filtered : List AnyValue → Table → Table
+filtered mask table = with_rows table (kept_rows mask table.rows)
 
 -- what stands at these places of a list
 abbrev pub at_places : {X : Type 0} → List X → List ℕ → List X
@@ -113,14 +145,24 @@ place_named fields name = place_of name fields
 abbrev pub places_named : List Field → List (List ℕ) → List ℕ
 places_named fields names = filter_map (place_named fields) names
 
+-- the columns of these names, in the order of the names
+abbrev pub columns_named : List Field → List (List ℕ) → List Cells → List Cells
+columns_named fields names columns = at_places columns (places_named fields names)
+
 -- a row's cells at these places
 abbrev pub row_at_places : List ℕ → Row → Row
 row_at_places places row = at_places row places
 
 -- the frame of the columns of these names, in the order of the names (projection)
 abbrev pub selected : Table → List (List ℕ) → Table
-selected table names = record { schema = at_places table.schema (places_named table.schema names); rows = map (row_at_places (places_named table.schema names)) table.rows }
+selected table names =
+    let places = places_named table.schema names in
+    record { schema = at_places table.schema places; rows = map (row_at_places places) table.rows }
+
+-- a name that no field has, if there is one
+abbrev pub unknown_fault : List Field → List (List ℕ) → Option FrameError
+unknown_fault fields names = option_map fault.UnknownColumn (first_unknown fields names)
 
 -- why columns of these names can't be selected, if they can't: the least of the errors
 abbrev pub select_fault : List Field → List (List ℕ) → Option FrameError
-select_fault fields names = else_fault (names_fault names) (option_map fault.UnknownColumn (first_unknown fields names))
+select_fault fields names = else_fault (names_fault names) (unknown_fault fields names)

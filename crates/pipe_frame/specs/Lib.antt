@@ -1,5 +1,7 @@
 -- cells: their types, when two are the same, and the order of values
 pub mod Cell
+-- values of fixed width: their bytes and ranges
+pub mod Native
 -- rows, and when two lists have the same rows
 pub mod Rows
 -- a column of values of one type, some of them missing
@@ -8,6 +10,8 @@ pub mod Column
 pub mod Series
 -- schemas
 pub mod Schema
+-- the order of a schema's names
+pub mod NameOrder
 -- frames as a schema and a list of rows
 pub mod Frame
 -- columns of a frame, column by column
@@ -18,7 +22,5 @@ pub mod Sizes
 pub mod Stacker
 -- the rows of chunks
 pub mod Chunks
--- frames that the tests stack
-pub mod Numbers
 -- counts that stand still at their last value
 pub mod Counts

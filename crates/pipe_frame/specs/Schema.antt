@@ -1,5 +1,5 @@
 -- A schema: one field or more, each name once.
-use Rattle.std.specs.Prelude.{◌≡◌, ℕ, ◌+◌, List, [], ◌∷◌, Bool, false, ◌||◌, if◌then◌else◌, Option, Some, None, is_some, map, option_map}
+use Rattle.std.specs.Prelude.{◌≡◌, ◌⊎◌, ℕ, ◌+◌, List, [], ◌∷◌, Bool, false, ◌||◌, if◌then◌else◌, Option, Some, None, map, option_map}
 use Rattle.std.specs.Str.{bytes_eq}
 use Rattle.pipe_frame.specs.declared.field.Field.{Field}
 use Rattle.pipe_frame.specs.declared.error.FrameError.{FrameError}
@@ -26,6 +26,10 @@ abbrev pub names_fault : List (List ℕ) → Option FrameError
 names_fault [] = Some fault.NoColumns
 names_fault (name ∷ names) = option_map fault.DuplicateName (first_repeated (name ∷ names))
 
+-- an error tells want of memory, or what is wrong
+abbrev pub MemoryOr : Option FrameError → FrameError → Type 0
+MemoryOr wrong e = (e ≡ fault.Memory) ⊎ (wrong ≡ Some e)
+
 -- the fields are those of a schema
 abbrev pub IsSchema : List Field → Type 0
 IsSchema fields = names_fault (names_of fields) ≡ None
@@ -33,7 +37,8 @@ IsSchema fields = names_fault (names_of fields) ≡ None
 -- where the first field of a name stands, counted from n
 abbrev pub place_from : ℕ → List ℕ → List Field → Option ℕ
 place_from n name [] = None
-place_from n name (field ∷ fields) = if bytes_eq field.name name then Some n else place_from (n + 1) name fields
+place_from n name (field ∷ fields) =
+    if bytes_eq field.name name then Some n else place_from (n + 1) name fields
 
 -- where the first field of a name stands
 abbrev pub place_of : List ℕ → List Field → Option ℕ
@@ -42,4 +47,5 @@ place_of name fields = place_from 0 name fields
 -- the first of some names that no field has
 abbrev pub first_unknown : List Field → List (List ℕ) → Option (List ℕ)
 first_unknown fields [] = None
-first_unknown fields (name ∷ names) = if is_some (place_of name fields) then first_unknown fields names else Some name
+first_unknown fields (name ∷ names) =
+    if has_name (names_of fields) name then first_unknown fields names else Some name

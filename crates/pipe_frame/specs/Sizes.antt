@@ -18,12 +18,19 @@ width_of dtype.UInt64 = 8
 width_of dtype.Boolean = 1
 width_of dtype.String = 8
 width_of dtype.Binary = 8
+width_of dtype.Int128 = 16
 
 -- the length of a text or of bytes
 abbrev pub length_of : AnyValue → ℕ
 length_of (cell.String text) = length text
 length_of (cell.Binary bytes) = length bytes
-length_of _ = 0
+length_of cell.Null = 0
+length_of (cell.Int32 _) = 0
+length_of (cell.Int64 _) = 0
+length_of (cell.UInt32 _) = 0
+length_of (cell.UInt64 _) = 0
+length_of (cell.Boolean _) = 0
+length_of (cell.Int128 _) = 0
 
 abbrev pub cell_size : DataType → AnyValue → ℕ
 cell_size dtype value = width_of dtype + length_of value
@@ -39,7 +46,7 @@ frame_size table = sum_by (row_size table.schema) table.rows
 abbrev pub column_size : Cells → ℕ
 column_size column = sum_by (cell_size column.dtype) column.cells
 
--- the length of what may be bytes
-abbrev pub slot_length : Option (List ℕ) → ℕ
-slot_length (Some bytes) = length bytes
-slot_length None = 0
+-- the length of a nullable byte string
+abbrev pub nullable_length : Option (List ℕ) → ℕ
+nullable_length (Some bytes) = length bytes
+nullable_length None = 0

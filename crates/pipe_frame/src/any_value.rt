@@ -1,8 +1,8 @@
-//! Cells: null, or a value of one of the seven types.
+//! Cells: null, or a value of one of the eight types.
 
 ghost use Rattle.std.specs.Prelude.{◌≡◌, IfOk};
 ghost use Rattle.std.specs.Option.{option_copied};
-ghost use Rattle.pipe_frame.specs.Cell.{dtype_of_cell, fits_dtype, eq_cell, int32_cell, int64_cell, uint32_cell, uint64_cell, boolean_cell, string_cell, binary_cell};
+ghost use Rattle.pipe_frame.specs.Cell.{dtype_of_cell, fits_dtype, eq_cell, string_cell, binary_cell};
 
 use crate::data_type::DataType;
 use crate::text::{Bytes, Text};
@@ -20,6 +20,7 @@ pub enum AnyValue {
     Boolean(bool),
     String(Text),
     Binary(Bytes),
+    Int128(i128),
 }
 
 impl AnyValue {
@@ -36,6 +37,7 @@ impl AnyValue {
             AnyValue::Boolean(_) => Some(DataType::Boolean),
             AnyValue::String(_) => Some(DataType::String),
             AnyValue::Binary(_) => Some(DataType::Binary),
+            AnyValue::Int128(_) => Some(DataType::Int128),
         }
     }
 
@@ -43,16 +45,9 @@ impl AnyValue {
     pub fn fits(&self, dtype: DataType) -> bool
         ensures { result ≡ fits_dtype dtype self.now }
     {
-        match (dtype, self) {
-            (_, AnyValue::Null) => true,
-            (DataType::Int32, AnyValue::Int32(_)) => true,
-            (DataType::Int64, AnyValue::Int64(_)) => true,
-            (DataType::UInt32, AnyValue::UInt32(_)) => true,
-            (DataType::UInt64, AnyValue::UInt64(_)) => true,
-            (DataType::Boolean, AnyValue::Boolean(_)) => true,
-            (DataType::String, AnyValue::String(_)) => true,
-            (DataType::Binary, AnyValue::Binary(_)) => true,
-            _ => false,
+        match self.dtype() {
+            None => true,
+            Some(own) => dtype.is_same(own),
         }
     }
 
@@ -60,57 +55,22 @@ impl AnyValue {
     pub fn is_same(&self, other: &AnyValue) -> bool
         ensures { result ≡ eq_cell self.now other.now }
     {
-        match (self, other) {
-            (AnyValue::Null, AnyValue::Null) => true,
-            (AnyValue::Int32(a), AnyValue::Int32(b)) => a == b,
-            (AnyValue::Int64(a), AnyValue::Int64(b)) => a == b,
-            (AnyValue::UInt32(a), AnyValue::UInt32(b)) => a == b,
-            (AnyValue::UInt64(a), AnyValue::UInt64(b)) => a == b,
-            (AnyValue::Boolean(a), AnyValue::Boolean(b)) => a == b,
-            (AnyValue::String(a), AnyValue::String(b)) => a.as_str() == b.as_str(),
-            (AnyValue::Binary(a), AnyValue::Binary(b)) => a.as_slice() == b.as_slice(),
-            _ => false,
+        match self {
+            AnyValue::Null => matches!(other, AnyValue::Null),
+            AnyValue::Int32(a) => matches!(other, AnyValue::Int32(b) if a == b),
+            AnyValue::Int64(a) => matches!(other, AnyValue::Int64(b) if a == b),
+            AnyValue::UInt32(a) => matches!(other, AnyValue::UInt32(b) if a == b),
+            AnyValue::UInt64(a) => matches!(other, AnyValue::UInt64(b) if a == b),
+            AnyValue::Boolean(a) => matches!(other, AnyValue::Boolean(b) if a == b),
+            AnyValue::String(a) => matches!(other, AnyValue::String(b) if a.is_same(b)),
+            AnyValue::Binary(a) => matches!(other, AnyValue::Binary(b) if a.is_same(b)),
+            AnyValue::Int128(a) => matches!(other, AnyValue::Int128(b) if a == b),
         }
     }
 }
 
 impl AnyValue {
-    /// The cell of what may be a value.
-    pub fn from_int32(x: Option<i32>) -> AnyValue
-        ensures { result ≡ int32_cell x }
-    {
-        x.map_or(AnyValue::Null, AnyValue::Int32)
-    }
-
-    /// The cell of what may be a value.
-    pub fn from_int64(x: Option<i64>) -> AnyValue
-        ensures { result ≡ int64_cell x }
-    {
-        x.map_or(AnyValue::Null, AnyValue::Int64)
-    }
-
-    /// The cell of what may be a value.
-    pub fn from_uint32(x: Option<u32>) -> AnyValue
-        ensures { result ≡ uint32_cell x }
-    {
-        x.map_or(AnyValue::Null, AnyValue::UInt32)
-    }
-
-    /// The cell of what may be a value.
-    pub fn from_uint64(x: Option<u64>) -> AnyValue
-        ensures { result ≡ uint64_cell x }
-    {
-        x.map_or(AnyValue::Null, AnyValue::UInt64)
-    }
-
-    /// The cell of what may be a value.
-    pub fn from_boolean(x: Option<bool>) -> AnyValue
-        ensures { result ≡ boolean_cell x }
-    {
-        x.map_or(AnyValue::Null, AnyValue::Boolean)
-    }
-
-    /// The cell of what may be a text, which is copied.
+    /// The cell of a nullable text, which is copied.
     pub fn from_string(alloc: Global, x: Option<&str>) -> Result<AnyValue, AllocError>
         ensures { IfOk result (λ cell. cell ≡ string_cell (option_copied x.entry)) }
     {
@@ -120,7 +80,7 @@ impl AnyValue {
         }
     }
 
-    /// The cell of what may be bytes, which are copied.
+    /// The cell of a nullable byte string, which is copied.
     pub fn from_binary(alloc: Global, x: Option<&[u8]>) -> Result<AnyValue, AllocError>
         ensures { IfOk result (λ cell. cell ≡ binary_cell (option_copied x.entry)) }
     {
@@ -142,6 +102,7 @@ impl TryClone for AnyValue {
             AnyValue::Boolean(x) => Ok(AnyValue::Boolean(*x)),
             AnyValue::String(x) => Ok(AnyValue::String(x.try_clone()?)),
             AnyValue::Binary(x) => Ok(AnyValue::Binary(x.try_clone()?)),
+            AnyValue::Int128(x) => Ok(AnyValue::Int128(*x)),
         }
     }
 }

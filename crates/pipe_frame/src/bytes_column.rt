@@ -1,41 +1,41 @@
-//! Columns of byte strings and of texts, each in one buffer of bytes with the nulls beside it.
+//! Columns of byte strings, each in one buffer of bytes with its validity beside it.
 
 ghost use Rattle.std.specs.Prelude.{◌≡◌, ℕ, ◌<◌, ◌≤◌, ◌+◌, [], ◌∷◌, ◌++◌, length, IfOk, OnOk, OnErr, Some, None, map, take, drop, sum_by, ◌^◌, if◌then◌else◌};
 ghost use Rattle.std.specs.Option.{option_copied};
-ghost use Rattle.pipe_frame.specs.Column.{slot_at, slot_in};
-ghost use Rattle.pipe_frame.specs.Sizes.{slot_length};
+ghost use Rattle.pipe_frame.specs.Column.{nullable, nullable_at, nullables_in};
+ghost use Rattle.pipe_frame.specs.Sizes.{nullable_length};
 
 use crate::bytes_list::BytesList;
 use crate::place::{Place, gather};
 use std::alloc::{AllocError, Global};
 use std::marker::Model;
 
-/// A column of byte strings, seen as a list of what may be byte strings. Where one is missing an empty one stands.
+/// A column of byte strings, seen as a list of nullable byte strings. Where one is missing an empty one stands.
 #[derive(Debug, Drop)]
 pub struct BinaryColumn {
-    marks: Vec<bool>,
+    validity: Vec<bool>,
     pieces: BytesList,
 }
 
 impl Model for BinaryColumn {
     ghost use Rattle.std.specs.Prelude.{◌≡◌, ℕ, List, Option, length};
-    ghost use Rattle.pipe_frame.specs.Column.{slots};
+    ghost use Rattle.pipe_frame.specs.Column.{nullables};
 
     ghost Value = { List (Option (List ℕ)) };
 
-    ghost view = { λ c. slots c.marks.items c.pieces };
+    ghost view = { λ c. nullables c.validity.items c.pieces };
 
-    ghost invariant = { λ c. length c.marks.items ≡ length c.pieces };
+    ghost invariant = { λ c. length c.validity.items ≡ length c.pieces };
 }
 
-#[tactic(auto, using(crate::proofs::Slots::slots_rules))]
+#[tactic(auto, using(crate::proofs::Nullables::nullable_rules))]
 impl BinaryColumn {
     /// A column with no place, which takes no memory.
     pub fn new(alloc: Global) -> BinaryColumn
         ensures { result ≡ [] }
     {
         BinaryColumn {
-            marks: Vec::new(alloc),
+            validity: Vec::new(alloc),
             pieces: BytesList::new(alloc),
         }
     }
@@ -52,31 +52,31 @@ impl BinaryColumn {
         self.pieces.len()
     }
 
-    /// The mark and the bytes at a place.
-    fn slot(&self, i: usize) -> (bool, &[u8])
+    /// Whether the bytes at a place are there, and the bytes.
+    fn nullable(&self, i: usize) -> (bool, &[u8])
         requires { i < length self.now }
-        ensures { slot_at self.now i ≡ (if result.0 then Some result.1.now else None) }
+        ensures { nullable_at self.now i ≡ nullable result.0 result.1.now }
     {
-        (self.marks[i], self.pieces.get(i))
+        (self.validity[i], self.pieces.get(i))
     }
 
     /// The bytes at a place, or none where they are missing.
     pub fn get(&self, i: usize) -> Option<&[u8]>
         requires { i < length self.now }
-        ensures { option_copied result ≡ slot_at self.now i }
+        ensures { option_copied result ≡ nullable_at self.now i }
     {
-        let (present, bytes) = self.slot(i);
-        if present { Some(bytes) } else { None }
+        let (valid, bytes) = self.nullable(i);
+        if valid { Some(bytes) } else { None }
     }
 
-    /// Puts bytes at the end, which count as missing where they aren't marked as present.
-    fn put(&mut self, present: bool, bytes: &[u8]) -> Result<(), AllocError>
-        ensures ok { OnOk result (self.new ≡ self.old ++ (if present then Some bytes.now else None) ∷ []) }
+    /// Puts bytes at the end, which are missing where they aren't valid.
+    fn put(&mut self, valid: bool, bytes: &[u8]) -> Result<(), AllocError>
+        ensures ok { OnOk result (self.new ≡ self.old ++ nullable valid bytes.now ∷ []) }
         ensures err { OnErr result (self.new ≡ self.old) }
     {
-        self.marks.reserve(1)?;
+        self.validity.reserve(1)?;
         self.pieces.push(bytes)?;
-        self.marks.push_reserved(present);
+        self.validity.push_reserved(valid);
         Ok(())
     }
 
@@ -92,7 +92,7 @@ impl BinaryColumn {
     }
 }
 
-#[tactic(auto, using(crate::proofs::Slots::slots_rules))]
+#[tactic(auto, using(crate::proofs::Nullables::nullable_rules))]
 impl BinaryColumn {
     /// The byte strings at these places.
     pub(crate) fn take_at<P: Place>(
@@ -100,10 +100,10 @@ impl BinaryColumn {
         alloc: Global,
         places: &[P],
     ) -> Result<BinaryColumn, AllocError>
-        ensures { IfOk result (λ taken. taken ≡ map (slot_in self.now) (map P.place places.now)) }
+        ensures { IfOk result (λ taken. taken ≡ nullables_in self.now (map P.place places.now)) }
     {
         Ok(BinaryColumn {
-            marks: gather(alloc, self.marks.as_slice(), places, false)?,
+            validity: gather(alloc, self.validity.as_slice(), places, false)?,
             pieces: self.pieces.take_at(alloc, places)?,
         })
     }
@@ -115,7 +115,7 @@ impl BinaryColumn {
     {
         let alloc = self.allocator();
         Ok(BinaryColumn {
-            marks: Vec::from_slice(alloc, &self.marks[from..from + count])?,
+            validity: Vec::from_slice(alloc, &self.validity[from..from + count])?,
             pieces: self.pieces.slice(from, count)?,
         })
     }
@@ -125,9 +125,9 @@ impl BinaryColumn {
         ensures ok { OnOk result (self.new ≡ self.old ++ other.now) }
         ensures err { OnErr result (self.new ≡ self.old) }
     {
-        self.marks.reserve(other.marks.len())?;
+        self.validity.reserve(other.validity.len())?;
         self.pieces.append(&other.pieces)?;
-        self.marks.extend_from_slice(other.marks.as_slice())?;
+        self.validity.extend_from_slice(other.validity.as_slice())?;
         Ok(())
     }
 
@@ -135,7 +135,7 @@ impl BinaryColumn {
     pub(crate) fn truncate(&mut self, count: usize)
         ensures { self.new ≡ take count self.old }
     {
-        self.marks.truncate(count);
+        self.validity.truncate(count);
         self.pieces.truncate(count);
     }
 
@@ -144,15 +144,15 @@ impl BinaryColumn {
         ensures { IfOk result (λ copy. copy ≡ self.now) }
     {
         Ok(BinaryColumn {
-            marks: Vec::from_slice(self.allocator(), self.marks.as_slice())?,
+            validity: Vec::from_slice(self.allocator(), self.validity.as_slice())?,
             pieces: self.pieces.copied()?,
         })
     }
 
     /// How many bytes there are in all.
     pub(crate) fn total_len(&self) -> u64
-        requires { sum_by slot_length self.now < 2 ^ 64 }
-        ensures { result ≡ sum_by slot_length self.now }
+        requires { sum_by nullable_length self.now < 2 ^ 64 }
+        ensures { result ≡ sum_by nullable_length self.now }
     {
         let mut total = 0;
         for i in 0..self.len() {

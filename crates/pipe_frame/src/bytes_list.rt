@@ -1,7 +1,7 @@
 //! Byte strings one after another in one buffer, so that none of them has an allocation of its own.
 
 ghost use Rattle.std.specs.Prelude.{◌≡◌, ℕ, ◌<◌, ◌≤◌, ◌+◌, ◌^◌, [], ◌∷◌, ◌++◌, length, All, IfOk, OnOk, OnErr, map, take, drop, slice_index_or, vec_len, vec_capacity};
-ghost use Rattle.pipe_frame.specs.Column.{EndsFrom, pieces_from, value_at, less, more};
+ghost use Rattle.pipe_frame.specs.Column.{EndsFrom, pieces_from, values_at, less, more};
 
 use crate::place::Place;
 use std::alloc::{AllocError, Global};
@@ -78,6 +78,14 @@ impl BytesList {
         }
     }
 
+    /// The byte strings of a buffer that end at these places.
+    pub fn from_parts(bytes: Vec<u8>, ends: Vec<usize>) -> BytesList
+        requires { EndsFrom 0 (length bytes.items) ends.items }
+        ensures { result ≡ pieces_from 0 bytes.items ends.items }
+    {
+        BytesList { bytes, ends }
+    }
+
     /// The allocator of the list.
     pub(crate) fn allocator(&self) -> Global {
         *self.ends.allocator()
@@ -118,7 +126,7 @@ impl BytesList {
         alloc: Global,
         places: &[P],
     ) -> Result<BytesList, AllocError>
-        ensures { IfOk result (λ taken. taken ≡ map (value_at self.now []) (map P.place places.now)) }
+        ensures { IfOk result (λ taken. taken ≡ values_at self.now [] (map P.place places.now)) }
     {
         let mut taken = BytesList {
             bytes: Vec::new(alloc),
@@ -148,7 +156,7 @@ impl BytesList {
     }
 
     /// Puts the byte strings of another list at the end.
-    pub(crate) fn append(&mut self, other: &BytesList) -> Result<(), AllocError>
+    pub fn append(&mut self, other: &BytesList) -> Result<(), AllocError>
         ensures ok { OnOk result (self.new ≡ self.old ++ other.now) }
         ensures err { OnErr result (self.new ≡ self.old) }
     {

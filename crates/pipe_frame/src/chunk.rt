@@ -1,8 +1,7 @@
 //! Chunks: a frame with a number that says where it stands among others.
 
 ghost use Rattle.std.specs.Prelude.{◌≡◌, [], IsTrue, ◌↔◌, All, IfOk};
-ghost use Rattle.std.specs.List.{flat_map};
-ghost use Rattle.pipe_frame.specs.Chunks.{chunk_rows, HasSchema};
+ghost use Rattle.pipe_frame.specs.Chunks.{chunks_table, HasSchema};
 
 use crate::data_frame::DataFrame;
 use crate::schema::Schema;
@@ -68,7 +67,7 @@ pub fn chunks_to_df_unchecked(
     schema: &Schema,
 ) -> Result<DataFrame, AllocError>
     requires { All (HasSchema schema.now) chunks.items }
-    ensures { IfOk result (λ frame. frame ≡ record { schema = schema.now; rows = flat_map chunk_rows chunks.items }) }
+    ensures { IfOk result (λ frame. frame ≡ chunks_table schema.now chunks.items) }
 {
     let mut frame = DataFrame::empty(alloc, schema)?;
     for chunk in &chunks {

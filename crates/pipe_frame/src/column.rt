@@ -1,57 +1,72 @@
-//! One column of values of one type, some of them missing: typed vectors with the nulls beside them.
+//! One column of nullable values of one type: a typed vector with its validity beside it.
 
-ghost use Rattle.std.specs.Prelude.{◌≡◌, ℕ, ◌<◌, ◌≤◌, ◌+◌, [], ◌∷◌, ◌++◌, length, IfOk, OnOk, OnErr, Some, None, map, take, drop, if◌then◌else◌};
+ghost use Rattle.std.specs.Prelude.{◌≡◌, ℕ, ◌<◌, ◌≤◌, ◌+◌, [], ◌∷◌, ◌++◌, length, IfOk, OnOk, OnErr, Some, None, map, take, drop, IsTrue};
 ghost use Rattle.std.specs.Option.{option_copied};
-ghost use Rattle.pipe_frame.specs.Column.{slot_at, slot_in, slots};
+ghost use Rattle.pipe_frame.specs.Cell.{fits_dtype};
+ghost use Rattle.pipe_frame.specs.Column.{nullable, nullable_at, nullables_in, nullables};
 
+use crate::any_value::AnyValue;
+use crate::native::Native;
 use crate::place::{Place, gather};
 use std::alloc::{AllocError, Global};
 use std::marker::Model;
 
-/// A column, seen as a list of what may be values.
+/// A column, seen as a list of nullable values.
 #[derive(Debug, Drop)]
 pub struct Column<T> {
-    marks: Vec<bool>,
+    validity: Vec<bool>,
     values: Vec<T>,
 }
 
 impl<T> Model for Column<T> {
     ghost use Rattle.std.specs.Prelude.{◌≡◌, List, Option, length};
-    ghost use Rattle.pipe_frame.specs.Column.{slots};
+    ghost use Rattle.pipe_frame.specs.Column.{nullables};
 
     ghost Value = { List (Option T) };
 
-    ghost view = { λ c. slots c.marks.items c.values.items };
+    ghost view = { λ c. nullables c.validity.items c.values.items };
 
-    ghost invariant = { λ c. length c.marks.items ≡ length c.values.items };
+    ghost invariant = { λ c. length c.validity.items ≡ length c.values.items };
 }
 
-#[tactic(auto, using(crate::proofs::Slots::slots_rules))]
+#[tactic(auto, using(crate::proofs::Nullables::nullable_rules))]
 impl<T> Column<T> {
     /// A column with no place, which takes no memory.
     pub fn new(alloc: Global) -> Column<T>
         ensures { result ≡ [] }
     {
         Column {
-            marks: Vec::new(alloc),
+            validity: Vec::new(alloc),
             values: Vec::new(alloc),
         }
     }
 
-    /// A column of these values, each missing where its mark is false.
-    pub fn from_parts(marks: Vec<bool>, values: Vec<T>) -> Column<T>
-        requires { length marks.items ≡ length values.items }
-        ensures { result ≡ slots marks.items values.items }
+    /// A column of these values, each missing where its validity is false.
+    pub fn from_parts(validity: Vec<bool>, values: Vec<T>) -> Column<T>
+        requires { length validity.items ≡ length values.items }
+        ensures { result ≡ nullables validity.items values.items }
     {
-        Column { marks, values }
+        Column { validity, values }
     }
 
-    /// The marks, which are false where a value is missing, and the values with fillers there: for loops over a whole column.
+    /// The validity, which are false where a value is missing, and the values with fillers there: for loops over a whole column.
+
+    /// The validity, which is false where a value is missing, and the values, with any there: for loops over a
+    /// whole column.
     pub fn parts(&self) -> (&[bool], &[T])
         ensures even { length result.0.now ≡ length result.1.now }
-        ensures slots { slots result.0.now result.1.now ≡ self.now }
+        ensures nullables { nullables result.0.now result.1.now ≡ self.now }
     {
-        (self.marks.as_slice(), self.values.as_slice())
+        (self.validity.as_slice(), self.values.as_slice())
+    }
+
+    /// The same by value: for a loop that writes over the column.
+    pub fn into_parts(self) -> (Vec<bool>, Vec<T>)
+        ensures even { length result.0.items ≡ length result.1.items }
+        ensures nullables { nullables result.0.items result.1.items ≡ self }
+    {
+        let Column { validity, values } = self;
+        (validity, values)
     }
 
     /// How many places there are.
@@ -66,39 +81,39 @@ impl<T> Column<T> {
         *self.values.allocator()
     }
 
-    /// The mark and the value at a place.
-    fn slot(&self, i: usize) -> (bool, &T)
+    /// Whether the value at a place is there, and the value.
+    fn nullable(&self, i: usize) -> (bool, &T)
         requires { i < length self.now }
-        ensures { slot_at self.now i ≡ (if result.0 then Some result.1.now else None) }
+        ensures { nullable_at self.now i ≡ nullable result.0 result.1.now }
     {
-        (self.marks[i], &self.values[i])
+        (self.validity[i], &self.values[i])
     }
 
     /// The value at a place, or none where it is missing.
     pub fn get(&self, i: usize) -> Option<&T>
         requires { i < length self.now }
-        ensures { option_copied result ≡ slot_at self.now i }
+        ensures { option_copied result ≡ nullable_at self.now i }
     {
-        let (present, value) = self.slot(i);
-        if present { Some(value) } else { None }
+        let (valid, value) = self.nullable(i);
+        if valid { Some(value) } else { None }
     }
 }
 
-#[tactic(auto, using(crate::proofs::Slots::slots_rules))]
+#[tactic(auto, using(crate::proofs::Nullables::nullable_rules))]
 impl<T: Drop> Column<T> {
-    /// Puts a value at the end, which counts as missing where it isn't marked as present.
-    fn put(&mut self, present: bool, x: T) -> Result<(), AllocError>
-        ensures ok { OnOk result (self.new ≡ self.old ++ (if present then Some x else None) ∷ []) }
+    /// Puts a value at the end, which is missing where it isn't valid.
+    fn put(&mut self, valid: bool, x: T) -> Result<(), AllocError>
+        ensures ok { OnOk result (self.new ≡ self.old ++ nullable valid x ∷ []) }
         ensures err { OnErr result (self.new ≡ self.old) }
     {
-        self.marks.reserve(1)?;
+        self.validity.reserve(1)?;
         self.values.push(x)?;
-        self.marks.push_reserved(present);
+        self.validity.push_reserved(valid);
         Ok(())
     }
 
-    /// Puts what may be a value at the end, with a filler for its place where there is none.
-    pub fn push_maybe(&mut self, x: Option<T>, filler: T) -> Result<(), AllocError>
+    /// Puts a nullable value at the end, with a filler for its place where there is none.
+    pub fn push_option(&mut self, x: Option<T>, filler: T) -> Result<(), AllocError>
         ensures ok { OnOk result (self.new ≡ self.old ++ x ∷ []) }
         ensures err { OnErr result (self.new ≡ self.old) }
     {
@@ -117,7 +132,7 @@ impl<T: Drop> Column<T> {
     }
 
     /// Puts a missing value at the end, with a filler for its place.
-    pub fn push_missing(&mut self, filler: T) -> Result<(), AllocError>
+    pub fn push_null(&mut self, filler: T) -> Result<(), AllocError>
         ensures ok { OnOk result (self.new ≡ self.old ++ None ∷ []) }
         ensures err { OnErr result (self.new ≡ self.old) }
     {
@@ -125,15 +140,15 @@ impl<T: Drop> Column<T> {
     }
 }
 
-#[tactic(auto, using(crate::proofs::Slots::slots_rules))]
+#[tactic(auto, using(crate::proofs::Nullables::nullable_rules))]
 impl<T: Copy + Drop> Column<T> {
     /// The value at a place, or none where it is missing.
     pub fn at(&self, i: usize) -> Option<T>
         requires { i < length self.now }
-        ensures { result ≡ slot_at self.now i }
+        ensures { result ≡ nullable_at self.now i }
     {
-        let (present, value) = self.slot(i);
-        if present { Some(*value) } else { None }
+        let (valid, value) = self.nullable(i);
+        if valid { Some(*value) } else { None }
     }
 
     /// The values at these places.
@@ -143,10 +158,10 @@ impl<T: Copy + Drop> Column<T> {
         places: &[P],
         filler: T,
     ) -> Result<Column<T>, AllocError>
-        ensures { IfOk result (λ taken. taken ≡ map (slot_in self.now) (map P.place places.now)) }
+        ensures { IfOk result (λ taken. taken ≡ nullables_in self.now (map P.place places.now)) }
     {
         Ok(Column {
-            marks: gather(alloc, self.marks.as_slice(), places, false)?,
+            validity: gather(alloc, self.validity.as_slice(), places, false)?,
             values: gather(alloc, self.values.as_slice(), places, filler)?,
         })
     }
@@ -158,7 +173,7 @@ impl<T: Copy + Drop> Column<T> {
     {
         let alloc = self.allocator();
         Ok(Column {
-            marks: Vec::from_slice(alloc, &self.marks[from..from + count])?,
+            validity: Vec::from_slice(alloc, &self.validity[from..from + count])?,
             values: Vec::from_slice(alloc, &self.values[from..from + count])?,
         })
     }
@@ -168,9 +183,9 @@ impl<T: Copy + Drop> Column<T> {
         ensures ok { OnOk result (self.new ≡ self.old ++ other.now) }
         ensures err { OnErr result (self.new ≡ self.old) }
     {
-        self.marks.reserve(other.marks.len())?;
+        self.validity.reserve(other.validity.len())?;
         self.values.extend_from_slice(other.values.as_slice())?;
-        self.marks.extend_from_slice(other.marks.as_slice())?;
+        self.validity.extend_from_slice(other.validity.as_slice())?;
         Ok(())
     }
 
@@ -178,7 +193,7 @@ impl<T: Copy + Drop> Column<T> {
     pub(crate) fn truncate(&mut self, count: usize)
         ensures { self.new ≡ take count self.old }
     {
-        self.marks.truncate(count);
+        self.validity.truncate(count);
         self.values.truncate(count);
     }
 
@@ -188,8 +203,28 @@ impl<T: Copy + Drop> Column<T> {
     {
         let alloc = self.allocator();
         Ok(Column {
-            marks: Vec::from_slice(alloc, self.marks.as_slice())?,
+            validity: Vec::from_slice(alloc, self.validity.as_slice())?,
             values: Vec::from_slice(alloc, self.values.as_slice())?,
         })
+    }
+}
+
+impl<T: Native> Column<T> {
+    /// The cell at a place.
+    pub(crate) fn cell(&self, i: usize) -> AnyValue
+        requires { i < length self.now }
+        ensures { result ≡ T.cell (nullable_at self.now i) }
+    {
+        T::any_value(self.at(i))
+    }
+
+    /// Puts a cell of the type at the end.
+    pub(crate) fn push_cell(&mut self, cell: &AnyValue) -> Result<(), AllocError>
+        requires { IsTrue (fits_dtype T.dtype_of cell.now) }
+        ensures ok { OnOk result (map T.cell self.new ≡ map T.cell self.old ++ cell.now ∷ []) }
+        ensures err { OnErr result (self.new ≡ self.old) }
+    {
+        let (valid, value) = T::value(cell);
+        self.put(valid, value)
     }
 }

@@ -1,10 +1,10 @@
 //! What a frame does to its columns, one after another.
 
 ghost use Rattle.std.specs.Prelude.{◌≡◌, ℕ, ◌<◌, ◌≤◌, ◌+◌, [], length, ◌⊎◌, ◌^◌, All, map, option_map, sum_by, IfOk, IfErr, OnOk, OnErr, Some, None};
-ghost use Rattle.pipe_frame.specs.Schema.{first_unknown};
+ghost use Rattle.pipe_frame.specs.Schema.{MemoryOr, first_unknown};
 ghost use Rattle.pipe_frame.specs.Sizes.{column_size};
-ghost use Rattle.pipe_frame.specs.Columns.{taken_columns, part_column, front_column, stacked_front, true_places};
-ghost use Rattle.pipe_frame.specs.Frame.{row_at, field_of, height_of, other_height, AllOfHeight, at_places, places_named};
+ghost use Rattle.pipe_frame.specs.Columns.{taken_columns, part_column, front_column, stacked_columns, true_places};
+ghost use Rattle.pipe_frame.specs.Frame.{row_at, field_of, height_of, other_height, AllOfHeight, columns_named, unknown_fault};
 
 use crate::column::Column;
 use crate::data_frame::Row;
@@ -12,7 +12,7 @@ use crate::error::FrameError;
 use crate::field::Field;
 use crate::list::List;
 use crate::place::Place;
-use crate::schema::place_in;
+use crate::schema::Schema;
 use crate::series::Series;
 use crate::text::Text;
 use crate::try_clone::TryClone;
@@ -78,7 +78,7 @@ pub(crate) fn take_columns<P: Place>(
     columns: &[Series],
     places: &[P],
 ) -> Result<Vec<Series>, AllocError>
-    ensures { IfOk result (λ taken. taken.items ≡ taken_columns (map P.place places.now) columns.now) }
+    ensures { IfOk result (λ all. all.items ≡ taken_columns (map P.place places.now) columns.now) }
 {
     let mut taken = Vec::with_capacity(alloc, columns.len())?;
     for column in columns {
@@ -123,7 +123,7 @@ pub(crate) fn append_columns(
 ) -> Result<(), AllocError>
     requires even { AllOfHeight height columns.old }
     requires same { map field_of columns.old ≡ map field_of others.now }
-    ensures ok { OnOk result (columns.new ≡ stacked_front (length columns.old) columns.old others.now) }
+    ensures ok { OnOk result (columns.new ≡ stacked_columns columns.old others.now) }
     ensures err { OnErr result (columns.new ≡ columns.old) }
 {
     for i in 0..columns.len() {
@@ -135,13 +135,13 @@ pub(crate) fn append_columns(
     Ok(())
 }
 
-/// The places where a mark is true.
-pub(crate) fn places_of_true(alloc: Global, marks: &Column<bool>) -> Result<Vec<usize>, AllocError>
-    ensures { IfOk result (λ places. places.items ≡ true_places 0 marks.now) }
+/// The places where a mask is true.
+pub(crate) fn places_of_true(alloc: Global, mask: &Column<bool>) -> Result<Vec<usize>, AllocError>
+    ensures { IfOk result (λ places. places.items ≡ true_places 0 mask.now) }
 {
     let mut places = Vec::new(alloc);
-    for i in 0..marks.len() {
-        if let Some(true) = marks.at(i) {
+    for i in 0..mask.len() {
+        if let Some(true) = mask.at(i) {
             places.push(i)?;
         }
     }
@@ -176,17 +176,17 @@ pub(crate) fn size_of_columns(columns: &[Series]) -> u64
 pub(crate) fn select_columns(
     alloc: Global,
     columns: &[Series],
-    fields: &[Field],
+    schema: &Schema,
     names: &[Text],
 ) -> Result<Vec<Series>, FrameError>
-    requires { fields.now ≡ map field_of columns.now }
-    ensures ok { IfOk result (λ made. made.items ≡ at_places columns.now (places_named fields.now names.now)) }
-    ensures known { OnOk result (first_unknown fields.now names.now ≡ None) }
-    ensures err { IfErr result (λ e. (e ≡ FrameError.Memory) ⊎ (option_map FrameError.UnknownColumn (first_unknown fields.now names.now) ≡ Some e)) }
+    requires { schema.now ≡ map field_of columns.now }
+    ensures ok { IfOk result (λ made. made.items ≡ columns_named schema.now names.now columns.now) }
+    ensures known { OnOk result (first_unknown schema.now names.now ≡ None) }
+    ensures err { IfErr result (MemoryOr (unknown_fault schema.now names.now)) }
 {
     let mut made = List::new(alloc);
     for name in names {
-        let Some(i) = place_in(fields, name.as_bytes()) else {
+        let Some(i) = schema.index_of(name.as_bytes()) else {
             return Err(FrameError::UnknownColumn(name.try_clone()?));
         };
         made.push(columns[i].try_clone()?)?;

@@ -1,8 +1,8 @@
 //! Frames: columns of one height, each name once.
 
 ghost use Rattle.std.specs.Prelude.{◌≡◌, ℕ, ◌<◌, ◌≤◌, ◌+◌, ◌⊎◌, [], ◌++◌, length, All, map, take, drop, IfOk, IfErr, OnOk, OnErr, Some, None, slice_get, ◌^◌};
-ghost use Rattle.pipe_frame.specs.Schema.{IsSchema};
-ghost use Rattle.pipe_frame.specs.Frame.{rows_of, field_of, chosen_rows, columns_of, height_of, frame_fault, table_of, AllOfHeight, IsRowOrNone, row_or_nulls, kept_rows, selected, select_fault};
+ghost use Rattle.pipe_frame.specs.Schema.{MemoryOr, IsSchema};
+ghost use Rattle.pipe_frame.specs.Frame.{column_rows, even_rows, field_of, columns_of, height_of, frame_fault, table_of, AllOfHeight, IsRowOrNone, with_rows, chosen, taken, filtered, sliced, stacked, selected, select_fault};
 ghost use Rattle.pipe_frame.specs.Sizes.{frame_size};
 
 use crate::any_value::AnyValue;
@@ -63,10 +63,10 @@ impl DataFrame {
     /// stands again further on, `Height` with the height of the first column and of the first that differs.
     pub fn new(alloc: Global, columns: Vec<Series>) -> Result<DataFrame, FrameError>
         ensures schema { IfOk result (λ frame. frame.schema ≡ map field_of columns.items) }
-        ensures rows { IfOk result (λ frame. frame.rows ≡ rows_of columns.items (height_of columns.items)) }
+        ensures rows { IfOk result (λ frame. frame.rows ≡ even_rows columns.items) }
         ensures good { OnOk result (IsSchema (map field_of columns.items)) }
         ensures even { OnOk result (AllOfHeight (height_of columns.items) columns.items) }
-        ensures err { IfErr result (λ e. (e ≡ FrameError.Memory) ⊎ (frame_fault columns.items ≡ Some e)) }
+        ensures err { IfErr result (MemoryOr (frame_fault columns.items)) }
     {
         let schema = Schema::new(fields_of(alloc, columns.as_slice())?)?;
         let height = first_height(columns.as_slice());
@@ -124,7 +124,7 @@ impl DataFrame {
     pub fn get_columns(&self) -> &[Series]
         ensures columns { result.now ≡ columns_of self.now }
         ensures width { length result.now ≡ length self.now.schema }
-        ensures rows { self.now.rows ≡ rows_of result.now (length self.now.rows) }
+        ensures rows { self.now.rows ≡ column_rows result.now (length self.now.rows) }
         ensures even { AllOfHeight (length self.now.rows) result.now }
     {
         self.columns.as_slice()
@@ -146,7 +146,7 @@ impl DataFrame {
     /// The rows at these places, and a row of nulls where there is none.
     fn taken<P: Place>(&self, alloc: Global, places: &[P]) -> Result<DataFrame, AllocError>
         requires { All (IsRowOrNone (length self.now.rows)) (map P.place places.now) }
-        ensures { IfOk result (λ taken. taken ≡ record self.now { rows = map (row_or_nulls self.now) (map P.place places.now) }) }
+        ensures { IfOk result (λ made. made ≡ taken self.now (map P.place places.now)) }
     {
         Ok(DataFrame {
             schema: self.schema.try_clone()?,
@@ -158,7 +158,7 @@ impl DataFrame {
     /// The rows at these places.
     pub fn take(&self, rows: &[u32]) -> Result<DataFrame, AllocError>
         requires { All (λ i. i < length self.now.rows) rows.now }
-        ensures { IfOk result (λ taken. taken ≡ record self.now { rows = chosen_rows self.now.rows rows.now }) }
+        ensures { IfOk result (λ made. made ≡ chosen self.now rows.now) }
     {
         Ok(self.taken(*self.columns.allocator(), rows)?)
     }
@@ -166,29 +166,29 @@ impl DataFrame {
     /// The rows at these places, and a row of nulls where there is none.
     pub fn take_opt(&self, rows: &[Option<u32>]) -> Result<DataFrame, AllocError>
         requires { All (IsRowOrNone (length self.now.rows)) rows.now }
-        ensures { IfOk result (λ taken. taken ≡ record self.now { rows = map (row_or_nulls self.now) rows.now }) }
+        ensures { IfOk result (λ made. made ≡ taken self.now rows.now) }
     {
         Ok(self.taken(*self.columns.allocator(), rows)?)
     }
 
-    /// The rows whose mark is true.
+    /// The rows where a mask is true.
     pub fn filter(&self, mask: &Series) -> Result<DataFrame, AllocError>
         requires boolean { mask.now.dtype ≡ DataType.Boolean }
         requires even { length mask.now.cells ≡ length self.now.rows }
-        ensures { IfOk result (λ kept. kept ≡ record self.now { rows = kept_rows mask.now.cells self.now.rows }) }
+        ensures { IfOk result (λ kept. kept ≡ filtered mask.now.cells self.now) }
     {
         let alloc = *self.columns.allocator();
-        let Some(marks) = mask.as_boolean() else {
+        let Some(mask) = mask.as_column::<bool>() else {
             unreachable!()
         };
-        let places = places_of_true(alloc, marks)?;
+        let places = places_of_true(alloc, mask)?;
         Ok(self.taken(alloc, places.as_slice())?)
     }
 
     /// So many rows from a place on.
     pub fn slice(&self, offset: usize, len: usize) -> Result<DataFrame, AllocError>
         requires { offset + len ≤ length self.now.rows }
-        ensures { IfOk result (λ part. part ≡ record self.now { rows = take len (drop offset self.now.rows) }) }
+        ensures { IfOk result (λ part. part ≡ sliced offset len self.now) }
     {
         let alloc = *self.columns.allocator();
         Ok(DataFrame {
@@ -200,7 +200,7 @@ impl DataFrame {
 
     /// A frame of the same schema with no row.
     pub fn clear(&self) -> Result<DataFrame, AllocError>
-        ensures { IfOk result (λ cleared. cleared ≡ record self.now { rows = [] }) }
+        ensures { IfOk result (λ cleared. cleared ≡ with_rows self.now []) }
     {
         Ok(self.slice(0, 0)?)
     }
@@ -219,7 +219,7 @@ impl DataFrame {
     /// Puts the rows of a frame of the same schema behind these.
     pub fn vstack_mut(&mut self, other: &DataFrame) -> Result<(), AllocError>
         requires { self.old.schema ≡ other.now.schema }
-        ensures ok { OnOk result (self.new ≡ record self.old { rows = self.old.rows ++ other.now.rows }) }
+        ensures ok { OnOk result (self.new ≡ stacked self.old other.now) }
         ensures err { OnErr result (self.new ≡ self.old) }
     {
         append_columns(
@@ -239,14 +239,14 @@ impl DataFrame {
     pub fn select(&self, names: &[Text]) -> Result<DataFrame, FrameError>
         ensures ok { IfOk result (λ frame. frame ≡ selected self.now names.now) }
         ensures good { OnOk result (select_fault self.now.schema names.now ≡ None) }
-        ensures err { IfErr result (λ e. (e ≡ FrameError.Memory) ⊎ (select_fault self.now.schema names.now ≡ Some e)) }
+        ensures err { IfErr result (MemoryOr (select_fault self.now.schema names.now)) }
     {
-        check_names(names)?;
         let alloc = *self.columns.allocator();
-        let columns = select_columns(alloc, self.columns.as_slice(), self.schema.fields(), names)?;
+        check_names(alloc, names)?;
+        let columns = select_columns(alloc, self.columns.as_slice(), &self.schema, names)?;
         let fields = fields_of(alloc, columns.as_slice())?;
         Ok(DataFrame {
-            schema: Schema::of_checked(fields),
+            schema: Schema::of_checked(fields)?,
             columns,
             height: self.height,
         })

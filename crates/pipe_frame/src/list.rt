@@ -30,6 +30,11 @@ impl<T> List<T> {
         }
     }
 
+    /// The allocator of the list.
+    pub(crate) fn allocator(&self) -> Global {
+        *self.inner.allocator()
+    }
+
     /// How many items there are.
     pub fn len(&self) -> usize
         ensures { result ≡ length self.now }
@@ -84,8 +89,7 @@ pub(crate) fn copy_items<T: TryClone>(alloc: Global, items: &[T]) -> Result<Vec<
 
 impl<T: TryClone> TryClone for List<T> {
     fn try_clone(&self) -> Result<List<T>, AllocError> {
-        let alloc = *self.inner.allocator();
-        let inner = copy_items(alloc, self.inner.as_slice())?;
+        let inner = copy_items(self.allocator(), self.inner.as_slice())?;
         Ok(List { inner })
     }
 }

@@ -1,7 +1,7 @@
 //! Places that a gather reads: a row number, or none where a missing value is to stand.
 
 ghost use Rattle.std.specs.Prelude.{◌≡◌, ℕ, Option, Some, IfOk, map};
-ghost use Rattle.pipe_frame.specs.Column.{value_at};
+ghost use Rattle.pipe_frame.specs.Column.{values_at};
 
 use std::alloc::{AllocError, Global};
 
@@ -50,7 +50,7 @@ pub(crate) fn gather<T: Copy + Drop, P: Place>(
     places: &[P],
     filler: T,
 ) -> Result<Vec<T>, AllocError>
-    ensures { IfOk result (λ made. made.items ≡ map (value_at values.now filler) (map P.place places.now)) }
+    ensures { IfOk result (λ v. v.items ≡ values_at values.now filler (map P.place places.now)) }
 {
     let mut made = Vec::with_capacity(alloc, places.len())?;
     for place in places {

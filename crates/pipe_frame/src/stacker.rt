@@ -2,7 +2,7 @@
 
 ghost use Rattle.std.specs.Prelude.{◌≡◌, ℕ, ◌<◌, ◌+◌, ◌++◌, ◌^◌, IfOk, IfErr, OnErr, OnOk, IfSome, Some, None};
 ghost use Rattle.pipe_frame.specs.Sizes.{frame_size};
-ghost use Rattle.pipe_frame.specs.Stacker.{rows_or_none, size_or_none, stacked_on, first_out, second_out, still_held};
+ghost use Rattle.pipe_frame.specs.Stacker.{size_or_none, first_out, second_out, holding_more, after_add, KeepsRows};
 
 use crate::data_frame::DataFrame;
 use std::alloc::AllocError;
@@ -75,8 +75,8 @@ impl StreamingVstacker {
         requires fits { size_or_none self.old.held + frame_size next_frame < 2 ^ 64 }
         ensures first { IfOk result (λ out. out.first ≡ first_out self.old next_frame) }
         ensures second { IfOk result (λ out. out.second ≡ second_out self.old next_frame) }
-        ensures held { OnOk result (self.new ≡ record self.old { held = still_held self.old next_frame }) }
-        ensures same_rows { IfOk result (λ out. rows_or_none out.first ++ rows_or_none out.second ++ rows_or_none self.new.held ≡ rows_or_none self.old.held ++ next_frame.rows) }
+        ensures held { OnOk result (self.new ≡ after_add self.old next_frame) }
+        ensures same_rows { IfOk result (λ out. KeepsRows self.old next_frame out self.new) }
         ensures back { IfErr result (λ e. e.0 ≡ next_frame) }
         ensures unchanged { OnErr result (self.new ≡ self.old) }
     {
@@ -135,7 +135,7 @@ impl StreamingVstacker {
         requires schema { IfSome self.old.held (λ held. held.schema ≡ next_frame.schema) }
         requires size { next_size ≡ frame_size next_frame }
         requires fits { size_or_none self.old.held + next_size < 2 ^ 64 }
-        ensures held { OnOk result (self.new ≡ record self.old { held = Some (stacked_on self.old.held next_frame) }) }
+        ensures held { OnOk result (self.new ≡ holding_more self.old next_frame) }
         ensures back { IfErr result (λ e. e.0 ≡ next_frame) }
         ensures unchanged { OnErr result (self.new ≡ self.old) }
     {

@@ -1,7 +1,7 @@
 //! The stop check: whether a run is to end early.
 
 ghost use Rattle.std.specs.Prelude.{◌≡◌, ◌+◌, ◌-◌, ℕ, Bool, false, if◌then◌else◌, ◌==◌};
-ghost use Rattle.pipe_frame.specs.Counts.{Counts};
+ghost use Rattle.pipe_frame.specs.Counts.{counted};
 
 use std::marker::Model;
 
@@ -18,15 +18,15 @@ pub trait StopCheck {
 
     /// Whether to stop.
     fn should_stop(&mut self) -> bool
-        ensures asked { Counts 1 (asked self.old) (asked self.new) }
-        ensures yes { Counts (if result then 1 else 0) (yes self.old) (yes self.new) }
+        ensures asked { asked self.new ≡ counted 1 (asked self.old) }
+        ensures yes { yes self.new ≡ counted (if result then 1 else 0) (yes self.old) }
         ensures last { last_answer self.new ≡ result };
 }
 
 /// Always answers no, and counts its calls.
 #[derive(Debug, Drop)]
 pub struct NeverStop {
-    asked: u64,
+    calls: u64,
 }
 
 impl NeverStop {
@@ -34,26 +34,26 @@ impl NeverStop {
     pub fn new() -> NeverStop
         ensures { ⟦<NeverStop as StopCheck>⟧.asked result ≡ 0 }
     {
-        NeverStop { asked: 0 }
+        NeverStop { calls: 0 }
     }
 
     /// How often it was asked.
     pub fn asked(&self) -> u64
         ensures { result ≡ ⟦<NeverStop as StopCheck>⟧.asked self.now }
     {
-        self.asked
+        self.calls
     }
 }
 
 impl StopCheck for NeverStop {
-    ghost asked = { λ s. s.asked };
+    ghost asked = { λ s. s.calls };
 
     ghost yes = { λ _. 0 };
 
     ghost last_answer = { λ _. false };
 
     fn should_stop(&mut self) -> bool {
-        self.asked = self.asked.saturating_add(1);
+        self.calls = self.calls.saturating_add(1);
         false
     }
 }
@@ -111,8 +111,8 @@ impl StopCheck for StopAfter {
     ghost last_answer = { λ s. s.last_answer };
 
     fn should_stop(&mut self) -> bool
-        ensures asked { Counts 1 self.old.asked self.new.asked }
-        ensures yes { Counts (if result then 1 else 0) self.old.yes self.new.yes }
+        ensures asked { self.new.asked ≡ counted 1 self.old.asked }
+        ensures yes { self.new.yes ≡ counted (if result then 1 else 0) self.old.yes }
         ensures last { self.new.last_answer ≡ result }
         ensures answer { result ≡ (self.old.left == 0) }
         ensures left { self.new.left ≡ self.old.left - 1 }
@@ -120,9 +120,7 @@ impl StopCheck for StopAfter {
         let stop = self.left == 0;
         self.left = self.left.saturating_sub(1);
         self.asked = self.asked.saturating_add(1);
-        if stop {
-            self.yes = self.yes.saturating_add(1);
-        }
+        self.yes = self.yes.saturating_add(u64::from(stop));
         self.last_answer = stop;
         stop
     }

@@ -2,15 +2,15 @@
 
 ghost use Rattle.std.specs.Prelude.{◌≡◌, ℕ, ◌<◌, ◌≤◌, ◌+◌, [], ◌∷◌, ◌++◌, length, IfOk, OnOk, OnErr, map, take, drop, sum_by, ◌^◌};
 ghost use Rattle.std.specs.Option.{option_copied};
-ghost use Rattle.pipe_frame.specs.Column.{slot_at, slot_in};
-ghost use Rattle.pipe_frame.specs.Sizes.{slot_length};
+ghost use Rattle.pipe_frame.specs.Column.{nullable_at, nullables_in};
+ghost use Rattle.pipe_frame.specs.Sizes.{nullable_length};
 
 use crate::bytes_column::BinaryColumn;
 use crate::place::Place;
 use std::alloc::{AllocError, Global};
 use std::marker::Model;
 
-/// A column of texts, seen as a list of what may be the bytes of texts.
+/// A column of texts, seen as a list of the bytes of nullable texts.
 #[derive(Debug, Drop)]
 pub struct StringColumn {
     inner: BinaryColumn,
@@ -53,7 +53,7 @@ impl StringColumn {
     /// The text at a place, or none where it is missing.
     pub fn get(&self, i: usize) -> Option<&str>
         requires { i < length self.now }
-        ensures { option_copied result ≡ slot_at self.now i }
+        ensures { option_copied result ≡ nullable_at self.now i }
     {
         match self.inner.get(i) {
             // Each byte string of the column is UTF-8, as its invariant says.
@@ -79,7 +79,7 @@ impl StringColumn {
         alloc: Global,
         places: &[P],
     ) -> Result<StringColumn, AllocError>
-        ensures { IfOk result (λ taken. taken ≡ map (slot_in self.now) (map P.place places.now)) }
+        ensures { IfOk result (λ taken. taken ≡ nullables_in self.now (map P.place places.now)) }
     {
         Ok(StringColumn {
             inner: self.inner.take_at(alloc, places)?,
@@ -122,8 +122,8 @@ impl StringColumn {
 
     /// How many bytes there are in all.
     pub(crate) fn total_len(&self) -> u64
-        requires { sum_by slot_length self.now < 2 ^ 64 }
-        ensures { result ≡ sum_by slot_length self.now }
+        requires { sum_by nullable_length self.now < 2 ^ 64 }
+        ensures { result ≡ sum_by nullable_length self.now }
     {
         self.inner.total_len()
     }

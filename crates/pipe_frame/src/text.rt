@@ -61,6 +61,11 @@ impl Text {
         self.inner.as_str().as_bytes()
     }
 
+    /// The allocator of the text.
+    pub(crate) fn allocator(&self) -> Global {
+        *self.inner.allocator()
+    }
+
     /// Whether two texts have the same bytes.
     pub fn is_same(&self, other: &Text) -> bool
         ensures { result ≡ bytes_eq self.now other.now }
@@ -120,6 +125,13 @@ impl Bytes {
         ensures { result.now ≡ self.now }
     {
         self.inner.as_slice()
+    }
+
+    /// Whether two byte strings have the same bytes.
+    pub fn is_same(&self, other: &Bytes) -> bool
+        ensures { result ≡ bytes_eq self.now other.now }
+    {
+        self.as_slice() == other.as_slice()
     }
 }
 

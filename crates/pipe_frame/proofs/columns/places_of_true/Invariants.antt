@@ -3,4 +3,4 @@ use Rattle.pipe_frame.specs.Columns.{true_places}
 use Rattle.pipe_frame.proofs.columns.places_of_true.Given as goal
 
 abbrev pub invariant-loop-i : goal.invariant-loop-i
-invariant-loop-i l = l.places.items ++ true_places l.i (drop l.i l.marks) ≡ true_places 0 l.marks
+invariant-loop-i l = l.places.items ++ true_places l.i (drop l.i l.mask) ≡ true_places 0 l.mask

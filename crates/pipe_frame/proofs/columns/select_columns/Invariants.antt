@@ -5,6 +5,6 @@ use Rattle.pipe_frame.proofs.columns.select_columns.Given as goal
 
 abbrev pub invariant-loop-name : goal.invariant-loop-name
 invariant-loop-name l = record {
-  made : l.made ≡ at_places l.columns (places_named l.fields (take l.name-index l.names));
-  known : first_unknown l.fields (drop l.name-index l.names) ≡ first_unknown l.fields l.names;
+  made : l.made ≡ at_places l.columns (places_named l.schema (take l.name-index l.names));
+  known : first_unknown l.schema (drop l.name-index l.names) ≡ first_unknown l.schema l.names;
 }

@@ -1,6 +1,0 @@
-use Rattle.std.proofs.Common.{[]}
-use Rattle.pipe_frame.proofs.Slots.{slot_seen}
-use Rattle.pipe_frame.proofs.bytes_column.BinaryColumn.slot.Goals as goal
-
-pub returns : goal.returns
-returns c = slot_seen c.self.inside.marks.items c.self.inside.pieces c.args.i c.index.result.now [] c.get.result.now c.self.view_is c.self.invariant c.requires c.index.ensures c.get.ensures
