@@ -1,0 +1,4 @@
+pub mod SumLemmas
+pub mod FlagSteps
+pub mod ClaimSteps
+pub mod OnceLemmas

@@ -1,0 +1,5 @@
+pub mod Sums
+pub mod Flags
+pub mod FlagRule
+pub mod Claims
+pub mod ClaimRule
