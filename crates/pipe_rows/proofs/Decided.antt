@@ -1,13 +1,13 @@
 -- Byte strings of which a byte decides the order, whatever follows them.
-use Rattle.std.proofs.Common.{◌≡◌, ℕ, zero, suc, ◌+◌, ◌*◌, ◌/◌, ◌%◌, ◌^◌, ◌<◌, ◌≤◌, List, [], ◌∷◌, ◌++◌, map, drop, refl, ap, sym, ◌∙◌, subst, arith}
-use Rattle.std.specs.Int.{byte_at, bytes_high_first}
+use Rattle.std.proofs.Common.{◌≡◌, ℕ, zero, suc, ◌+◌, ◌*◌, ◌/◌, ◌%◌, ◌^◌, ◌<◌, ◌≤◌, List, [], ◌∷◌, ◌++◌, get_or, map, drop, refl, ap, sym, ◌∙◌, subst, arith}
+use Rattle.std.specs.Int.{byte_at, bytes_low_first, bytes_high_first}
 use Rattle.std.specs.Ordering.{nat_cmp, ordering_then, ordering_reverse, MatchOrdering}
 use Rattle.std.specs.Cmp.{nat_cmp_is, ranks}
 use Rattle.std.specs.Cmp.Lexicographic.{slice_cmp}
 use Rattle.std.specs.declared.cmp.Ordering.{Ordering}
 use Rattle.std.specs.declared.cmp.Ordering.TheVariants.{Less, Equal, Greater}
 use Rattle.std.proofs.Math.Nat.{div-add-mod, add-mul-mod_self_left, mod-eq_of_lt, mod-lt, mul-add, mul_assoc, mul-le-mul_left, pow-suc, div-one}
-use Rattle.pipe_rows.specs.Equality.{IsBytes}
+use Rattle.pipe_frame.specs.Native.{IsBytes}
 use Rattle.pipe_rows.specs.Ordered.{complement, ended_bytes}
 
 -- the two are the same, or the first byte in which they differ decides
@@ -74,8 +74,29 @@ byte_is : (k n : ℕ) → byte_at k n ≡ n / 256 ^ k % 256
 byte_is zero n = ap (λ z. z % 256) (sym (div-one n))
 byte_is (suc k) n = refl
 
-more_digits : (k n : ℕ) → n % 256 ^ suc k ≡ 256 ^ k * byte_at k n + n % 256 ^ k
+pub more_digits : (k n : ℕ) → n % 256 ^ suc k ≡ 256 ^ k * byte_at k n + n % 256 ^ k
 more_digits k n = rw (pow-suc 256 k, byte_is k n) (low_digits n (256 ^ k) (power_pos k))
+
+-- ---- numbers, lowest byte first
+
+-- bytes tell the lowest digits of their number, whatever follows
+low_apart : (i k n m : ℕ) (x y : List ℕ) → n % 256 ^ i ≡ m % 256 ^ i → bytes_low_first i k n ++ x ≡ bytes_low_first i k m ++ y → (n % 256 ^ (i + k) ≡ m % 256 ^ (i + k)) × (x ≡ y)
+low_apart i zero n m x y h e = let same : i + 0 ≡ i = omega arith in (rw same h, e)
+low_apart i (suc k) n m x y h e =
+    let head : byte_at i n ≡ byte_at i m = ap (λ l. get_or l 0 0) e in
+    let further : n % 256 ^ suc i ≡ m % 256 ^ suc i = more_digits i n ∙ ap (λ b. 256 ^ i * b + n % 256 ^ i) head ∙ ap (λ r. 256 ^ i * byte_at i m + r) h ∙ sym (more_digits i m) in
+    let both = low_apart (suc i) k n m x y further (ap (drop 1) e) in
+    let same : i + suc k ≡ suc i + k = omega arith in
+    (rw same both.0, both.1)
+
+pub number_apart : (k n m : ℕ) (x y : List ℕ) → n < 256 ^ k → m < 256 ^ k → bytes_low_first 0 k n ++ x ≡ bytes_low_first 0 k m ++ y → (n ≡ m) × (x ≡ y)
+number_apart k n m x y hn hm e =
+    let both = low_apart 0 k n m x y (omega arith) e in
+    let same : 0 + k ≡ k = omega arith in
+    let digits : n % 256 ^ k ≡ m % 256 ^ k = rw same at both.0 in
+    (sym (mod-eq_of_lt hn) ∙ digits ∙ mod-eq_of_lt hm, both.1)
+
+-- ---- numbers compared
 
 -- numbers compare as what is left of them without what they share
 shared_cmp : (c x y : ℕ) → nat_cmp (c + x) (c + y) ≡ nat_cmp x y

@@ -1,11 +1,9 @@
 -- The steps of decoding an ordered encoding.
 use Rattle.std.proofs.Common.{◌≡◌, ℕ, zero, suc, ◌+◌, ◌-◌, ◌<◌, ◌≤◌, Bool, true, false, List, [], ◌∷◌, ◌++◌, length, get_or, take, drop, map, refl, ap, sym, ◌∙◌, arith, append_assoc}
 use Rattle.std.specs.List.{flat_map}
-use Rattle.std.specs.Int.{w64, to_be_bytes, from_be_bytes}
-use Rattle.std.proofs.lemmas.Nat.{be_bytes_8}
-use Rattle.std.proofs.lemmas.List.{length-map, length-take-le, take_all, length-append, length-drop, take-append-drop, append-nil, drop-drop}
+use Rattle.std.proofs.lemmas.List.{length-map, take_all, length-append, length-drop, append-nil, drop-drop}
 use Rattle.std.proofs.lemmas.Grind.{flat_map-append}
-use Rattle.pipe_rows.specs.Equality.{IsBytes}
+use Rattle.pipe_frame.specs.Native.{IsBytes}
 use Rattle.pipe_rows.specs.Ordered.{complement, directed_bytes, escaped_byte, ended_bytes}
 use Rattle.pipe_rows.specs.Decoding.{IsEnded, TakesText}
 
@@ -30,7 +28,7 @@ directed_bytes-drop true zero xs = refl
 directed_bytes-drop true (suc i) [] = refl
 directed_bytes-drop true (suc i) (x ∷ xs) = directed_bytes-drop true i xs
 
-directed_bytes-take : (d : Bool) (i : ℕ) (xs : List ℕ) → directed_bytes d (take i xs) ≡ take i (directed_bytes d xs)
+pub directed_bytes-take : (d : Bool) (i : ℕ) (xs : List ℕ) → directed_bytes d (take i xs) ≡ take i (directed_bytes d xs)
 directed_bytes-take false i xs = refl
 directed_bytes-take true zero xs = refl
 directed_bytes-take true (suc i) [] = refl
@@ -45,51 +43,9 @@ directed_are_bytes false xs h = h
 directed_are_bytes true [] h = tt
 directed_are_bytes true (x ∷ xs) h = (omega arith, directed_are_bytes true xs h.1)
 
--- a byte at a place, directed
-pub directed_at : (d : Bool) (xs : List ℕ) (i x : ℕ) → i < length xs → x ∷ [] ≡ directed_bytes d (get_or xs i 0 ∷ []) → x ≡ get_or (directed_bytes d xs) i 0
-directed_at d [] i x lt e = absurd (omega arith)
-directed_at true (y ∷ xs) zero x lt e = cc
-directed_at false (y ∷ xs) zero x lt e = cc
-directed_at true (y ∷ xs) (suc i) x lt e = directed_at true xs i x (omega arith) e
-directed_at false (y ∷ xs) (suc i) x lt e = directed_at false xs i x (omega arith) e
-
 -- what is left from a place on, directed
 pub directed_tail : (d : Bool) (xs : List ℕ) (at : ℕ) → directed_bytes d (take (length xs - at) (drop at xs)) ≡ drop at (directed_bytes d xs)
 directed_tail d xs at = ap (directed_bytes d) (take_all (length xs - at) (drop at xs) (omega (arith, length-drop at xs))) ∙ directed_bytes-drop d at xs
-
--- ---- numbers
-
-bytes_get : (xs : List ℕ) → IsBytes xs → (i : ℕ) → get_or xs i 0 < 256
-bytes_get [] h i = omega arith
-bytes_get (x ∷ xs) h zero = h.0
-bytes_get (x ∷ xs) h (suc i) = bytes_get xs h.1 i
-
-bytes_take : (n : ℕ) (xs : List ℕ) → IsBytes xs → IsBytes (take n xs)
-bytes_take zero xs h = tt
-bytes_take (suc n) [] h = tt
-bytes_take (suc n) (x ∷ xs) h = (h.0, bytes_take n xs h.1)
-
--- the first eight
-pub eight : (xs : List ℕ) → 8 ≤ length xs → get_or xs 0 0 ∷ get_or xs 1 0 ∷ get_or xs 2 0 ∷ get_or xs 3 0 ∷ get_or xs 4 0 ∷ get_or xs 5 0 ∷ get_or xs 6 0 ∷ get_or xs 7 0 ∷ [] ≡ take 8 xs
-eight [] h = absurd (omega arith)
-eight (_ ∷ []) h = absurd (omega arith)
-eight (_ ∷ (_ ∷ [])) h = absurd (omega arith)
-eight (_ ∷ (_ ∷ (_ ∷ []))) h = absurd (omega arith)
-eight (_ ∷ (_ ∷ (_ ∷ (_ ∷ [])))) h = absurd (omega arith)
-eight (_ ∷ (_ ∷ (_ ∷ (_ ∷ (_ ∷ []))))) h = absurd (omega arith)
-eight (_ ∷ (_ ∷ (_ ∷ (_ ∷ (_ ∷ (_ ∷ [])))))) h = absurd (omega arith)
-eight (_ ∷ (_ ∷ (_ ∷ (_ ∷ (_ ∷ (_ ∷ (_ ∷ []))))))) h = absurd (omega arith)
-eight (_ ∷ (_ ∷ (_ ∷ (_ ∷ (_ ∷ (_ ∷ (_ ∷ (_ ∷ xs)))))))) h = refl
-
--- eight bytes are those of the number that was read of them
-pub long_back : (d : Bool) (rest : List ℕ) (n : ℕ) (xs : List ℕ) → IsBytes rest → 8 ≤ length rest → xs ≡ take 8 (directed_bytes d rest) → n ≡ from_be_bytes w64 xs → directed_bytes d (to_be_bytes w64 n) ++ drop 8 rest ≡ rest
-long_back d rest n xs h long e same =
-    let are : IsBytes xs = rw e (bytes_take 8 (directed_bytes d rest) (directed_are_bytes d rest h)) in
-    let wide : length xs ≡ 8 = ap length e ∙ length-take-le 8 (directed_bytes d rest) (omega (arith, length-directed_bytes d rest)) in
-    let back : to_be_bytes w64 n ≡ xs = be_bytes_8 xs n wide (bytes_get xs are) same in
-    ap (λ l. directed_bytes d l ++ drop 8 rest) (back ∙ e ∙ sym (directed_bytes-take d 8 rest))
-    ∙ ap (λ l. l ++ drop 8 rest) (directed_twice d (take 8 rest) (bytes_take 8 rest h))
-    ∙ take-append-drop 8 rest
 
 -- ---- texts
 

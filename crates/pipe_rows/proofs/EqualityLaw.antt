@@ -1,10 +1,9 @@
 -- Equality encodings are equal exactly where the rows are.
 use Rattle.std.proofs.Common.{◌≡◌, ℕ, ◌<◌, ◌^◌, Bool, true, false, List, [], ◌∷◌, ◌++◌, length, take, drop, refl, ap, sym, ◌∙◌, arith, append_assoc, to_z-of_z}
-use Rattle.std.specs.Int.{w32, w64, to_le_bytes, cast_unsigned, cast_signed, from_le_bytes}
+use Rattle.std.specs.Int.{w32, w64, w128, to_le_bytes, cast_unsigned, cast_signed}
 use Rattle.std.specs.Str.{bytes_eq}
 use Rattle.std.specs.Cmp.Lexicographic.{bytes_decides, pointwise_decides}
 use Rattle.std.proofs.lemmas.List.{take_at, drop_at}
-use Rattle.std.proofs.lemmas.Nat.{from_le_bytes-to_le_bytes_4, from_le_bytes-to_le_bytes_8}
 use Rattle.std.proofs.lemmas.Int.{ints}
 use Rattle.pipe_frame.proofs.Cells.{eq_cell-sound, eq_cell-refl}
 use Rattle.pipe_frame.specs.Cell.{eq_cell}
@@ -13,45 +12,38 @@ use Rattle.pipe_frame.specs.declared.any_value.AnyValue.{AnyValue}
 use Rattle.pipe_frame.specs.declared.any_value.AnyValue.TheVariants as cell
 use Rattle.pipe_frame.specs.declared.data_type.DataType.{DataType}
 use Rattle.pipe_frame.specs.declared.data_type.DataType.TheVariants as dtype
+use Rattle.pipe_rows.proofs.Decided.{number_apart}
 use Rattle.pipe_rows.specs.Equality.{equality_cell, equality_row, sized_bytes, IsCell, IsRow}
 
 -- what stands before and after a place
 apart : (n : ℕ) (p q x y : List ℕ) → length p ≡ n → length q ≡ n → p ++ x ≡ q ++ y → (p ≡ q) × (x ≡ y)
 apart n p q x y hp hq e = (sym (take_at p x n hp) ∙ ap (take n) e ∙ take_at q y n hq, sym (drop_at p x n hp) ∙ ap (drop n) e ∙ drop_at q y n hq)
 
--- four bytes tell their number, and eight
-word_apart : (n m : ℕ) (x y : List ℕ) → n < 2 ^ 32 → m < 2 ^ 32 → to_le_bytes w32 n ++ x ≡ to_le_bytes w32 m ++ y → (n ≡ m) × (x ≡ y)
-word_apart n m x y hn hm e =
-    let both = apart 4 (to_le_bytes w32 n) (to_le_bytes w32 m) x y refl refl e in
-    (sym (from_le_bytes-to_le_bytes_4 n hn) ∙ ap (from_le_bytes w32) both.0 ∙ from_le_bytes-to_le_bytes_4 m hm, both.1)
-
-long_apart : (n m : ℕ) (x y : List ℕ) → n < 2 ^ 64 → m < 2 ^ 64 → to_le_bytes w64 n ++ x ≡ to_le_bytes w64 m ++ y → (n ≡ m) × (x ≡ y)
-long_apart n m x y hn hm e =
-    let both = apart 8 (to_le_bytes w64 n) (to_le_bytes w64 m) x y refl refl e in
-    (sym (from_le_bytes-to_le_bytes_8 n hn) ∙ ap (from_le_bytes w64) both.0 ∙ from_le_bytes-to_le_bytes_8 m hm, both.1)
-
 sized_apart : (s t x y : List ℕ) → length s < 2 ^ 64 → length t < 2 ^ 64 → sized_bytes s ++ x ≡ sized_bytes t ++ y → (s ≡ t) × (x ≡ y)
 sized_apart s t x y hs ht e =
-    let both = long_apart (length s) (length t) (s ++ x) (t ++ y) hs ht (sym (append_assoc (to_le_bytes w64 (length s)) s x) ∙ e ∙ append_assoc (to_le_bytes w64 (length t)) t y) in
+    let both = number_apart 8 (length s) (length t) (s ++ x) (t ++ y) hs ht (sym (append_assoc (to_le_bytes w64 (length s)) s x) ∙ e ∙ append_assoc (to_le_bytes w64 (length t)) t y) in
     apart (length t) s t x y both.0 refl both.1
 
 -- a cell's bytes tell the cell, whatever follows
 pub cell_apart : (t : DataType) (a b : AnyValue) (x y : List ℕ) → IsCell t a → IsCell t b → equality_cell a ++ x ≡ equality_cell b ++ y → (a ≡ b) × (x ≡ y)
 cell_apart t cell.Null cell.Null x y ha hb e = (refl, ap (drop 1) e)
 cell_apart dtype.Int32 (cell.Int32 a) (cell.Int32 b) x y ha hb e =
-    let both = word_apart (cast_unsigned w32 a) (cast_unsigned w32 b) x y (omega (arith, ints)) (omega (arith, ints)) (ap (drop 1) e) in
+    let both = number_apart 4 (cast_unsigned w32 a) (cast_unsigned w32 b) x y (omega (arith, ints)) (omega (arith, ints)) (ap (drop 1) e) in
     (ap cell.Int32 (sym (to_z-of_z ha.1) ∙ ap (cast_signed w32) both.0 ∙ to_z-of_z hb.1), both.1)
 cell_apart dtype.Int64 (cell.Int64 a) (cell.Int64 b) x y ha hb e =
-    let both = long_apart (cast_unsigned w64 a) (cast_unsigned w64 b) x y (omega (arith, ints)) (omega (arith, ints)) (ap (drop 1) e) in
+    let both = number_apart 8 (cast_unsigned w64 a) (cast_unsigned w64 b) x y (omega (arith, ints)) (omega (arith, ints)) (ap (drop 1) e) in
     (ap cell.Int64 (sym (to_z-of_z ha.1) ∙ ap (cast_signed w64) both.0 ∙ to_z-of_z hb.1), both.1)
-cell_apart dtype.UInt32 (cell.UInt32 a) (cell.UInt32 b) x y ha hb e = let both = word_apart a b x y ha.1 hb.1 (ap (drop 1) e) in (ap cell.UInt32 both.0, both.1)
-cell_apart dtype.UInt64 (cell.UInt64 a) (cell.UInt64 b) x y ha hb e = let both = long_apart a b x y ha.1 hb.1 (ap (drop 1) e) in (ap cell.UInt64 both.0, both.1)
+cell_apart dtype.UInt32 (cell.UInt32 a) (cell.UInt32 b) x y ha hb e = let both = number_apart 4 a b x y ha.1 hb.1 (ap (drop 1) e) in (ap cell.UInt32 both.0, both.1)
+cell_apart dtype.UInt64 (cell.UInt64 a) (cell.UInt64 b) x y ha hb e = let both = number_apart 8 a b x y ha.1 hb.1 (ap (drop 1) e) in (ap cell.UInt64 both.0, both.1)
 cell_apart dtype.Boolean (cell.Boolean true) (cell.Boolean true) x y ha hb e = (refl, ap (drop 2) e)
 cell_apart dtype.Boolean (cell.Boolean false) (cell.Boolean false) x y ha hb e = (refl, ap (drop 2) e)
 cell_apart dtype.Boolean (cell.Boolean true) (cell.Boolean false) x y ha hb e = cc
 cell_apart dtype.Boolean (cell.Boolean false) (cell.Boolean true) x y ha hb e = cc
 cell_apart dtype.String (cell.String s) (cell.String t) x y ha hb e = let both = sized_apart s t x y ha.1.0 hb.1.0 (ap (drop 1) e) in (ap cell.String both.0, both.1)
 cell_apart dtype.Binary (cell.Binary s) (cell.Binary t) x y ha hb e = let both = sized_apart s t x y ha.1.0 hb.1.0 (ap (drop 1) e) in (ap cell.Binary both.0, both.1)
+cell_apart dtype.Int128 (cell.Int128 a) (cell.Int128 b) x y ha hb e =
+    let both = number_apart 16 (cast_unsigned w128 a) (cast_unsigned w128 b) x y (omega (arith, ints)) (omega (arith, ints)) (ap (drop 1) e) in
+    (ap cell.Int128 (sym (to_z-of_z ha.1) ∙ ap (cast_signed w128) both.0 ∙ to_z-of_z hb.1), both.1)
 cell_apart _ _ _ x y ha hb e = cc
 
 -- a row's bytes tell the row

@@ -1,12 +1,14 @@
 pub mod EncodedLemmas
-pub mod EqualityLemmas
 pub mod EqualityLaw
 pub mod BytesLemmas
 pub mod Decided
 pub mod OrderedLaw
 pub mod OrderedLemmas
 pub mod DecodingLemmas
+pub mod NativeLemmas
+pub mod EncodingLemmas
 pub mod ValueLemmas
 pub mod RowLemmas
 pub mod SortLaw
 pub mod FillingLemmas
+pub mod PartitionLemmas

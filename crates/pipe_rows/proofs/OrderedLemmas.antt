@@ -1,9 +1,9 @@
 -- The steps of writing an ordered encoding.
-use Rattle.std.proofs.Common.{◌≡◌, ℕ, suc, ◌+◌, ◌<◌, Bool, true, false, List, [], ◌∷◌, ◌++◌, length, get_or, drop, map, refl, ap, sym, ◌∙◌, arith}
+use Rattle.std.proofs.Common.{◌≡◌, ℕ, suc, ◌+◌, ◌<◌, Bool, true, false, List, [], ◌∷◌, ◌++◌, length, get_or, drop, refl, ap, sym, ◌∙◌, arith}
 use Rattle.std.specs.List.{flat_map}
 use Rattle.std.proofs.lemmas.List.{map-append, length-map, length-append}
 use Rattle.pipe_rows.specs.Ordered.{complement, directed_bytes, escaped_byte, ended_bytes}
-use Rattle.pipe_rows.proofs.RowLemmas.{left_one}
+use Rattle.std.proofs.Math.Seq.{drop-cons}
 
 pub directed_bytes-append : (d : Bool) (xs ys : List ℕ) → directed_bytes d (xs ++ ys) ≡ directed_bytes d xs ++ directed_bytes d ys
 directed_bytes-append true xs ys = map-append complement xs ys
@@ -18,13 +18,10 @@ length-ended xs = length-append (flat_map escaped_byte xs) (0 ∷ 0 ∷ [])
 
 -- the next byte of those that are left
 pub drop_one : (xs : List ℕ) (k : ℕ) → k < length xs → drop k xs ≡ get_or xs k 0 ∷ drop (k + 1) xs
-drop_one xs k lt = let next : suc k ≡ k + 1 = omega arith in left_one 0 xs k lt ∙ ap (λ n. get_or xs k 0 ∷ drop n xs) next
+drop_one xs k lt = let next : suc k ≡ k + 1 = omega arith in drop-cons xs k 0 lt ∙ ap (λ n. get_or xs k 0 ∷ drop n xs) next
 
 pub escaped_one : (d : Bool) (xs : List ℕ) (k : ℕ) → k < length xs → directed_bytes d (flat_map escaped_byte (drop k xs)) ≡ directed_bytes d (escaped_byte (get_or xs k 0)) ++ directed_bytes d (flat_map escaped_byte (drop (k + 1) xs))
 escaped_one d xs k lt = ap (λ l. directed_bytes d (flat_map escaped_byte l)) (drop_one xs k lt) ∙ directed_bytes-append d (escaped_byte (get_or xs k 0)) (flat_map escaped_byte (drop (k + 1) xs))
-
-pub complement_one : (xs : List ℕ) (k : ℕ) → k < length xs → map complement (drop k xs) ≡ (complement (get_or xs k 0) ∷ []) ++ map complement (drop (k + 1) xs)
-complement_one xs k lt = ap (map complement) (drop_one xs k lt)
 
 -- the end of a text
 pub ended_last : (d : Bool) (last : ℕ) (xs : List ℕ) → last ∷ [] ≡ directed_bytes d (0 ∷ []) → directed_bytes d (flat_map escaped_byte xs) ++ last ∷ last ∷ [] ≡ directed_bytes d (ended_bytes xs)

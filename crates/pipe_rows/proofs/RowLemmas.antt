@@ -2,6 +2,7 @@
 use Rattle.std.proofs.Common.{◌≡◌, ℕ, zero, suc, ◌+◌, ◌<◌, ◌≤◌, List, [], ◌∷◌, ◌++◌, length, get_or, set, take, drop, map, refl, ap, sym, ◌∙◌, subst, arith, append_assoc}
 use borrow.Author.Count.{below_more}
 use Rattle.std.proofs.lemmas.List.{append-nil, take_all, drop-drop, length-append, length-drop, get_or_append_left, length-map}
+use Rattle.std.proofs.Math.ListN.{drop_of_length-le}
 use Rattle.std.proofs.Math.Seq.{get_or-append_seam}
 use Rattle.pipe_frame.specs.Frame.{AllOfHeight, field_of, row_at}
 use Rattle.pipe_frame.specs.Series.{Cells, cell_at}
@@ -15,7 +16,7 @@ use Rattle.pipe_rows.specs.Encoded.{Encoded}
 use Rattle.pipe_rows.specs.SortOrder.{key_cmp}
 use Rattle.pipe_rows.specs.Equality.{IsCell, IsRow, dtype_of, dtypes_of}
 use Rattle.pipe_rows.specs.Ordered.{ordered_cell, ordered_row}
-use Rattle.pipe_rows.specs.Decoding.{Encodes, IsEncoding, IsFirstFault, StartsWithCell, TakesCell, HoldsRows, bytes_at, unnamed_field, empty_column, pushed_row}
+use Rattle.pipe_rows.specs.Decoding.{Encodes, IsEncoding, IsFirstFault, StartsWithCell, TakesCell, HoldsRows, encoding_at, unnamed_field, empty_column, pushed_row}
 use Rattle.pipe_rows.proofs.Decided.{decided_apart}
 use Rattle.pipe_rows.proofs.OrderedLaw.{cell_decided}
 
@@ -115,29 +116,17 @@ module _ (fields : List SortField) (dtypes : List DataType) (bytes : List ℕ) (
     pub within_after : at ≤ length bytes → at + used ≤ length bytes
     within_after le = let below = taken.within in omega (arith, length-drop at bytes)
 
--- what is left of a list, one by one
-pub left_one : {X : Type 0} (d : X) (xs : List X) (k : ℕ) → k < length xs → drop k xs ≡ get_or xs k d ∷ drop (suc k) xs
-left_one d [] k lt = absurd (omega arith)
-left_one d (x ∷ xs) zero lt = refl
-left_one d (x ∷ xs) (suc k) lt = left_one d xs k (omega arith)
-
-none_left : {X : Type 0} (xs : List X) (k : ℕ) → length xs ≤ k → drop k xs ≡ []
-none_left [] zero le = refl
-none_left [] (suc k) le = refl
-none_left (x ∷ xs) zero le = absurd (omega arith)
-none_left (x ∷ xs) (suc k) le = none_left xs k (omega arith)
-
 -- a row whose cells are all taken
 pub row_done : (fields : List SortField) (dtypes : List DataType) (bytes : List ℕ) (items : Row) (k at : ℕ) → length fields ≤ k → length dtypes ≤ k → length bytes ≤ at → ((more : Row) → Encodes (drop k fields) (drop k dtypes) more (drop at bytes) → Encodes fields dtypes (items ++ more) bytes) → Encodes fields dtypes items bytes
 row_done fields dtypes bytes items k at f t b so =
-    let none : Encodes (drop k fields) (drop k dtypes) [] (drop at bytes) = rw (none_left fields k f, none_left dtypes k t, none_left bytes at b) (tt, refl) in
+    let none : Encodes (drop k fields) (drop k dtypes) [] (drop at bytes) = rw (drop_of_length-le fields f, drop_of_length-le dtypes t, drop_of_length-le bytes b) (tt, refl) in
     let E : Row → Type 0 = λ r. Encodes fields dtypes r bytes in subst E (append-nil items) (so [] none)
 
 -- bytes are left though all cells are taken
 pub bytes_left : (fields : List SortField) (dtypes : List DataType) (bytes : List ℕ) (k at : ℕ) → length fields ≤ k → at < length bytes → (IsEncoding fields dtypes bytes → IsEncoding (drop k fields) (drop k dtypes) (drop at bytes)) → IsEncoding fields dtypes bytes → ⊥
 bytes_left fields dtypes bytes k at f lt whole h =
     let left = whole h in
-    let nothing : [] ≡ drop at bytes = ap (λ fs. ordered_row fs left.row) (sym (none_left fields k f)) ∙ left.encodes.1 in
+    let nothing : [] ≡ drop at bytes = ap (λ fs. ordered_row fs left.row) (sym (drop_of_length-le fields f)) ∙ left.encodes.1 in
     absurd (omega (arith, ap length nothing, length-drop at bytes))
 
 -- ---- a row that is put into columns
@@ -208,20 +197,20 @@ pub row_of_columns : (fields : List SortField) (dtypes : List DataType) (rows : 
 row_of_columns fields dtypes rows n columns row h fits = rw (dtypes_typed columns dtypes h.typed) fits
 
 -- one more row is held
-pub holds_more : (fields : List SortField) (dtypes : List DataType) (rows : List Encoded) (n : ℕ) (columns : List Cells) (row : Row) → HoldsRows fields dtypes rows n columns → Encodes fields dtypes row (bytes_at rows n) → HoldsRows fields dtypes rows (n + 1) (pushed_row columns row)
+pub holds_more : (fields : List SortField) (dtypes : List DataType) (rows : List Encoded) (n : ℕ) (columns : List Cells) (row : Row) → HoldsRows fields dtypes rows n columns → Encodes fields dtypes row (encoding_at rows n) → HoldsRows fields dtypes rows (n + 1) (pushed_row columns row)
 holds_more fields dtypes rows n columns row h last =
     let fits = row_of_columns fields dtypes rows n columns row h last.0 in
-    let P : ℕ → Type 0 = λ i. Encodes fields dtypes (row_at (pushed_row columns row) i) (bytes_at rows i) in
+    let P : ℕ → Type 0 = λ i. Encodes fields dtypes (row_at (pushed_row columns row) i) (encoding_at rows i) in
     record {
       typed = fields-pushed columns row fits ∙ h.typed;
       even = height-pushed n columns row fits h.even;
       cells = below_more P n
-          (λ i lt. (let E : Row → Type 0 = λ r. Encodes fields dtypes r (bytes_at rows i) in subst E (sym (before-pushed n i columns row fits h.even lt)) (h.cells i lt)))
-          (let E : Row → Type 0 = λ r. Encodes fields dtypes r (bytes_at rows n) in subst E (sym (last-pushed n columns row fits h.even)) last);
+          (λ i lt. (let E : Row → Type 0 = λ r. Encodes fields dtypes r (encoding_at rows i) in subst E (sym (before-pushed n i columns row fits h.even lt)) (h.cells i lt)))
+          (let E : Row → Type 0 = λ r. Encodes fields dtypes r (encoding_at rows n) in subst E (sym (last-pushed n columns row fits h.even)) last);
     }
 
 -- the row after those that are held is the first that is no encoding
-pub first_fault : (fields : List SortField) (dtypes : List DataType) (rows : List Encoded) (n : ℕ) (columns : List Cells) → HoldsRows fields dtypes rows n columns → n < length rows → (IsEncoding fields dtypes (bytes_at rows n) → ⊥) → IsFirstFault fields dtypes rows n
+pub first_fault : (fields : List SortField) (dtypes : List DataType) (rows : List Encoded) (n : ℕ) (columns : List Cells) → HoldsRows fields dtypes rows n columns → n < length rows → (IsEncoding fields dtypes (encoding_at rows n) → ⊥) → IsFirstFault fields dtypes rows n
 first_fault fields dtypes rows n columns h lt none = record { within = lt; before = λ k below. record { row = row_at columns k; encodes = h.cells k below }; here = none }
 
 pub length-pushed : (columns : List Cells) (row : Row) → IsRow (dtypes_of columns) row → length (pushed_row columns row) ≡ length columns
@@ -231,4 +220,4 @@ length-pushed (column ∷ columns) (x ∷ row) h = ap suc (length-pushed columns
 
 -- a slice of a whole vector that is written back
 pub written_back : {X : Type 0} (old new : List X) (len : ℕ) → len ≡ length old → length new ≡ length old → take len (new ++ drop (length new) old) ≡ new
-written_back old new len e f = ap (λ l. take len (new ++ l)) (none_left old (length new) (omega arith)) ∙ ap (take len) (append-nil new) ∙ take_all len new (omega arith)
+written_back old new len e f = ap (λ l. take len (new ++ l)) (drop_of_length-le old (omega arith)) ∙ ap (take len) (append-nil new) ∙ take_all len new (omega arith)

@@ -10,7 +10,8 @@ use Rattle.pipe_frame.specs.declared.any_value.AnyValue.{AnyValue}
 use Rattle.pipe_frame.specs.declared.any_value.AnyValue.TheVariants as cell
 use Rattle.pipe_frame.specs.declared.data_type.DataType.{DataType}
 use Rattle.pipe_frame.specs.declared.data_type.DataType.TheVariants as dtype
-use Rattle.pipe_rows.specs.Equality.{IsBytes, InRange, IsCell}
+use Rattle.pipe_frame.specs.Native.{IsBytes, InRange}
+use Rattle.pipe_rows.specs.Equality.{IsCell}
 use Rattle.pipe_rows.specs.Ordered.{ended_bytes, directed_bytes, value_bytes}
 use Rattle.pipe_rows.specs.Decoding.{IsEnded, TakesText, IsValue, TakesValue}
 use Rattle.pipe_rows.proofs.Decided.{decided_apart, texts_decided}

@@ -1,23 +1,25 @@
 -- Decoding: which byte strings are ordered encodings, and of which cells.
-use Rattle.std.specs.Prelude.{◌≡◌, ℕ, ◌<◌, ◌≤◌, List, [], ◌∷◌, ◌++◌, Bool, false, Option, length, drop, map, slice_index_or}
+use Rattle.std.specs.Prelude.{◌≡◌, ℕ, ◌<◌, ◌≤◌, List, [], ◌∷◌, ◌++◌, Bool, false, Option, Some, None, IsUtf8, length, drop, map}
 use Rattle.std.specs.Option.{MatchOption}
 use Rattle.std.specs.declared.vec.Vec.{Vec}
 use Rattle.std.specs.declared.alloc.Global.{Global}
 use Rattle.pipe_frame.specs.Cell.{is_null_cell}
 use Rattle.pipe_frame.specs.Frame.{AllOfHeight, field_of, row_at}
+use Rattle.pipe_frame.specs.Native.{InRange, ordered_bytes}
 use Rattle.pipe_frame.specs.Series.{Cells}
 use Rattle.pipe_frame.specs.declared.field.Field.{Field}
 use Rattle.pipe_rows.specs.declared.error.RowsError.{RowsError}
 use Rattle.pipe_rows.specs.declared.error.RowsError.TheVariants as fault
 use Rattle.pipe_frame.specs.Rows.{Row}
 use Rattle.pipe_frame.specs.declared.any_value.AnyValue.{AnyValue}
+use Rattle.pipe_frame.specs.declared.any_value.AnyValue.TheVariants as cell
 use Rattle.pipe_frame.specs.declared.data_type.DataType.{DataType}
 use Rattle.pipe_rows.specs.declared.sort_field.SortField.{SortField}
 use Rattle.pipe_rows.specs.declared.decode_value.Decoded.{Decoded}
 use Rattle.pipe_rows.specs.declared.decode_value.Unescaped.{Unescaped}
 use Rattle.pipe_rows.specs.declared.decode_value.Step.{Step}
 use Rattle.pipe_rows.specs.declared.decode_value.Step.TheVariants as step
-use Rattle.pipe_rows.specs.Encoded.{Encoded, unmarked}
+use Rattle.pipe_rows.specs.Encoded.{Encoded, encoded_at}
 use Rattle.pipe_rows.specs.Equality.{IsCell, IsRow}
 use Rattle.pipe_rows.specs.Ordered.{ended_bytes, directed_bytes, value_bytes, ordered_cell, ordered_row}
 
@@ -30,15 +32,15 @@ pub record IsEncoding (fields : List SortField) (dtypes : List DataType) (bytes 
   pub row : Row
   pub encodes : Encodes fields dtypes row bytes
 
--- the bytes of a row
-abbrev pub bytes_at : List Encoded → ℕ → List ℕ
-bytes_at rows i = (slice_index_or rows i (unmarked [])).bytes
+-- the bytes of an encoded row
+abbrev pub encoding_at : List Encoded → ℕ → List ℕ
+encoding_at rows i = (encoded_at rows i).bytes
 
 -- row i is the first that is no ordered encoding of a row of these types
 pub record IsFirstFault (fields : List SortField) (dtypes : List DataType) (rows : List Encoded) (i : ℕ) : Type 0 where
   pub within : i < length rows
-  pub before : (k : ℕ) → k < i → IsEncoding fields dtypes (bytes_at rows k)
-  pub here : ¬ IsEncoding fields dtypes (bytes_at rows i)
+  pub before : (k : ℕ) → k < i → IsEncoding fields dtypes (encoding_at rows k)
+  pub here : ¬ IsEncoding fields dtypes (encoding_at rows i)
 
 -- ---- the parts of a row
 
@@ -62,6 +64,10 @@ pub record TakesText (bytes text : List ℕ) (used : ℕ) : Type 0 where
 
 abbrev pub FindsText : List ℕ → Option Unescaped → Type 0
 FindsText bytes found = MatchOption found (¬ IsEnded bytes) (λ u. TakesText bytes u.text.items u.used)
+
+-- a text of these bytes, or none where they aren't UTF-8
+abbrev pub FindsUtf8 : List ℕ → Option AnyValue → Type 0
+FindsUtf8 bytes found = MatchOption found (¬ IsUtf8 bytes) (λ value. (value ≡ cell.String bytes) × InRange value)
 
 -- the bytes begin with a value of the type
 pub record IsValue (dtype : DataType) (descending : Bool) (bytes : List ℕ) : Type 0 where
@@ -97,6 +103,11 @@ pub record TakesCell (field : SortField) (dtype : DataType) (bytes : List ℕ) (
 abbrev pub FindsCell : SortField → DataType → List ℕ → Option Decoded → Type 0
 FindsCell field dtype bytes found = MatchOption found (¬ StartsWithCell field dtype bytes) (λ d. TakesCell field dtype bytes d.value d.used)
 
+-- no value of a type of fixed width stands at the front, or one was taken from it
+abbrev pub FindsNative : {T : Type 0} → (Option T → AnyValue) → DataType → Bool → List ℕ → Option Decoded → Type 0
+FindsNative {T = T} cell_of dtype descending bytes None = (x : T) (more : List ℕ) → directed_bytes descending (ordered_bytes (cell_of (Some x))) ++ more ≡ bytes → ⊥
+FindsNative cell_of dtype descending bytes (Some found) = TakesValue dtype descending bytes found.value found.used
+
 -- ---- rows
 
 abbrev pub FindsRow : List SortField → List DataType → List ℕ → Option (Vec AnyValue Global) → Type 0
@@ -110,7 +121,11 @@ unnamed_field dtype = record { name = []; dtype = dtype }
 pub record HoldsRows (fields : List SortField) (dtypes : List DataType) (rows : List Encoded) (n : ℕ) (columns : List Cells) : Type 0 where
   pub typed : map field_of columns ≡ map unnamed_field dtypes
   pub even : AllOfHeight n columns
-  pub cells : (i : ℕ) → i < n → Encodes fields dtypes (row_at columns i) (bytes_at rows i)
+  pub cells : (i : ℕ) → i < n → Encodes fields dtypes (row_at columns i) (encoding_at rows i)
+
+-- the columns hold the cells of all these rows, and have no names
+abbrev pub AreDecoded : List SortField → List DataType → List Encoded → List Cells → Type 0
+AreDecoded fields dtypes rows columns = HoldsRows fields dtypes rows (length rows) columns
 
 -- a column without a name or a cell
 abbrev pub empty_column : DataType → Cells

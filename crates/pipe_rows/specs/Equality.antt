@@ -1,8 +1,9 @@
 -- The equality encoding: rows as bytes that are equal exactly where the rows are equal, null with null.
-use Rattle.std.specs.Prelude.{ℕ, ◌<◌, ◌^◌, List, [], ◌∷◌, ◌++◌, Bool, false, ◌||◌, if◌then◌else◌, IsTrue, length, map, FitsSigned, IsUtf8}
-use Rattle.std.specs.Int.{w32, w64, to_le_bytes, cast_unsigned}
-use Rattle.std.specs.List.{flat_map, AllByRecursion}
+use Rattle.std.specs.Prelude.{ℕ, List, [], ◌∷◌, ◌++◌, Bool, false, ◌||◌, IsTrue, length, map}
+use Rattle.std.specs.Int.{w64, to_le_bytes}
+use Rattle.std.specs.List.{flat_map}
 use Rattle.pipe_frame.specs.Cell.{fits_dtype, is_null_cell}
+use Rattle.pipe_frame.specs.Native.{InRange, little_endian}
 use Rattle.pipe_frame.specs.Rows.{Row}
 use Rattle.pipe_frame.specs.Series.{Cells}
 use Rattle.pipe_frame.specs.declared.any_value.AnyValue.{AnyValue}
@@ -16,13 +17,14 @@ sized_bytes bytes = to_le_bytes w64 (length bytes) ++ bytes
 -- a cell: 0 for null, else 1 and the value, numbers lowest byte first and signed ones in two's complement
 abbrev pub equality_cell : AnyValue → List ℕ
 equality_cell cell.Null = 0 ∷ []
-equality_cell (cell.Int32 x) = 1 ∷ to_le_bytes w32 (cast_unsigned w32 x)
-equality_cell (cell.Int64 x) = 1 ∷ to_le_bytes w64 (cast_unsigned w64 x)
-equality_cell (cell.UInt32 x) = 1 ∷ to_le_bytes w32 x
-equality_cell (cell.UInt64 x) = 1 ∷ to_le_bytes w64 x
-equality_cell (cell.Boolean b) = 1 ∷ (if b then 1 else 0) ∷ []
+equality_cell (cell.Int32 x) = 1 ∷ little_endian (cell.Int32 x)
+equality_cell (cell.Int64 x) = 1 ∷ little_endian (cell.Int64 x)
+equality_cell (cell.UInt32 x) = 1 ∷ little_endian (cell.UInt32 x)
+equality_cell (cell.UInt64 x) = 1 ∷ little_endian (cell.UInt64 x)
+equality_cell (cell.Boolean b) = 1 ∷ little_endian (cell.Boolean b)
 equality_cell (cell.String text) = 1 ∷ sized_bytes text
 equality_cell (cell.Binary bytes) = 1 ∷ sized_bytes bytes
+equality_cell (cell.Int128 x) = 1 ∷ little_endian (cell.Int128 x)
 
 -- a row: its cells in order
 abbrev pub equality_row : Row → List ℕ
@@ -32,20 +34,6 @@ equality_row row = flat_map equality_cell row
 abbrev pub has_null_cell : Row → Bool
 has_null_cell [] = false
 has_null_cell (x ∷ row) = is_null_cell x || has_null_cell row
-
--- each is a byte
-abbrev pub IsBytes : List ℕ → Type 0
-IsBytes bytes = AllByRecursion (λ byte. byte < 256) bytes
-
--- a value within the range of its type, a length being below 2 ^ 64 and a text UTF-8
-abbrev pub InRange : AnyValue → Type 0
-InRange (cell.Int32 x) = FitsSigned w32 x
-InRange (cell.Int64 x) = FitsSigned w64 x
-InRange (cell.UInt32 x) = x < 2 ^ 32
-InRange (cell.UInt64 x) = x < 2 ^ 64
-InRange (cell.String text) = (length text < 2 ^ 64) × IsBytes text × IsUtf8 text
-InRange (cell.Binary bytes) = (length bytes < 2 ^ 64) × IsBytes bytes
-InRange _ = Unit {0}
 
 -- a cell is one of a column of a type: null, or of the type and within its range
 abbrev pub IsCell : DataType → AnyValue → Type 0

@@ -4,13 +4,19 @@ pub mod SortOrder
 pub mod Fnv
 -- rows as bytes that tell them apart
 pub mod Equality
--- rows in one buffer
+-- rows with their bytes and marks
 pub mod Encoded
 -- rows as bytes that are ordered as the rows
 pub mod Ordered
+-- either encoding, column by column
+pub mod Encodings
+-- which partition a key belongs to
+pub mod Partition
 -- which bytes are ordered encodings
 pub mod Decoding
 -- a sort by the ordered encoding
 pub mod SortBytes
 -- rows that are filled column by column
 pub mod Filling
+-- the laws of the encodings and of sorted lists
+pub mod Laws

@@ -2,7 +2,7 @@
 
 ghost use Rattle.std.specs.Prelude.{◌≡◌, ◌<◌, ◌++◌, [], ◌∷◌, ℕ, length, map, IfOk, IfErr, OnOk};
 ghost use Rattle.pipe_rows.specs.Equality.{IsRow, dtypes_of};
-ghost use Rattle.pipe_rows.specs.Decoding.{FindsRow, FaultIs, HoldsRows, pushed_row, empty_column};
+ghost use Rattle.pipe_rows.specs.Decoding.{FindsRow, FaultIs, AreDecoded, pushed_row, empty_column};
 
 use crate::decode_value::{Decoded, take_cell};
 use crate::error::RowsError;
@@ -71,7 +71,7 @@ pub fn decode_rows(
 ) -> Result<Vec<Series>, RowsError>
     requires some { 0 < length dtypes.now }
     requires fields { length fields.now ≡ length dtypes.now }
-    ensures columns { IfOk result (λ columns. HoldsRows fields.now dtypes.now rows.now (length rows.now) columns.items) }
+    ensures columns { IfOk result (λ made. AreDecoded fields.now dtypes.now rows.now made.items) }
     ensures fault { IfErr result (λ error. FaultIs fields.now dtypes.now rows.now error) }
 {
     let mut columns = empty_columns(alloc, dtypes)?;

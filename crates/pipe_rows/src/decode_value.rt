@@ -1,15 +1,16 @@
 //! The cells of an ordered encoding, taken from the front of some bytes.
 
-ghost use Rattle.std.specs.Prelude.{◌≡◌, ◌<◌, ◌≤◌, ◌++◌, [], ◌∷◌, ℕ, List, length, drop, take, IfOk, Option, Some, None, IsUtf8};
+ghost use Rattle.std.specs.Prelude.{◌≡◌, IfOk};
 ghost use Rattle.std.specs.Option.{MatchOption};
-ghost use Rattle.std.specs.Int.{w32, w64, to_be_bytes};
-ghost use Rattle.pipe_rows.specs.Equality.{InRange};
+ghost use Rattle.pipe_frame.specs.Native.{InRange};
 ghost use Rattle.pipe_rows.specs.Ordered.{directed_bytes};
-ghost use Rattle.pipe_rows.specs.Decoding.{StepIs, FindsText, FindsValue, FindsCell};
+ghost use Rattle.pipe_rows.specs.Decoding.{StepIs, FindsUtf8, FindsText, FindsNative, FindsValue, FindsCell};
 
-use crate::ordered::{TOP_BIT_32, TOP_BIT_64, VALUE, directed, null_mark};
+use crate::encoding::ordered_null;
+use crate::filling::VALUE;
+use crate::fixed_width::{MAX_WIDTH, direct, directed};
 use crate::sort_field::SortField;
-use pipe_frame::{AnyValue, Bytes, DataType, Text};
+use pipe_frame::{AnyValue, Bytes, DataType, Native, Text};
 use std::alloc::{AllocError, Global};
 
 /// A cell and how many bytes it took.
@@ -40,7 +41,6 @@ enum Step {
 }
 
 /// What stands at the front of an escaped text.
-
 fn front_step(tail: &[u8], descending: bool) -> Step
     ensures { StepIs result (directed_bytes descending tail.now) }
 {
@@ -87,107 +87,25 @@ fn unescape(alloc: Global, rest: &[u8], descending: bool) -> Result<Option<Unesc
     Ok(None)
 }
 
-/// The number of four bytes at the front.
-fn take_word(rest: &[u8], descending: bool) -> Option<u32>
-    ensures { MatchOption result (length rest.now < 4) (λ n. (4 ≤ length rest.now) × (directed_bytes descending (to_be_bytes w32 n) ++ drop 4 rest.now ≡ rest.now)) }
+/// A value of fixed width at the front, as a cell of its type.
+fn take_native<T: Native>(rest: &[u8], descending: bool) -> Option<Decoded>
+    ensures { FindsNative T.cell T.dtype_of descending rest.now result }
 {
-    if rest.len() < 4 {
+    let width = T::width();
+    if rest.len() < width {
         return None;
     }
-    Some(u32::from_be_bytes([
-        directed(descending, rest[0]),
-        directed(descending, rest[1]),
-        directed(descending, rest[2]),
-        directed(descending, rest[3]),
-    ]))
-}
-
-/// The number of eight bytes at the front.
-fn take_long(rest: &[u8], descending: bool) -> Option<u64>
-    ensures { MatchOption result (length rest.now < 8) (λ n. (8 ≤ length rest.now) × (directed_bytes descending (to_be_bytes w64 n) ++ drop 8 rest.now ≡ rest.now)) }
-{
-    if rest.len() < 8 {
-        return None;
-    }
-    Some(u64::from_be_bytes([
-        directed(descending, rest[0]),
-        directed(descending, rest[1]),
-        directed(descending, rest[2]),
-        directed(descending, rest[3]),
-        directed(descending, rest[4]),
-        directed(descending, rest[5]),
-        directed(descending, rest[6]),
-        directed(descending, rest[7]),
-    ]))
-}
-
-/// A number at the front, as a cell of the type `UInt32`.
-fn take_uint32(rest: &[u8], descending: bool) -> Option<Decoded>
-    ensures { FindsValue DataType.UInt32 descending rest.now result }
-{
-    match take_word(rest, descending) {
-        Some(n) => Some(Decoded {
-            value: AnyValue::UInt32(n),
-            used: 4,
+    let mut buffer = [0; MAX_WIDTH];
+    let bytes = &mut buffer[..width];
+    bytes.copy_from_slice(&rest[..width]);
+    direct(descending, bytes);
+    match T::read_ordered(bytes) {
+        Some(x) => Some(Decoded {
+            value: T::any_value(Some(x)),
+            used: width,
         }),
         None => None,
     }
-}
-
-/// A number at the front, as a cell of the type `Int32`.
-fn take_int32(rest: &[u8], descending: bool) -> Option<Decoded>
-    ensures { FindsValue DataType.Int32 descending rest.now result }
-{
-    match take_word(rest, descending) {
-        Some(n) => Some(Decoded {
-            value: AnyValue::Int32(n.wrapping_add(TOP_BIT_32).cast_signed()),
-            used: 4,
-        }),
-        None => None,
-    }
-}
-
-/// A number at the front, as a cell of the type `UInt64`.
-fn take_uint64(rest: &[u8], descending: bool) -> Option<Decoded>
-    ensures { FindsValue DataType.UInt64 descending rest.now result }
-{
-    match take_long(rest, descending) {
-        Some(n) => Some(Decoded {
-            value: AnyValue::UInt64(n),
-            used: 8,
-        }),
-        None => None,
-    }
-}
-
-/// A number at the front, as a cell of the type `Int64`.
-fn take_int64(rest: &[u8], descending: bool) -> Option<Decoded>
-    ensures { FindsValue DataType.Int64 descending rest.now result }
-{
-    match take_long(rest, descending) {
-        Some(n) => Some(Decoded {
-            value: AnyValue::Int64(n.wrapping_add(TOP_BIT_64).cast_signed()),
-            used: 8,
-        }),
-        None => None,
-    }
-}
-
-/// A byte 0 or 1 at the front, as a cell of the type `Boolean`.
-fn take_boolean(rest: &[u8], descending: bool) -> Option<Decoded>
-    ensures { FindsValue DataType.Boolean descending rest.now result }
-{
-    let Some((first, _)) = rest.split_first() else {
-        return None;
-    };
-    let byte = directed(descending, *first);
-    if byte > 1 {
-        return None;
-    }
-    Some(Decoded {
-        value: AnyValue::Boolean(byte == 1),
-        used: 1,
-    })
 }
 
 /// These bytes as a cell.
@@ -200,7 +118,7 @@ fn binary_cell(bytes: Vec<u8>) -> AnyValue
 
 /// These bytes as a text, if they are UTF-8.
 fn string_cell(alloc: Global, bytes: &[u8]) -> Result<Option<AnyValue>, AllocError>
-    ensures { IfOk result (λ found. MatchOption found (¬ IsUtf8 bytes.now) (λ value. (value ≡ AnyValue.String bytes.now) × InRange value)) }
+    ensures { IfOk result (FindsUtf8 bytes.now) }
 {
     match str::from_utf8(bytes) {
         Ok(text) => Ok(Some(AnyValue::String(Text::from_str(alloc, text)?))),
@@ -244,17 +162,18 @@ fn take_value(
     ensures { IfOk result (λ found. FindsValue dtype descending rest.now found) }
 {
     match dtype {
-        DataType::Int32 => Ok(take_int32(rest, descending)),
-        DataType::Int64 => Ok(take_int64(rest, descending)),
-        DataType::UInt32 => Ok(take_uint32(rest, descending)),
-        DataType::UInt64 => Ok(take_uint64(rest, descending)),
-        DataType::Boolean => Ok(take_boolean(rest, descending)),
+        DataType::Int32 => Ok(take_native::<i32>(rest, descending)),
+        DataType::Int64 => Ok(take_native::<i64>(rest, descending)),
+        DataType::UInt32 => Ok(take_native::<u32>(rest, descending)),
+        DataType::UInt64 => Ok(take_native::<u64>(rest, descending)),
+        DataType::Boolean => Ok(take_native::<bool>(rest, descending)),
         DataType::String => take_string(alloc, rest, descending),
         DataType::Binary => take_binary(alloc, rest, descending),
+        DataType::Int128 => Ok(take_native::<i128>(rest, descending)),
     }
 }
 
-/// A cell of a type at the front: null, or a value after its mark.
+/// A cell of a type at the front: null, or a value after its byte.
 pub(crate) fn take_cell(
     alloc: Global,
     dtype: DataType,
@@ -263,16 +182,16 @@ pub(crate) fn take_cell(
 ) -> Result<Option<Decoded>, AllocError>
     ensures { IfOk result (λ found. FindsCell field dtype rest.now found) }
 {
-    let Some((mark, more)) = rest.split_first() else {
+    let Some((first, more)) = rest.split_first() else {
         return Ok(None);
     };
-    if *mark == null_mark(field.nulls_last) {
+    if *first == ordered_null(field.nulls_last) {
         return Ok(Some(Decoded {
             value: AnyValue::Null,
             used: 1,
         }));
     }
-    if *mark != VALUE {
+    if *first != VALUE {
         return Ok(None);
     }
     match take_value(alloc, dtype, more, field.descending)? {

@@ -1,15 +1,16 @@
 //! Rows that are filled column by column in one buffer, each up to the width that it was given.
 
-ghost use Rattle.std.specs.Prelude.{◌≡◌, ◌<◌, ◌≤◌, ◌+◌, [], ◌∷◌, ◌++◌, length, map, IfOk, false, ℕ, slice_set, slice_index_or};
-ghost use Rattle.pipe_rows.specs.Filling.{slot_at, appended, patched, unwritten, HasRoom, AreFull};
-ghost use Rattle.pipe_rows.specs.Encoded.{unmarked};
+ghost use Rattle.std.specs.Prelude.{◌≡◌, ◌<◌, ◌≤◌, ◌+◌, ◌∷◌, length, map, IfOk};
+ghost use Rattle.pipe_rows.specs.Filling.{appended_at, patched, unwritten, HasRoomAt, AreFull, written_rows};
+ghost use Rattle.pipe_rows.specs.Encoded.{marked_rows};
 
 use crate::rows_encoded::RowsEncoded;
+use pipe_frame::BytesList;
 use std::alloc::{AllocError, Global};
 use std::marker::Model;
 
 /// The byte before a value.
-const VALUE: u8 = 1;
+pub(crate) const VALUE: u8 = 1;
 
 /// Writes bytes at a place of a buffer.
 fn put(buffer: &mut [u8], at: usize, bytes: &[u8])
@@ -29,11 +30,11 @@ pub(crate) struct RowFiller {
 
 impl Model for RowFiller {
     ghost use Rattle.std.specs.Prelude.{List, length};
-    ghost use Rattle.pipe_rows.specs.Filling.{Slot, slots_from, AreWithin};
+    ghost use Rattle.pipe_rows.specs.Filling.{OpenRow, open_rows, AreWithin};
 
-    ghost Value = { List Slot };
+    ghost Value = { List OpenRow };
 
-    ghost view = { λ f. slots_from 0 f.cursors.items f.ends.items f.bytes.items };
+    ghost view = { λ f. open_rows 0 f.cursors.items f.ends.items f.bytes.items };
 
     ghost invariant = { λ f. AreWithin 0 f.cursors.items f.ends.items (length f.bytes.items) };
 }
@@ -66,19 +67,19 @@ impl RowFiller {
     /// Writes bytes at the end of what a row has.
     pub(crate) fn append(&mut self, i: usize, bytes: &[u8])
         requires inside { i < length self.old }
-        requires room { HasRoom bytes.now (slot_at self.old i) }
-        ensures { self.new ≡ slice_set self.old i (appended bytes.now (slot_at self.old i)) }
+        requires room { HasRoomAt self.old i bytes.now }
+        ensures { self.new ≡ appended_at self.old i bytes.now }
     {
         let start = self.cursors[i];
         put(&mut self.bytes, start, bytes);
         self.cursors[i] = start + bytes.len();
     }
 
-    /// Writes the mark of a value and its bytes at the end of what a row has.
+    /// Writes the byte of a value and its bytes at the end of what a row has.
     pub(crate) fn append_value(&mut self, i: usize, bytes: &[u8])
         requires inside { i < length self.old }
-        requires room { HasRoom (1 ∷ bytes.now) (slot_at self.old i) }
-        ensures { self.new ≡ slice_set self.old i (appended (1 ∷ bytes.now) (slot_at self.old i)) }
+        requires room { HasRoomAt self.old i (1 ∷ bytes.now) }
+        ensures { self.new ≡ appended_at self.old i (1 ∷ bytes.now) }
     {
         self.append(i, &[VALUE]);
         self.append(i, bytes);
@@ -88,8 +89,7 @@ impl RowFiller {
     pub(crate) fn finish(self, marks: Vec<bool>) -> RowsEncoded
         requires full { AreFull self }
         requires marks { length marks.items ≡ length self }
-        ensures count { length result ≡ length self }
-        ensures rows { (i : ℕ) → i < length self → slice_index_or result i (unmarked []) ≡ record { bytes = (slot_at self i).written; has_null = slice_index_or marks.items i false } }
+        ensures { result ≡ marked_rows (written_rows self) marks.items }
     {
         let RowFiller {
             bytes,
@@ -97,6 +97,6 @@ impl RowFiller {
             cursors,
         } = self;
         drop(cursors);
-        RowsEncoded::of_parts(bytes, ends, marks)
+        RowsEncoded::of_parts(BytesList::from_parts(bytes, ends), marks)
     }
 }

@@ -1,6 +1,6 @@
-//! How keys are hashed, and which partition a hash belongs to.
+//! How keys are hashed.
 
-ghost use Rattle.std.specs.Prelude.{◌≡◌, ◌<◌, ◌%◌, ℕ, List};
+ghost use Rattle.std.specs.Prelude.{◌≡◌, ℕ, List};
 ghost use Rattle.pipe_rows.specs.Fnv.{fnv1a};
 
 /// What hashes a key. Equal keys have equal hashes, and nothing else rests on them.
@@ -48,12 +48,4 @@ impl KeyHasher for ConstHash {
     fn hash(&self, _key: &[u8]) -> u64 {
         self.value
     }
-}
-
-/// The partition of a hash among so many: the hash modulo their number.
-pub fn partition_of(h: u64, parts: u32) -> u32
-    requires { 0 < parts }
-    ensures { result ≡ h % parts }
-{
-    (h % u64::from(parts)) as u32
 }

@@ -1,13 +1,14 @@
 use Rattle.std.proofs.Common.{◌≡◌, ℕ, ◌-◌, ◌<◌, List, length, get_or, take, drop, false, subst, arith, add-one}
 use Rattle.std.specs.Prelude.{Option}
 use Rattle.std.proofs.lemmas.List.{take_all, length-drop}
+use Rattle.std.proofs.Math.Seq.{drop-cons}
 use Rattle.pipe_frame.specs.Rows.{Row}
 use Rattle.pipe_frame.specs.declared.data_type.DataType.{DataType}
 use Rattle.pipe_frame.specs.declared.data_type.DataType.TheVariants as dtype
 use Rattle.pipe_rows.specs.declared.sort_field.SortField.{SortField}
 use Rattle.pipe_rows.specs.declared.decode_value.Decoded.{Decoded}
 use Rattle.pipe_rows.specs.Decoding.{FindsCell, TakesCell, StartsWithCell}
-use Rattle.pipe_rows.proofs.RowLemmas.{left_one, no_cell, whole_after, taken_after, within_after, row_done, bytes_left}
+use Rattle.pipe_rows.proofs.RowLemmas.{no_cell, whole_after, taken_after, within_after, row_done, bytes_left}
 use Rattle.pipe_rows.proofs.decode.decode_row.Goals as goal
 
 -- the field that the code reads
@@ -39,8 +40,8 @@ loop-k-preserved c =
     let taken = subst Q (tail_is bytes at) sliced in
     let below : k < length dtypes = omega arith in
     let below_fields : k < length fields = (let long = c.requires in omega arith) in
-    let df = left_one (record { descending = false; nulls_last = false }) fields k below_fields in
-    let dt = left_one dtype.Int32 dtypes k below in
+    let df = drop-cons fields k (record { descending = false; nulls_last = false }) below_fields in
+    let dt = drop-cons dtypes k dtype.Int32 below in
     record {
       within = within_after fields dtypes bytes items k at f t df dt c.loop-k.invariant.whole value used taken c.loop-k.invariant.within;
       taken = rw (c.in_ok-push.ensures.items, add-one) (taken_after fields dtypes bytes items k at f t df dt c.loop-k.invariant.whole value used taken c.loop-k.invariant.taken);
@@ -62,7 +63,7 @@ returns-in_default c =
     let none = subst Q (tail_is bytes at) sliced in
     let below : k < length dtypes = omega arith in
     let below_fields : k < length fields = (let long = c.requires in omega arith) in
-    no_cell fields dtypes bytes c.loop-k.row.items k at f t (left_one (record { descending = false; nulls_last = false }) fields k below_fields) (left_one dtype.Int32 dtypes k below) c.loop-k.invariant.whole none
+    no_cell fields dtypes bytes c.loop-k.row.items k at f t (drop-cons fields k (record { descending = false; nulls_last = false }) below_fields) (drop-cons dtypes k dtype.Int32 below) c.loop-k.invariant.whole none
 
 pub returns-then-at-bytes : goal.returns-then-at-bytes
 returns-then-at-bytes c =
