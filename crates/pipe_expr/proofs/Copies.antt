@@ -1,14 +1,16 @@
--- Lists whose elements are alike in turn, one element at a time.
-use Rattle.std.proofs.Common.{◌≡◌, ℕ, zero, suc, ◌<◌, List, [], ◌∷◌, ◌++◌, length, get_or, take, subst, arith}
-use Rattle.pipe_expr.specs.Alike.{EachAlike}
+-- Lists of copies, one element at a time.
+use Rattle.std.proofs.Common.{◌≡◌, ℕ, zero, suc, ◌<◌, List, [], ◌∷◌, ◌++◌, length, get_or, take, map, refl, ap, ◌∙◌, arith}
 
-at_equal : {A : Type 0} (Same : A → A → Type 0) (x z y : A) → x ≡ z → Same x y → Same z y
-at_equal Same x z y is same = subst (λ a. Same a y) is same
+map-push : {A B : Type 0} (f : A → B) (ys : List A) (y : A) → map f (ys ++ y ∷ []) ≡ map f ys ++ f y ∷ []
+map-push f [] y = refl
+map-push f (x ∷ ys) y = ap (λ l. f x ∷ l) (map-push f ys y)
 
-pub each_next : {A : Type 0} (Same : A → A → Type 0) (xs ys : List A) (i : ℕ) (x y : A)
-    → EachAlike Same (take i xs) ys → i < length xs → x ≡ get_or xs i x → Same x y → EachAlike Same (take (suc i) xs) (ys ++ y ∷ [])
-each_next Same [] ys i x y so_far within is same = absurd (omega arith)
-each_next Same (z ∷ xs) [] zero x y so_far within is same = (at_equal Same x z y is same, tt)
-each_next Same (z ∷ xs) (w ∷ ys) zero x y so_far within is same = absurd so_far
-each_next Same (z ∷ xs) [] (suc i) x y so_far within is same = absurd so_far
-each_next Same (z ∷ xs) (w ∷ ys) (suc i) x y so_far within is same = (so_far.0, each_next Same xs ys i x y so_far.1 (omega arith) is same)
+take-push : {A B : Type 0} (f : A → B) (xs : List A) (i : ℕ) (d : A) → i < length xs → map f (take i xs) ++ f (get_or xs i d) ∷ [] ≡ map f (take (suc i) xs)
+take-push f [] i d h = absurd (omega arith)
+take-push f (x ∷ xs) zero d h = refl
+take-push f (x ∷ xs) (suc i) d h = ap (λ l. f x ∷ l) (take-push f xs i d (omega arith))
+
+-- one more copy, which is seen as its source is
+pub copied_next : {A B : Type 0} (f : A → B) (xs ys : List A) (i : ℕ) (x y : A) → map f ys ≡ map f (take i xs) → i < length xs → x ≡ get_or xs i x → f y ≡ f x → map f (ys ++ y ∷ []) ≡ map f (take (suc i) xs)
+copied_next f xs ys i x y so_far within is same =
+    map-push f ys y ∙ ap (λ l. l ++ f y ∷ []) so_far ∙ ap (λ z. map f (take i xs) ++ z ∷ []) (same ∙ ap f is) ∙ take-push f xs i x within

@@ -2,11 +2,11 @@
 use Rattle.std.proofs.Common.{◌≡◌, ℕ, Bool, true, false, cond, List, [], ◌∷◌, ◌++◌, Option, Some, None, refl, ap, sym, ◌∙◌}
 use Rattle.std.specs.Prelude.{is_some, ◌||◌}
 use Rattle.std.specs.Str.{bytes_eq}
-use Rattle.pipe_frame.specs.Schema.{has_name, names_of}
+use Rattle.pipe_frame.specs.Schema.{has_name, names_of, first_unknown}
 use Rattle.pipe_frame.specs.declared.data_type.DataType.{DataType}
 use Rattle.pipe_frame.specs.declared.field.Field.{Field}
-use Rattle.pipe_expr.specs.Types.{type_of, type_of_column, arithmetic_type, comparison_type, logic_type, not_type, null_test_type, columns_in, first_unknown, unknown_column}
-use Rattle.pipe_expr.specs.declared.expr.Expr.{Expr, Col, Lit, Add', Sub', Mul', Eq', NotEq', Lt', LtEq', Gt', GtEq', And', Or', Not', IsNull', IsNotNull'}
+use Rattle.pipe_expr.specs.Types.{type_of, type_of_column, arithmetic_type, comparison_type, logic_type, not_type, null_test_type, columns_in, unknown_column}
+use Rattle.pipe_expr.specs.Formula.{Formula, Column, Literal, Add, Sub, Mul, Eq, NotEq, Lt, LtEq, Gt, GtEq, And, Or, Not, IsNull, IsNotNull}
 
 -- a name has a type exactly where a field has it
 pub named_type : (name : List ℕ) (fields : List Field) → is_some (type_of_column name fields) ≡ has_name (names_of fields) name
@@ -44,7 +44,7 @@ append_unknown fields (x ∷ xs) ys name e =
 
 pub ruleset known_rules = (one_known, one_unknown, append_known, append_unknown)
 
--- an expression that has a type names known columns alone
+-- a formula that has a type names known columns alone
 
 both_arithmetic : (a b : Option DataType) → is_some (arithmetic_type a b) ≡ true → (is_some a ≡ true) × (is_some b ≡ true)
 both_arithmetic (Some a) (Some b) h = (refl, refl)
@@ -72,23 +72,23 @@ one_null_test None h = cc
 col_known : (name : List ℕ) (fields : List Field) → is_some (type_of_column name fields) ≡ true → first_unknown fields (name ∷ []) ≡ None
 col_known name fields h = ap (λ b. cond b None (Some name)) (sym (named_type name fields) ∙ h)
 
-both_known : (a b : Expr) (fields : List Field) → unknown_column fields a ≡ None → unknown_column fields b ≡ None → first_unknown fields (columns_in a ++ columns_in b) ≡ None
+both_known : (a b : Formula) (fields : List Field) → unknown_column fields a ≡ None → unknown_column fields b ≡ None → first_unknown fields (columns_in a ++ columns_in b) ≡ None
 both_known a b s x y = append_known s (columns_in a) (columns_in b) x ∙ y
 
-pub typed_known : (e : Expr) (fields : List Field) → is_some (type_of e fields) ≡ true → unknown_column fields e ≡ None
-typed_known (Col name) s h = col_known name s h
-typed_known (Lit t c) s h = refl
-typed_known (Add' p a q b) s h = let both = both_arithmetic (type_of a s) (type_of b s) h in both_known a b s (typed_known a s both.0) (typed_known b s both.1)
-typed_known (Sub' p a q b) s h = let both = both_arithmetic (type_of a s) (type_of b s) h in both_known a b s (typed_known a s both.0) (typed_known b s both.1)
-typed_known (Mul' p a q b) s h = let both = both_arithmetic (type_of a s) (type_of b s) h in both_known a b s (typed_known a s both.0) (typed_known b s both.1)
-typed_known (Eq' p a q b) s h = let both = both_comparison (type_of a s) (type_of b s) h in both_known a b s (typed_known a s both.0) (typed_known b s both.1)
-typed_known (NotEq' p a q b) s h = let both = both_comparison (type_of a s) (type_of b s) h in both_known a b s (typed_known a s both.0) (typed_known b s both.1)
-typed_known (Lt' p a q b) s h = let both = both_comparison (type_of a s) (type_of b s) h in both_known a b s (typed_known a s both.0) (typed_known b s both.1)
-typed_known (LtEq' p a q b) s h = let both = both_comparison (type_of a s) (type_of b s) h in both_known a b s (typed_known a s both.0) (typed_known b s both.1)
-typed_known (Gt' p a q b) s h = let both = both_comparison (type_of a s) (type_of b s) h in both_known a b s (typed_known a s both.0) (typed_known b s both.1)
-typed_known (GtEq' p a q b) s h = let both = both_comparison (type_of a s) (type_of b s) h in both_known a b s (typed_known a s both.0) (typed_known b s both.1)
-typed_known (And' p a q b) s h = let both = both_logic (type_of a s) (type_of b s) h in both_known a b s (typed_known a s both.0) (typed_known b s both.1)
-typed_known (Or' p a q b) s h = let both = both_logic (type_of a s) (type_of b s) h in both_known a b s (typed_known a s both.0) (typed_known b s both.1)
-typed_known (Not' p a) s h = typed_known a s (one_not (type_of a s) h)
-typed_known (IsNull' p a) s h = typed_known a s (one_null_test (type_of a s) h)
-typed_known (IsNotNull' p a) s h = typed_known a s (one_null_test (type_of a s) h)
+pub typed_known : (e : Formula) (fields : List Field) → is_some (type_of e fields) ≡ true → unknown_column fields e ≡ None
+typed_known (Column name) s h = col_known name s h
+typed_known (Literal t c) s h = refl
+typed_known (Add a b) s h = let both = both_arithmetic (type_of a s) (type_of b s) h in both_known a b s (typed_known a s both.0) (typed_known b s both.1)
+typed_known (Sub a b) s h = let both = both_arithmetic (type_of a s) (type_of b s) h in both_known a b s (typed_known a s both.0) (typed_known b s both.1)
+typed_known (Mul a b) s h = let both = both_arithmetic (type_of a s) (type_of b s) h in both_known a b s (typed_known a s both.0) (typed_known b s both.1)
+typed_known (Eq a b) s h = let both = both_comparison (type_of a s) (type_of b s) h in both_known a b s (typed_known a s both.0) (typed_known b s both.1)
+typed_known (NotEq a b) s h = let both = both_comparison (type_of a s) (type_of b s) h in both_known a b s (typed_known a s both.0) (typed_known b s both.1)
+typed_known (Lt a b) s h = let both = both_comparison (type_of a s) (type_of b s) h in both_known a b s (typed_known a s both.0) (typed_known b s both.1)
+typed_known (LtEq a b) s h = let both = both_comparison (type_of a s) (type_of b s) h in both_known a b s (typed_known a s both.0) (typed_known b s both.1)
+typed_known (Gt a b) s h = let both = both_comparison (type_of a s) (type_of b s) h in both_known a b s (typed_known a s both.0) (typed_known b s both.1)
+typed_known (GtEq a b) s h = let both = both_comparison (type_of a s) (type_of b s) h in both_known a b s (typed_known a s both.0) (typed_known b s both.1)
+typed_known (And a b) s h = let both = both_logic (type_of a s) (type_of b s) h in both_known a b s (typed_known a s both.0) (typed_known b s both.1)
+typed_known (Or a b) s h = let both = both_logic (type_of a s) (type_of b s) h in both_known a b s (typed_known a s both.0) (typed_known b s both.1)
+typed_known (Not a) s h = typed_known a s (one_not (type_of a s) h)
+typed_known (IsNull a) s h = typed_known a s (one_null_test (type_of a s) h)
+typed_known (IsNotNull a) s h = typed_known a s (one_null_test (type_of a s) h)

@@ -1,8 +1,7 @@
-pub mod Sources
+pub mod NullableRows
 pub mod Replaced
-pub mod Sides
+pub mod Operands
 pub mod Zips
-pub mod WholeCells
 pub mod ComparedCells
 pub mod LogicCells
 pub mod NullCells
@@ -10,5 +9,5 @@ pub mod NamedColumns
 pub mod ValueSteps
 pub mod Known
 pub mod Copies
-pub mod SameExpr
-pub mod SameColumn
+pub mod PairSums
+pub mod ShareLaw

@@ -6,36 +6,30 @@ use Rattle.pipe_frame.specs.Cell.{boolean_cell}
 use Rattle.pipe_frame.specs.declared.any_value.AnyValue.TheVariants as cell
 use Rattle.pipe_frame.specs.declared.any_value.AnyValue.{AnyValue}
 use Rattle.pipe_expr.specs.Values.{both_of, either_of, opposite_of, compared}
-use Rattle.pipe_expr.specs.Slots.{zip_with, strictly, tested, both_maybe, either_maybe}
+use Rattle.pipe_expr.specs.Nullables.{zip_with, strictly, tested, both, either}
 use Rattle.pipe_expr.specs.Operands.{Zips, IsOperand, operand_cells}
 use Rattle.pipe_expr.specs.declared.operand.Operand.{Operand}
 use Rattle.pipe_expr.specs.declared.operand.Operand.TheVariants as operand
 use Rattle.pipe_expr.proofs.Zips.{zips-cells}
 use Rattle.pipe_expr.proofs.ComparedCells.{compared-boolean}
 
-both_cell : (a b : Option Bool) → boolean_cell (both_maybe a b) ≡ both_of (boolean_cell a) (boolean_cell b)
-both_cell (Some true) (Some true) = refl
-both_cell (Some true) (Some false) = refl
-both_cell (Some true) None = refl
-both_cell (Some false) b = refl
-both_cell None (Some true) = refl
-both_cell None (Some false) = refl
+both_cell : (a b : Option Bool) → boolean_cell (both a b) ≡ both_of (boolean_cell a) (boolean_cell b)
+both_cell (Some a) (Some b) = refl
+both_cell (Some a) None = refl
+both_cell None (Some b) = refl
 both_cell None None = refl
 
-either_cell : (a b : Option Bool) → boolean_cell (either_maybe a b) ≡ either_of (boolean_cell a) (boolean_cell b)
-either_cell (Some false) (Some true) = refl
-either_cell (Some false) (Some false) = refl
-either_cell (Some false) None = refl
-either_cell (Some true) b = refl
-either_cell None (Some true) = refl
-either_cell None (Some false) = refl
+either_cell : (a b : Option Bool) → boolean_cell (either a b) ≡ either_of (boolean_cell a) (boolean_cell b)
+either_cell (Some a) (Some b) = refl
+either_cell (Some a) None = refl
+either_cell None (Some b) = refl
 either_cell None None = refl
 
-pub both-cells : {left right made : List AnyValue} → Zips boolean_cell boolean_cell both_maybe left right made → made ≡ zip_with both_of left right
-both-cells z = zips-cells boolean_cell boolean_cell both_maybe both_of both_cell z
+pub both-cells : {left right made : List AnyValue} → Zips boolean_cell boolean_cell both left right made → made ≡ zip_with both_of left right
+both-cells z = zips-cells boolean_cell boolean_cell both both_of both_cell z
 
-pub either-cells : {left right made : List AnyValue} → Zips boolean_cell boolean_cell either_maybe left right made → made ≡ zip_with either_of left right
-either-cells z = zips-cells boolean_cell boolean_cell either_maybe either_of either_cell z
+pub either-cells : {left right made : List AnyValue} → Zips boolean_cell boolean_cell either left right made → made ≡ zip_with either_of left right
+either-cells z = zips-cells boolean_cell boolean_cell either either_of either_cell z
 
 opposite_cell : (a : Option Bool) → compared is_ne (boolean_cell a) (cell.Boolean true) ≡ opposite_of (boolean_cell a)
 opposite_cell (Some true) = refl
@@ -49,7 +43,7 @@ others (suc n) (x ∷ xs) h = ap (λ c. c ∷ zip_with (compared is_ne) (map boo
 
 operand_count : (rows : ℕ) (o : Operand) → IsOperand rows o → length (operand_cells rows o) ≡ rows
 operand_count rows (operand.Lent series) h = h
-operand_count rows (operand.Made made) h = h
+operand_count rows (operand.Owned made) h = h
 operand_count rows (operand.Constant dtype c) h = length-replicate rows c.now
 
 -- what isn't true is the other truth value

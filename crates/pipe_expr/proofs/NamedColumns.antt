@@ -11,7 +11,7 @@ use Rattle.pipe_frame.proofs.Tables.{map_same}
 use Rattle.pipe_expr.specs.Types.{type_of_column}
 use Rattle.pipe_expr.specs.Values.{value_of, cell_there}
 use Rattle.pipe_expr.specs.Evaluation.{IsValueOf}
-use Rattle.pipe_expr.specs.declared.expr.Expr.{Col}
+use Rattle.pipe_expr.specs.Formula.{Column}
 use Rattle.pipe_expr.specs.declared.operand.Operand.TheVariants as operand
 
 -- a column of a type has a place
@@ -55,7 +55,7 @@ pub place_below : (name : List ℕ) (fields : List Field) (i : ℕ) → place_of
 place_below name fields i h = let f = found name fields [] 0 i (record { name = []; dtype = Rattle.pipe_frame.specs.declared.data_type.DataType.TheVariants.Boolean; cells = [] }) h in let c = f.counted in let b = f.below in omega arith
 
 -- the column there has the cells of its rows
-pub named_is_value : (name : List ℕ) (table : Table) (i : ℕ) (columns : List Cells) (b : Bor Cells) → place_of name table.schema ≡ Some i → columns ≡ columns_of table → b.now ≡ get_or columns i b.now → IsValueOf (Col name) table (operand.Lent b)
+pub named_is_value : (name : List ℕ) (table : Table) (i : ℕ) (columns : List Cells) (b : Bor Cells) → place_of name table.schema ≡ Some i → columns ≡ columns_of table → b.now ≡ get_or columns i b.now → IsValueOf (Column name) table (operand.Lent b)
 named_is_value name table i columns b h same at =
     let f = found name table.schema table.rows 0 i b.now h in
     let k : f.k ≡ i = (let c = f.counted in omega arith) in
@@ -63,6 +63,6 @@ named_is_value name table i columns b h same at =
     let cells : b.now.cells ≡ map (cell_of_row i) table.rows = ap (λ c. c.cells) (sym here) ∙ f.cells in
     record {
       typed = f.typed ∙ ap (λ c. Some c.dtype) here;
-      cells = cells ∙ map_same (cell_of_row i) (value_of (Col name) table.schema) table.rows (λ row. ap (cell_there row) (sym h));
+      cells = cells ∙ map_same (cell_of_row i) (value_of (Column name) table.schema) table.rows (λ row. ap (cell_there row) (sym h));
       sized = ap length cells ∙ length-map table.rows (cell_of_row i);
     }

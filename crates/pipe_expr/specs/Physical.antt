@@ -1,11 +1,12 @@
 -- Expressions that were made for a schema, and the columns that they give.
-use Rattle.std.specs.Prelude.{List, map}
+use Rattle.std.specs.Prelude.{ℕ, List, map}
 use Rattle.pipe_frame.specs.Frame.{Table}
-use Rattle.pipe_frame.specs.Series.{Cells}
+use Rattle.pipe_frame.specs.Series.{Cells, named_cells}
 use Rattle.pipe_frame.specs.declared.field.Field.{Field}
 use Rattle.pipe_expr.specs.Types.{type_of}
 use Rattle.pipe_expr.specs.Values.{value_of}
 use Rattle.pipe_expr.specs.Projections.{known_type}
+use Rattle.pipe_expr.specs.Formula.{Formula, NamedFormula}
 use Rattle.pipe_expr.specs.declared.expr.NamedExpr.{NamedExpr}
 
 -- an expression with its name, and the schema that it was made for
@@ -13,6 +14,10 @@ pub record Physical : Type 0 where
   pub expr : NamedExpr
   pub schema : List Field
 
--- the column of an expression over a frame: its name and type, and its value at each row
-abbrev pub expr_column : NamedExpr → Table → Cells
-expr_column e frame = record { name = e.name; dtype = known_type (type_of e.expr frame.schema); cells = map (value_of e.expr frame.schema) frame.rows }
+-- the column of a formula over a frame: its type, and its value at each row
+abbrev pub column_of : List ℕ → Formula → Table → Cells
+column_of name formula frame =
+    named_cells name (known_type (type_of formula frame.schema)) (map (value_of formula frame.schema) frame.rows)
+
+abbrev pub expr_column : NamedFormula → Table → Cells
+expr_column e frame = column_of e.name e.formula frame

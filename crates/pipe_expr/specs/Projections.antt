@@ -1,6 +1,7 @@
 -- What filters, projections and functions make of a row (relational algebra: selection, projection, extension, renaming; unpivot).
-use Rattle.std.specs.Prelude.{ℕ, List, [], ◌∷◌, ◌++◌, Bool, false, not, if◌then◌else◌, Option, Some, None, map, filter, unwrap_or}
+use Rattle.std.specs.Prelude.{ℕ, List, [], ◌∷◌, ◌++◌, Bool, not, if◌then◌else◌, Option, Some, None, map, filter, unwrap_or}
 use Rattle.std.specs.Str.{bytes_eq}
+use Rattle.pipe_frame.specs.Cell.{is_true_cell}
 use Rattle.pipe_frame.specs.Rows.{Row}
 use Rattle.pipe_frame.specs.Schema.{has_name, names_of}
 use Rattle.pipe_frame.specs.declared.any_value.AnyValue.{AnyValue}
@@ -10,23 +11,18 @@ use Rattle.pipe_frame.specs.declared.data_type.DataType.TheVariants as dtype
 use Rattle.pipe_frame.specs.declared.field.Field.{Field}
 use Rattle.pipe_expr.specs.Types.{type_of, type_of_column}
 use Rattle.pipe_expr.specs.Values.{named_cell, value_of}
-use Rattle.pipe_expr.specs.declared.expr.Expr.{Expr}
-use Rattle.pipe_expr.specs.declared.expr.NamedExpr.{NamedExpr}
+use Rattle.pipe_expr.specs.Formula.{Formula, NamedFormula}
 use Rattle.pipe_expr.specs.declared.join_words.RenamePair.{RenamePair}
 use Rattle.pipe_expr.specs.declared.join_words.FunctionIR.{FunctionIR}
 use Rattle.pipe_expr.specs.declared.join_words.FunctionIR.TheVariants as function
 
 -- ---- selection
 
-abbrev pub is_true_cell : AnyValue → Bool
-is_true_cell (cell.Boolean b) = b
-is_true_cell _ = false
-
 -- whether a predicate is true at a row: neither false nor null
-abbrev pub passes : Expr → List Field → Row → Bool
+abbrev pub passes : Formula → List Field → Row → Bool
 passes predicate schema row = is_true_cell (value_of predicate schema row)
 
-abbrev pub filter_rows : Expr → List Field → List Row → List Row
+abbrev pub filter_rows : Formula → List Field → List Row → List Row
 filter_rows predicate schema rows = filter (passes predicate schema) rows
 
 -- ---- the named columns
@@ -46,53 +42,53 @@ row_named schema names row = map (named_cell schema row) names
 
 -- ---- one column per expression
 
-abbrev pub expr_name : NamedExpr → List ℕ
+abbrev pub expr_name : NamedFormula → List ℕ
 expr_name e = e.name
 
-abbrev pub expr_field : List Field → NamedExpr → Field
-expr_field schema e = record { name = e.name; dtype = known_type (type_of e.expr schema) }
+abbrev pub expr_field : List Field → NamedFormula → Field
+expr_field schema e = record { name = e.name; dtype = known_type (type_of e.formula schema) }
 
-abbrev pub expr_cell : List Field → Row → NamedExpr → AnyValue
-expr_cell schema row e = value_of e.expr schema row
+abbrev pub expr_cell : List Field → Row → NamedFormula → AnyValue
+expr_cell schema row e = value_of e.formula schema row
 
-abbrev pub select_fields : List Field → List NamedExpr → List Field
+abbrev pub select_fields : List Field → List NamedFormula → List Field
 select_fields schema exprs = map (expr_field schema) exprs
 
-abbrev pub select_row : List Field → List NamedExpr → Row → Row
+abbrev pub select_row : List Field → List NamedFormula → Row → Row
 select_row schema exprs row = map (expr_cell schema row) exprs
 
 -- ---- the input's columns, with those of expressions
 
 -- the first expression under a name
-abbrev pub expr_named : List NamedExpr → List ℕ → Option NamedExpr
+abbrev pub expr_named : List NamedFormula → List ℕ → Option NamedFormula
 expr_named [] name = None
 expr_named (e ∷ exprs) name = if bytes_eq e.name name then Some e else expr_named exprs name
 
 -- the expressions under names that no field has
-abbrev pub is_new : List Field → NamedExpr → Bool
+abbrev pub is_new : List Field → NamedFormula → Bool
 is_new schema e = not (has_name (names_of schema) e.name)
 
-abbrev pub new_exprs : List Field → List NamedExpr → List NamedExpr
+abbrev pub new_exprs : List Field → List NamedFormula → List NamedFormula
 new_exprs schema exprs = filter (is_new schema) exprs
 
-abbrev pub replaced_field : List Field → Field → Option NamedExpr → Field
+abbrev pub replaced_field : List Field → Field → Option NamedFormula → Field
 replaced_field schema field None = field
 replaced_field schema field (Some e) = expr_field schema e
 
-abbrev pub stacked_field : List Field → List NamedExpr → Field → Field
+abbrev pub stacked_field : List Field → List NamedFormula → Field → Field
 stacked_field schema exprs field = replaced_field schema field (expr_named exprs field.name)
 
-abbrev pub hstack_fields : List Field → List NamedExpr → List Field
+abbrev pub hstack_fields : List Field → List NamedFormula → List Field
 hstack_fields schema exprs = map (stacked_field schema exprs) schema ++ map (expr_field schema) (new_exprs schema exprs)
 
-abbrev pub replaced_cell : List Field → Row → List ℕ → Option NamedExpr → AnyValue
+abbrev pub replaced_cell : List Field → Row → List ℕ → Option NamedFormula → AnyValue
 replaced_cell schema row name None = named_cell schema row name
 replaced_cell schema row name (Some e) = expr_cell schema row e
 
-abbrev pub stacked_cell : List Field → List NamedExpr → Row → Field → AnyValue
+abbrev pub stacked_cell : List Field → List NamedFormula → Row → Field → AnyValue
 stacked_cell schema exprs row field = replaced_cell schema row field.name (expr_named exprs field.name)
 
-abbrev pub hstack_row : List Field → List NamedExpr → Row → Row
+abbrev pub hstack_row : List Field → List NamedFormula → Row → Row
 hstack_row schema exprs row = map (stacked_cell schema exprs row) schema ++ map (expr_cell schema row) (new_exprs schema exprs)
 
 -- ---- functions

@@ -1,16 +1,17 @@
--- The value of an expression at a row (SQL: arithmetic that wraps at the type's width, three-valued logic).
-use Rattle.std.specs.Prelude.{ℕ, ◌+◌, ◌-◌, ◌*◌, ◌%◌, ◌^◌, List, Bool, true, false, not, Option, Some, None}
+-- The value of a formula at a row (SQL: arithmetic that wraps at the type's width, three-valued logic).
+use Rattle.std.specs.Prelude.{ℕ, ℤ, ◌+◌, ◌-◌, ◌*◌, ◌%◌, ◌^◌, List, Bool, true, false, Option, Some, None}
 use Rattle.std.specs.Ordering.{is_eq, is_ne, is_lt, is_le, is_gt, is_ge}
-use Rattle.std.specs.Int.{int_wrapping_add, int_wrapping_sub, int_wrapping_mul, w32, w64}
+use Rattle.std.specs.Int.{Width, w32, w64, w128, int_wrapping_add, int_wrapping_sub, int_wrapping_mul}
 use Rattle.std.specs.declared.cmp.Ordering.{Ordering}
-use Rattle.pipe_frame.specs.Cell.{value_cmp}
+use Rattle.pipe_frame.specs.Cell.{value_cmp, boolean_cell}
 use Rattle.pipe_frame.specs.Rows.{Row}
 use Rattle.pipe_frame.specs.Schema.{place_of}
 use Rattle.pipe_frame.specs.Series.{cell_at}
 use Rattle.pipe_frame.specs.declared.any_value.AnyValue.{AnyValue}
 use Rattle.pipe_frame.specs.declared.any_value.AnyValue.TheVariants as cell
 use Rattle.pipe_frame.specs.declared.field.Field.{Field}
-use Rattle.pipe_expr.specs.declared.expr.Expr.{Expr, Col, Lit, Add', Sub', Mul', Eq', NotEq', Lt', LtEq', Gt', GtEq', And', Or', Not', IsNull', IsNotNull'}
+use Rattle.pipe_expr.specs.Nullables.{both, either, opposite, null_test}
+use Rattle.pipe_expr.specs.Formula.{Formula, Column, Literal, Add, Sub, Mul, Eq, NotEq, Lt, LtEq, Gt, GtEq, And, Or, Not, IsNull, IsNotNull}
 
 -- the cell of a row at what may be a place
 abbrev pub cell_there : Row → Option ℕ → AnyValue
@@ -21,27 +22,36 @@ cell_there row (Some i) = cell_at row i
 abbrev pub named_cell : List Field → Row → List ℕ → AnyValue
 named_cell schema row name = cell_there row (place_of name schema)
 
--- the sum, difference and product of two numbers of one type, null where a side is null
+-- an operation on integers that wraps: on signed ones of a width, and on unsigned ones below a modulus
+pub record Wrapping : Type 0 where
+  pub signed : Width → ℤ → ℤ → ℤ
+  pub unsigned : ℕ → ℕ → ℕ → ℕ
+
+-- an operation on two integers of one type, at the width of the type; null where a side is null
+abbrev pub wrapped : Wrapping → AnyValue → AnyValue → AnyValue
+wrapped op cell.Null _ = cell.Null
+wrapped op (cell.Int32 a) (cell.Int32 b) = cell.Int32 (op.signed w32 a b)
+wrapped op (cell.Int32 _) _ = cell.Null
+wrapped op (cell.Int64 a) (cell.Int64 b) = cell.Int64 (op.signed w64 a b)
+wrapped op (cell.Int64 _) _ = cell.Null
+wrapped op (cell.UInt32 a) (cell.UInt32 b) = cell.UInt32 (op.unsigned (2 ^ 32) a b)
+wrapped op (cell.UInt32 _) _ = cell.Null
+wrapped op (cell.UInt64 a) (cell.UInt64 b) = cell.UInt64 (op.unsigned (2 ^ 64) a b)
+wrapped op (cell.UInt64 _) _ = cell.Null
+wrapped op (cell.Boolean _) _ = cell.Null
+wrapped op (cell.String _) _ = cell.Null
+wrapped op (cell.Binary _) _ = cell.Null
+wrapped op (cell.Int128 a) (cell.Int128 b) = cell.Int128 (op.signed w128 a b)
+wrapped op (cell.Int128 _) _ = cell.Null
+
 abbrev pub sum_of : AnyValue → AnyValue → AnyValue
-sum_of (cell.Int32 a) (cell.Int32 b) = cell.Int32 (int_wrapping_add w32 a b)
-sum_of (cell.Int64 a) (cell.Int64 b) = cell.Int64 (int_wrapping_add w64 a b)
-sum_of (cell.UInt32 a) (cell.UInt32 b) = cell.UInt32 ((a + b) % 2 ^ 32)
-sum_of (cell.UInt64 a) (cell.UInt64 b) = cell.UInt64 ((a + b) % 2 ^ 64)
-sum_of _ _ = cell.Null
+sum_of = wrapped (record { signed = int_wrapping_add; unsigned = λ modulus a b. (a + b) % modulus })
 
 abbrev pub difference_of : AnyValue → AnyValue → AnyValue
-difference_of (cell.Int32 a) (cell.Int32 b) = cell.Int32 (int_wrapping_sub w32 a b)
-difference_of (cell.Int64 a) (cell.Int64 b) = cell.Int64 (int_wrapping_sub w64 a b)
-difference_of (cell.UInt32 a) (cell.UInt32 b) = cell.UInt32 ((a + (2 ^ 32 - b)) % 2 ^ 32)
-difference_of (cell.UInt64 a) (cell.UInt64 b) = cell.UInt64 ((a + (2 ^ 64 - b)) % 2 ^ 64)
-difference_of _ _ = cell.Null
+difference_of = wrapped (record { signed = int_wrapping_sub; unsigned = λ modulus a b. (a + (modulus - b)) % modulus })
 
 abbrev pub product_of : AnyValue → AnyValue → AnyValue
-product_of (cell.Int32 a) (cell.Int32 b) = cell.Int32 (int_wrapping_mul w32 a b)
-product_of (cell.Int64 a) (cell.Int64 b) = cell.Int64 (int_wrapping_mul w64 a b)
-product_of (cell.UInt32 a) (cell.UInt32 b) = cell.UInt32 ((a * b) % 2 ^ 32)
-product_of (cell.UInt64 a) (cell.UInt64 b) = cell.UInt64 ((a * b) % 2 ^ 64)
-product_of _ _ = cell.Null
+product_of = wrapped (record { signed = int_wrapping_mul; unsigned = λ modulus a b. (a * b) % modulus })
 
 -- a comparison: null where a side is null, else by the order of values
 abbrev pub compared : (Ordering → Bool) → AnyValue → AnyValue → AnyValue
@@ -49,48 +59,53 @@ compared test cell.Null _ = cell.Null
 compared test _ cell.Null = cell.Null
 compared test a b = cell.Boolean (test (value_cmp a b))
 
--- false if a side is false, else null if a side is null
+-- the truth value of a cell, none where it is null
+abbrev pub truth_of : AnyValue → Option Bool
+truth_of cell.Null = None
+truth_of (cell.Boolean b) = Some b
+truth_of (cell.Int32 _) = None
+truth_of (cell.Int64 _) = None
+truth_of (cell.UInt32 _) = None
+truth_of (cell.UInt64 _) = None
+truth_of (cell.String _) = None
+truth_of (cell.Binary _) = None
+truth_of (cell.Int128 _) = None
+
+-- three-valued logic on cells
 abbrev pub both_of : AnyValue → AnyValue → AnyValue
-both_of (cell.Boolean false) _ = cell.Boolean false
-both_of _ (cell.Boolean false) = cell.Boolean false
-both_of (cell.Boolean true) (cell.Boolean true) = cell.Boolean true
-both_of _ _ = cell.Null
+both_of a b = boolean_cell (both (truth_of a) (truth_of b))
 
--- true if a side is true, else null if a side is null
 abbrev pub either_of : AnyValue → AnyValue → AnyValue
-either_of (cell.Boolean true) _ = cell.Boolean true
-either_of _ (cell.Boolean true) = cell.Boolean true
-either_of (cell.Boolean false) (cell.Boolean false) = cell.Boolean false
-either_of _ _ = cell.Null
+either_of a b = boolean_cell (either (truth_of a) (truth_of b))
 
--- the other truth value, null of null
 abbrev pub opposite_of : AnyValue → AnyValue
-opposite_of (cell.Boolean b) = cell.Boolean (not b)
-opposite_of _ = cell.Null
+opposite_of a = boolean_cell (opposite (truth_of a))
+
+-- whether null, or no null, is found
+abbrev pub null_test_cell : Bool → AnyValue → AnyValue
+null_test_cell wanted c = cell.Boolean (null_test wanted c)
 
 abbrev pub is_missing : AnyValue → AnyValue
-is_missing cell.Null = cell.Boolean true
-is_missing _ = cell.Boolean false
+is_missing c = null_test_cell true c
 
 abbrev pub is_present : AnyValue → AnyValue
-is_present cell.Null = cell.Boolean false
-is_present _ = cell.Boolean true
+is_present c = null_test_cell false c
 
--- the value of an expression at a row
-abbrev pub value_of : Expr → List Field → Row → AnyValue
-value_of (Col name) schema row = named_cell schema row name
-value_of (Lit t value) schema row = value
-value_of (Add' p left q right) schema row = sum_of (value_of left schema row) (value_of right schema row)
-value_of (Sub' p left q right) schema row = difference_of (value_of left schema row) (value_of right schema row)
-value_of (Mul' p left q right) schema row = product_of (value_of left schema row) (value_of right schema row)
-value_of (Eq' p left q right) schema row = compared is_eq (value_of left schema row) (value_of right schema row)
-value_of (NotEq' p left q right) schema row = compared is_ne (value_of left schema row) (value_of right schema row)
-value_of (Lt' p left q right) schema row = compared is_lt (value_of left schema row) (value_of right schema row)
-value_of (LtEq' p left q right) schema row = compared is_le (value_of left schema row) (value_of right schema row)
-value_of (Gt' p left q right) schema row = compared is_gt (value_of left schema row) (value_of right schema row)
-value_of (GtEq' p left q right) schema row = compared is_ge (value_of left schema row) (value_of right schema row)
-value_of (And' p left q right) schema row = both_of (value_of left schema row) (value_of right schema row)
-value_of (Or' p left q right) schema row = either_of (value_of left schema row) (value_of right schema row)
-value_of (Not' p inner) schema row = opposite_of (value_of inner schema row)
-value_of (IsNull' p inner) schema row = is_missing (value_of inner schema row)
-value_of (IsNotNull' p inner) schema row = is_present (value_of inner schema row)
+-- the value of a formula at a row
+abbrev pub value_of : Formula → List Field → Row → AnyValue
+value_of (Column name) schema row = named_cell schema row name
+value_of (Literal t value) schema row = value
+value_of (Add left right) schema row = sum_of (value_of left schema row) (value_of right schema row)
+value_of (Sub left right) schema row = difference_of (value_of left schema row) (value_of right schema row)
+value_of (Mul left right) schema row = product_of (value_of left schema row) (value_of right schema row)
+value_of (Eq left right) schema row = compared is_eq (value_of left schema row) (value_of right schema row)
+value_of (NotEq left right) schema row = compared is_ne (value_of left schema row) (value_of right schema row)
+value_of (Lt left right) schema row = compared is_lt (value_of left schema row) (value_of right schema row)
+value_of (LtEq left right) schema row = compared is_le (value_of left schema row) (value_of right schema row)
+value_of (Gt left right) schema row = compared is_gt (value_of left schema row) (value_of right schema row)
+value_of (GtEq left right) schema row = compared is_ge (value_of left schema row) (value_of right schema row)
+value_of (And left right) schema row = both_of (value_of left schema row) (value_of right schema row)
+value_of (Or left right) schema row = either_of (value_of left schema row) (value_of right schema row)
+value_of (Not inner) schema row = opposite_of (value_of inner schema row)
+value_of (IsNull inner) schema row = is_missing (value_of inner schema row)
+value_of (IsNotNull inner) schema row = is_present (value_of inner schema row)

@@ -1,83 +1,70 @@
 //! Sums, differences and products of columns.
 
 ghost use Rattle.std.specs.Prelude.{◌≡◌, IfOk, IsTrue};
-ghost use Rattle.pipe_expr.specs.Types.{is_whole};
-ghost use Rattle.pipe_expr.specs.Values.{sum_of, difference_of, product_of};
-ghost use Rattle.pipe_expr.specs.Slots.{zip_with};
-ghost use Rattle.pipe_expr.specs.Operands.{operand_dtype, operand_cells, IsOperand, made_dtype, made_cells};
+ghost use Rattle.pipe_expr.specs.Types.{is_integer};
+ghost use Rattle.pipe_expr.specs.Arithmetic.{arithmetic_of};
+ghost use Rattle.pipe_expr.specs.Operands.{operand_dtype, IsRowByRow, IsOperand};
 
-use crate::made::Made;
+use crate::integer::Integer;
+use crate::kernel::{Difference, Product, Sum};
+use crate::native_operand::zip_into;
 use crate::operand::Operand;
-use crate::operator::{Difference, Product, Sum};
-use crate::side::zip_into;
-use pipe_frame::DataType;
+use pipe_frame::{DataType, Series};
 use std::alloc::{AllocError, Global};
 
-/// The sums of two operands of one whole-number type, row by row.
-pub(crate) fn sums(
+/// An operation on two integers of one type.
+#[derive(Clone, Copy)]
+pub(crate) enum Arithmetic {
+    Sum,
+    Difference,
+    Product,
+}
+
+/// What an operation gives of two operands of an integer type, row by row.
+fn calculate_as<T: Integer>(
     alloc: Global,
     rows: usize,
+    operation: Arithmetic,
     left: Operand<'_>,
     right: Operand<'_>,
-) -> Result<Made, AllocError>
-    requires whole { IsTrue (is_whole (operand_dtype left)) }
-    requires same { operand_dtype right ≡ operand_dtype left }
+) -> Result<Series, AllocError>
+    requires left { operand_dtype left ≡ T.dtype_of }
+    requires right { operand_dtype right ≡ T.dtype_of }
     requires rows_left { IsOperand rows left }
     requires rows_right { IsOperand rows right }
-    ensures dtype { IfOk result (λ made. made_dtype made ≡ operand_dtype left.entry) }
-    ensures cells { IfOk result (λ made. made_cells made ≡ zip_with sum_of (operand_cells rows left.entry) (operand_cells rows right.entry)) }
+    ensures dtype { IfOk result (λ made. made.dtype ≡ T.dtype_of) }
+    ensures cells { IfOk result (IsRowByRow (arithmetic_of operation) rows left.entry right.entry) }
 {
-    match left.dtype() {
-        DataType::Int32 => Ok(zip_into::<i32, Sum>(alloc, rows, left, right, Sum)?),
-        DataType::Int64 => Ok(zip_into::<i64, Sum>(alloc, rows, left, right, Sum)?),
-        DataType::UInt32 => Ok(zip_into::<u32, Sum>(alloc, rows, left, right, Sum)?),
-        DataType::UInt64 => Ok(zip_into::<u64, Sum>(alloc, rows, left, right, Sum)?),
-        _ => unreachable!(),
+    match operation {
+        Arithmetic::Sum => Ok(zip_into::<T, Sum>(alloc, rows, left, right, Sum)?),
+        Arithmetic::Difference => Ok(zip_into::<T, Difference>(
+            alloc, rows, left, right, Difference,
+        )?),
+        Arithmetic::Product => Ok(zip_into::<T, Product>(alloc, rows, left, right, Product)?),
     }
 }
 
-/// The differences of two operands of one whole-number type, row by row.
-pub(crate) fn differences(
+/// What an operation gives of two operands of one integer type, row by row.
+pub(crate) fn calculate(
     alloc: Global,
     rows: usize,
+    operation: Arithmetic,
     left: Operand<'_>,
     right: Operand<'_>,
-) -> Result<Made, AllocError>
-    requires whole { IsTrue (is_whole (operand_dtype left)) }
+) -> Result<Series, AllocError>
+    requires integer { IsTrue (is_integer (operand_dtype left)) }
     requires same { operand_dtype right ≡ operand_dtype left }
     requires rows_left { IsOperand rows left }
     requires rows_right { IsOperand rows right }
-    ensures dtype { IfOk result (λ made. made_dtype made ≡ operand_dtype left.entry) }
-    ensures cells { IfOk result (λ made. made_cells made ≡ zip_with difference_of (operand_cells rows left.entry) (operand_cells rows right.entry)) }
+    ensures dtype { IfOk result (λ made. made.dtype ≡ operand_dtype left.entry) }
+    ensures cells { IfOk result (IsRowByRow (arithmetic_of operation) rows left.entry right.entry) }
 {
     match left.dtype() {
-        DataType::Int32 => Ok(zip_into::<i32, Difference>(alloc, rows, left, right, Difference)?),
-        DataType::Int64 => Ok(zip_into::<i64, Difference>(alloc, rows, left, right, Difference)?),
-        DataType::UInt32 => Ok(zip_into::<u32, Difference>(alloc, rows, left, right, Difference)?),
-        DataType::UInt64 => Ok(zip_into::<u64, Difference>(alloc, rows, left, right, Difference)?),
-        _ => unreachable!(),
-    }
-}
-
-/// The products of two operands of one whole-number type, row by row.
-pub(crate) fn products(
-    alloc: Global,
-    rows: usize,
-    left: Operand<'_>,
-    right: Operand<'_>,
-) -> Result<Made, AllocError>
-    requires whole { IsTrue (is_whole (operand_dtype left)) }
-    requires same { operand_dtype right ≡ operand_dtype left }
-    requires rows_left { IsOperand rows left }
-    requires rows_right { IsOperand rows right }
-    ensures dtype { IfOk result (λ made. made_dtype made ≡ operand_dtype left.entry) }
-    ensures cells { IfOk result (λ made. made_cells made ≡ zip_with product_of (operand_cells rows left.entry) (operand_cells rows right.entry)) }
-{
-    match left.dtype() {
-        DataType::Int32 => Ok(zip_into::<i32, Product>(alloc, rows, left, right, Product)?),
-        DataType::Int64 => Ok(zip_into::<i64, Product>(alloc, rows, left, right, Product)?),
-        DataType::UInt32 => Ok(zip_into::<u32, Product>(alloc, rows, left, right, Product)?),
-        DataType::UInt64 => Ok(zip_into::<u64, Product>(alloc, rows, left, right, Product)?),
-        _ => unreachable!(),
+        DataType::Int32 => Ok(calculate_as::<i32>(alloc, rows, operation, left, right)?),
+        DataType::Int64 => Ok(calculate_as::<i64>(alloc, rows, operation, left, right)?),
+        DataType::UInt32 => Ok(calculate_as::<u32>(alloc, rows, operation, left, right)?),
+        DataType::UInt64 => Ok(calculate_as::<u64>(alloc, rows, operation, left, right)?),
+        DataType::Int128 => Ok(calculate_as::<i128>(alloc, rows, operation, left, right)?),
+        DataType::Boolean | DataType::String | DataType::Binary => unreachable!(),
     }
 }

@@ -1,20 +1,17 @@
 //! Comparisons of columns.
 
 ghost use Rattle.std.specs.Prelude.{◌≡◌, length, IfOk};
-ghost use Rattle.std.specs.Ordering.{is_eq, is_ne, is_lt, is_le, is_gt, is_ge, nat_cmp};
-ghost use Rattle.std.specs.Cmp.Lexicographic.{slice_cmp};
+ghost use Rattle.std.specs.Ordering.{is_eq, is_ne, is_lt, is_le, is_gt, is_ge};
 ghost use Rattle.pipe_frame.specs.declared.data_type.DataType.TheVariants as dtype;
 ghost use Rattle.pipe_expr.specs.Values.{compared};
-ghost use Rattle.pipe_expr.specs.Slots.{zip_with, strictly, tested};
-ghost use Rattle.pipe_expr.specs.Operands.{operand_dtype, operand_cells, IsOperand, made_dtype, made_cells, piece_slots};
+ghost use Rattle.pipe_expr.specs.Operands.{operand_dtype, IsRowByRow, IsOperand, byte_strings, compared_strings};
 
-use crate::made::Made;
+use crate::byte_strings::{ByteStrings, ComparedStrings, bytes, texts};
+use crate::collect::collect;
+use crate::kernel::{Compared, Test};
+use crate::native_operand::zip;
 use crate::operand::Operand;
-use crate::operator::{Compared, Test};
-use crate::parts::{Parts, collect};
-use crate::pieces::{ComparedPieces, Pieces, bytes, texts};
-use crate::side::zip;
-use pipe_frame::DataType;
+use pipe_frame::{Column, DataType, Series, Text};
 use std::alloc::{AllocError, Global};
 use std::cmp::Ordering;
 
@@ -91,59 +88,59 @@ impl Test for IsGreaterOrEqual {
 }
 
 /// A test of how byte strings compare, row by row.
-#[tactic(auto, using(crate::proofs::Sides::side_rules))]
-fn compare_pieces<C: Test>(
+#[tactic(auto, using(crate::proofs::Operands::operand_rules))]
+fn compare_strings<C: Test>(
     alloc: Global,
     rows: usize,
-    left: Pieces<'_>,
-    right: Pieces<'_>,
+    left: ByteStrings<'_>,
+    right: ByteStrings<'_>,
     test: C,
-) -> Result<Parts<bool>, AllocError>
-    requires left { length (piece_slots left) ≡ rows }
-    requires right { length (piece_slots right) ≡ rows }
-    ensures { IfOk result (λ parts. parts ≡ zip_with (strictly (tested (slice_cmp nat_cmp) C.test)) (piece_slots left.entry) (piece_slots right.entry)) }
+) -> Result<Column<bool>, AllocError>
+    requires left { length (byte_strings left) ≡ rows }
+    requires right { length (byte_strings right) ≡ rows }
+    ensures { IfOk result (λ c. c ≡ compared_strings C.test left.entry right.entry) }
 {
-    Ok(collect(alloc, rows, &ComparedPieces { left, right, test })?)
+    Ok(collect(alloc, rows, &ComparedStrings { left, right, test })?)
 }
 
 /// A test of how two operands of texts compare, row by row.
-#[tactic(auto, using(crate::proofs::Sides::side_rules))]
+#[tactic(auto, using(crate::proofs::Operands::operand_rules))]
 fn compare_texts<C: Test>(
     alloc: Global,
     rows: usize,
     left: Operand<'_>,
     right: Operand<'_>,
     test: C,
-) -> Result<Made, AllocError>
+) -> Result<Series, AllocError>
     requires left { operand_dtype left ≡ dtype.String }
     requires right { operand_dtype right ≡ dtype.String }
     requires rows_left { IsOperand rows left }
     requires rows_right { IsOperand rows right }
-    ensures dtype { IfOk result (λ made. made_dtype made ≡ dtype.Boolean) }
-    ensures cells { IfOk result (λ made. made_cells made ≡ zip_with (compared C.test) (operand_cells rows left.entry) (operand_cells rows right.entry)) }
+    ensures dtype { IfOk result (λ made. made.dtype ≡ dtype.Boolean) }
+    ensures cells { IfOk result (IsRowByRow (compared C.test) rows left.entry right.entry) }
 {
-    let parts = compare_pieces(alloc, rows, texts(rows, &left), texts(rows, &right), test)?;
-    Ok(Made::Boolean(parts))
+    let column = compare_strings(alloc, rows, texts(rows, &left), texts(rows, &right), test)?;
+    Ok(Series::from_column(Text::new(alloc), column))
 }
 
 /// A test of how two operands of byte strings compare, row by row.
-#[tactic(auto, using(crate::proofs::Sides::side_rules))]
+#[tactic(auto, using(crate::proofs::Operands::operand_rules))]
 fn compare_bytes<C: Test>(
     alloc: Global,
     rows: usize,
     left: Operand<'_>,
     right: Operand<'_>,
     test: C,
-) -> Result<Made, AllocError>
+) -> Result<Series, AllocError>
     requires left { operand_dtype left ≡ dtype.Binary }
     requires right { operand_dtype right ≡ dtype.Binary }
     requires rows_left { IsOperand rows left }
     requires rows_right { IsOperand rows right }
-    ensures dtype { IfOk result (λ made. made_dtype made ≡ dtype.Boolean) }
-    ensures cells { IfOk result (λ made. made_cells made ≡ zip_with (compared C.test) (operand_cells rows left.entry) (operand_cells rows right.entry)) }
+    ensures dtype { IfOk result (λ made. made.dtype ≡ dtype.Boolean) }
+    ensures cells { IfOk result (IsRowByRow (compared C.test) rows left.entry right.entry) }
 {
-    let parts = compare_pieces(alloc, rows, bytes(rows, &left), bytes(rows, &right), test)?;
-    Ok(Made::Boolean(parts))
+    let column = compare_strings(alloc, rows, bytes(rows, &left), bytes(rows, &right), test)?;
+    Ok(Series::from_column(Text::new(alloc), column))
 }
 
 /// A test of how two operands of one type compare, row by row.
@@ -153,12 +150,12 @@ pub(crate) fn compare<C: Test>(
     left: Operand<'_>,
     right: Operand<'_>,
     test: C,
-) -> Result<Made, AllocError>
+) -> Result<Series, AllocError>
     requires same { operand_dtype right ≡ operand_dtype left }
     requires rows_left { IsOperand rows left }
     requires rows_right { IsOperand rows right }
-    ensures dtype { IfOk result (λ made. made_dtype made ≡ dtype.Boolean) }
-    ensures cells { IfOk result (λ made. made_cells made ≡ zip_with (compared C.test) (operand_cells rows left.entry) (operand_cells rows right.entry)) }
+    ensures dtype { IfOk result (λ made. made.dtype ≡ dtype.Boolean) }
+    ensures cells { IfOk result (IsRowByRow (compared C.test) rows left.entry right.entry) }
 {
     let by = Compared { test };
     match left.dtype() {
@@ -167,6 +164,7 @@ pub(crate) fn compare<C: Test>(
         DataType::UInt32 => Ok(zip::<u32, Compared<C>>(alloc, rows, left, right, by)?),
         DataType::UInt64 => Ok(zip::<u64, Compared<C>>(alloc, rows, left, right, by)?),
         DataType::Boolean => Ok(zip::<bool, Compared<C>>(alloc, rows, left, right, by)?),
+        DataType::Int128 => Ok(zip::<i128, Compared<C>>(alloc, rows, left, right, by)?),
         DataType::String => Ok(compare_texts(alloc, rows, left, right, test)?),
         DataType::Binary => Ok(compare_bytes(alloc, rows, left, right, test)?),
     }

@@ -6,36 +6,27 @@ ghost use Rattle.pipe_frame.specs.Cell.{fits_dtype, string_cell};
 ghost use Rattle.pipe_frame.specs.declared.data_type.DataType.TheVariants as dtype;
 ghost use Rattle.pipe_expr.specs.Operands.{operand_dtype, operand_cells, IsOperand};
 
+use crate::byte_strings::bytes_in;
+use crate::collect::collect;
+use crate::nullable_values::ScalarValue;
 use crate::operand::Operand;
-use crate::parts::collect;
-use crate::pieces::bytes_in;
-use crate::side::Native;
-use crate::source::Repeated;
-use pipe_frame::{AnyValue, BinaryColumn, DataType, Series, StringColumn, Text, TryClone};
+use pipe_frame::{AnyValue, BinaryColumn, DataType, Native, Series, StringColumn, Text, TryClone};
 use std::alloc::{AllocError, Global};
 
 /// A cell of a fixed-width type, at each of so many rows.
-#[tactic(auto, using(crate::proofs::Sides::side_rules))]
+#[tactic(auto, using(crate::proofs::Operands::operand_rules))]
 fn repeated<T: Native>(alloc: Global, rows: usize, from: &AnyValue) -> Result<Series, AllocError>
     requires { IsTrue (fits_dtype T.dtype_of from.now) }
     ensures dtype { IfOk result (λ made. made.dtype ≡ T.dtype_of) }
     ensures cells { IfOk result (λ made. made.cells ≡ replicate rows from.now) }
 {
-    let (present, value) = T::value(from);
-    let parts = collect(
-        alloc,
-        rows,
-        &Repeated {
-            present,
-            value,
-            rows,
-        },
-    )?;
-    Ok(T::made(parts).into_series(Text::new(alloc)))
+    let (valid, value) = T::value(from);
+    let column = collect(alloc, rows, &ScalarValue { valid, value, rows })?;
+    Ok(T::into_series(Text::new(alloc), column))
 }
 
 /// A text, or none, at each of so many rows.
-#[tactic(auto, using(crate::proofs::Sides::side_rules))]
+#[tactic(auto, using(crate::proofs::Operands::operand_rules))]
 fn repeated_text(alloc: Global, rows: usize, text: Option<&str>) -> Result<StringColumn, AllocError>
     ensures { IfOk result (λ column. column ≡ replicate rows (option_copied text.entry)) }
 {
@@ -47,7 +38,7 @@ fn repeated_text(alloc: Global, rows: usize, text: Option<&str>) -> Result<Strin
 }
 
 /// A byte string, or none, at each of so many rows.
-#[tactic(auto, using(crate::proofs::Sides::side_rules))]
+#[tactic(auto, using(crate::proofs::Operands::operand_rules))]
 fn repeated_bytes(
     alloc: Global,
     rows: usize,
@@ -74,7 +65,7 @@ fn text_of(cell: &AnyValue) -> Option<&str>
 }
 
 /// A series without a name that has a cell at each of so many rows.
-#[tactic(auto, using(crate::proofs::Sides::side_rules))]
+#[tactic(auto, using(crate::proofs::Operands::operand_rules))]
 fn constant_series(
     alloc: Global,
     rows: usize,
@@ -91,6 +82,7 @@ fn constant_series(
         DataType::UInt32 => Ok(repeated::<u32>(alloc, rows, cell)?),
         DataType::UInt64 => Ok(repeated::<u64>(alloc, rows, cell)?),
         DataType::Boolean => Ok(repeated::<bool>(alloc, rows, cell)?),
+        DataType::Int128 => Ok(repeated::<i128>(alloc, rows, cell)?),
         DataType::String => {
             let column = repeated_text(alloc, rows, text_of(cell))?;
             Ok(Series::from_string(Text::new(alloc), column))
@@ -120,7 +112,10 @@ pub(crate) fn named(
             copy.rename(name);
             Ok(copy)
         }
-        Operand::Made(made) => Ok(made.into_series(name)),
+        Operand::Owned(mut series) => {
+            series.rename(name);
+            Ok(series)
+        }
         Operand::Constant(dtype, cell) => {
             let mut made = constant_series(alloc, rows, dtype, cell)?;
             made.rename(name);

@@ -1,22 +1,20 @@
 //! The values of expressions over the rows of a frame, a column at a time.
 
-ghost use Rattle.std.specs.Prelude.{◌≡◌, ◌<◌, true, Some, is_some, length, map, slice_index_or, IfOk};
-ghost use Rattle.pipe_expr.specs.Projections.{known_type};
-ghost use Rattle.pipe_expr.specs.Types.{type_of, type_of_column};
+ghost use Rattle.std.specs.Prelude.{◌≡◌, ◌<◌, true, is_some, length, slice_index_or, IfOk};
+ghost use Rattle.pipe_expr.specs.Formula.{Formula, formula_of};
+ghost use Rattle.pipe_expr.specs.Physical.{column_of};
+ghost use Rattle.pipe_expr.specs.Types.{type_of_column};
 ghost use Rattle.pipe_expr.specs.Typing.{IsTyped};
-ghost use Rattle.pipe_expr.specs.Values.{value_of};
-ghost use Rattle.pipe_expr.specs.Slots.{zip_with};
-ghost use Rattle.pipe_expr.specs.Operands.{operand_dtype, operand_cells, IsOperand, made_dtype, made_cells};
-ghost use Rattle.pipe_expr.specs.Evaluation.{IsValueOf, type_of_two, value_of_two};
+ghost use Rattle.pipe_expr.specs.Operands.{IsOperand};
+ghost use Rattle.pipe_expr.specs.Evaluation.{IsValueOf, IsOfOperands, dtype_of_two};
 
-use crate::arithmetic::{differences, products, sums};
+use crate::arithmetic::{Arithmetic, calculate};
 use crate::comparison::{
     IsEqual, IsGreater, IsGreaterOrEqual, IsLess, IsLessOrEqual, IsOther, compare,
 };
 use crate::constant::named;
 use crate::expr::Expr;
 use crate::logic::{both, either, negated};
-use crate::made::Made;
 use crate::null_test::test_for_null;
 use crate::operand::Operand;
 use pipe_frame::{DataFrame, Series, Text};
@@ -29,17 +27,16 @@ fn apply(
     expr: &Expr,
     left: Operand<'_>,
     right: Operand<'_>,
-) -> Result<Made, AllocError>
-    requires typed { is_some (type_of_two expr.now (operand_dtype left) (operand_dtype right)) ≡ true }
+) -> Result<Series, AllocError>
+    requires typed { is_some (dtype_of_two (formula_of expr.now) left right) ≡ true }
     requires rows_left { IsOperand rows left }
     requires rows_right { IsOperand rows right }
-    ensures dtype { IfOk result (λ made. type_of_two expr.now (operand_dtype left.entry) (operand_dtype right.entry) ≡ Some (made_dtype made)) }
-    ensures cells { IfOk result (λ made. made_cells made ≡ zip_with (value_of_two expr.now) (operand_cells rows left.entry) (operand_cells rows right.entry)) }
+    ensures { IfOk result (λ s. IsOfOperands (formula_of expr.now) rows left.entry right.entry s) }
 {
     match expr {
-        Expr::Add(_, _) => Ok(sums(alloc, rows, left, right)?),
-        Expr::Sub(_, _) => Ok(differences(alloc, rows, left, right)?),
-        Expr::Mul(_, _) => Ok(products(alloc, rows, left, right)?),
+        Expr::Add(_, _) => Ok(calculate(alloc, rows, Arithmetic::Sum, left, right)?),
+        Expr::Sub(_, _) => Ok(calculate(alloc, rows, Arithmetic::Difference, left, right)?),
+        Expr::Mul(_, _) => Ok(calculate(alloc, rows, Arithmetic::Product, left, right)?),
         Expr::Eq(_, _) => Ok(compare(alloc, rows, left, right, IsEqual)?),
         Expr::NotEq(_, _) => Ok(compare(alloc, rows, left, right, IsOther)?),
         Expr::Lt(_, _) => Ok(compare(alloc, rows, left, right, IsLess)?),
@@ -48,7 +45,11 @@ fn apply(
         Expr::GtEq(_, _) => Ok(compare(alloc, rows, left, right, IsGreaterOrEqual)?),
         Expr::And(_, _) => Ok(both(alloc, rows, left, right)?),
         Expr::Or(_, _) => Ok(either(alloc, rows, left, right)?),
-        _ => unreachable!(),
+        Expr::Col(_)
+        | Expr::Lit { dtype: _, value: _ }
+        | Expr::Not(_)
+        | Expr::IsNull(_)
+        | Expr::IsNotNull(_) => unreachable!(),
     }
 }
 
@@ -63,7 +64,7 @@ fn column_at(columns: &[Series], i: usize) -> &Series
 /// The column under a name.
 fn column_named<'a>(name: &Text, frame: &'a DataFrame) -> &'a Series
     requires { is_some (type_of_column name.now frame.now.schema) ≡ true }
-    ensures { IsValueOf (Expr.Col name.now) frame.now (Operand.Lent result) }
+    ensures { IsValueOf (Formula.Column name.now) frame.now (Operand.Lent result) }
 {
     let Some(i) = frame.schema().index_of(name.as_bytes()) else {
         unreachable!()
@@ -77,8 +78,8 @@ fn operand_of<'a>(
     expr: &'a Expr,
     frame: &'a DataFrame,
 ) -> Result<Operand<'a>, AllocError>
-    requires { IsTyped expr.now frame.now.schema }
-    ensures { IfOk result (λ operand. IsValueOf expr.now frame.now operand) }
+    requires { IsTyped (formula_of expr.now) frame.now.schema }
+    ensures { IfOk result (λ operand. IsValueOf (formula_of expr.now) frame.now operand) }
 {
     let rows = frame.height();
     match expr {
@@ -86,15 +87,15 @@ fn operand_of<'a>(
         Expr::Lit { dtype, value } => Ok(Operand::Constant(*dtype, value)),
         Expr::Not(inner) => {
             let inner = operand_of(alloc, inner, frame)?;
-            Ok(Operand::Made(negated(alloc, rows, inner)?))
+            Ok(Operand::Owned(negated(alloc, rows, inner)?))
         }
         Expr::IsNull(inner) => {
             let inner = operand_of(alloc, inner, frame)?;
-            Ok(Operand::Made(test_for_null(alloc, rows, inner, true)?))
+            Ok(Operand::Owned(test_for_null(alloc, rows, inner, true)?))
         }
         Expr::IsNotNull(inner) => {
             let inner = operand_of(alloc, inner, frame)?;
-            Ok(Operand::Made(test_for_null(alloc, rows, inner, false)?))
+            Ok(Operand::Owned(test_for_null(alloc, rows, inner, false)?))
         }
         Expr::Add(left, right)
         | Expr::Sub(left, right)
@@ -109,7 +110,7 @@ fn operand_of<'a>(
         | Expr::Or(left, right) => {
             let left = operand_of(alloc, left, frame)?;
             let right = operand_of(alloc, right, frame)?;
-            Ok(Operand::Made(apply(alloc, rows, expr, left, right)?))
+            Ok(Operand::Owned(apply(alloc, rows, expr, left, right)?))
         }
     }
 }
@@ -121,8 +122,8 @@ pub(crate) fn evaluate_expr(
     expr: &Expr,
     frame: &DataFrame,
 ) -> Result<Series, AllocError>
-    requires { IsTyped expr.now frame.now.schema }
-    ensures { IfOk result (λ s. s ≡ record { name = name; dtype = known_type (type_of expr.now frame.now.schema); cells = map (value_of expr.now frame.now.schema) frame.now.rows }) }
+    requires { IsTyped (formula_of expr.now) frame.now.schema }
+    ensures { IfOk result (λ s. s ≡ column_of name (formula_of expr.now) frame.now) }
 {
     let operand = operand_of(alloc, expr, frame)?;
     Ok(named(alloc, name, frame.height(), operand)?)

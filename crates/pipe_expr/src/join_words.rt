@@ -2,17 +2,21 @@
 
 use pipe_frame::{List, Text};
 
-/// Which rows a join gives beside the pairs.
+/// Which rows a join gives.
 #[derive(Clone, Copy, Debug, PartialEq, Eq)]
 pub enum JoinType {
-    /// The pairs alone.
+    /// The pairs.
     Inner,
-    /// Also each left row without a match.
+    /// The pairs, and each left row without a match.
     Left,
-    /// Also each left row and each right row without a match.
+    /// The pairs, and each left row and each right row without a match.
     Full,
     /// Every pair of a left and a right row.
     Cross,
+    /// Each left row with a match, once.
+    Semi,
+    /// Each left row without a match.
+    Anti,
 }
 
 /// Whether a join's right key columns are dropped from its output.
@@ -20,7 +24,7 @@ pub enum JoinType {
 pub enum JoinCoalesce {
     /// They are dropped in inner and left joins.
     JoinSpecific,
-    /// They are dropped.
+    /// They are dropped; semi and anti joins have no right columns.
     CoalesceColumns,
     /// They are kept.
     KeepColumns,

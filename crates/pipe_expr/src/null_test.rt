@@ -3,17 +3,17 @@
 ghost use Rattle.std.specs.Prelude.{◌≡◌, map, IfOk};
 ghost use Rattle.pipe_frame.specs.Cell.{is_null_cell};
 ghost use Rattle.pipe_frame.specs.declared.data_type.DataType.TheVariants as dtype;
-ghost use Rattle.pipe_expr.specs.Slots.{null_is, null_value};
-ghost use Rattle.pipe_expr.specs.Operands.{operand_cells, IsOperand, made_dtype, made_cells};
+ghost use Rattle.pipe_expr.specs.Nullables.{null_found};
+ghost use Rattle.pipe_expr.specs.Values.{null_test_cell};
+ghost use Rattle.pipe_expr.specs.Operands.{operand_cells, each_row, IsOperand};
 
-use crate::made::Made;
+use crate::collect::collect;
+use crate::nullable_values::{NullableValues, ScalarValue};
 use crate::operand::Operand;
-use crate::parts::{Parts, collect};
-use crate::source::{Repeated, Source};
-use pipe_frame::{AnyValue, Series, Text};
+use pipe_frame::{AnyValue, Column, Series, Text};
 use std::alloc::{AllocError, Global};
 
-/// Whether null or no null is wanted and found, row by row.
+/// Whether null or no null is wanted and found in a column, row by row.
 #[derive(Clone, Copy)]
 struct NullTest<'a> {
     series: &'a Series,
@@ -21,12 +21,12 @@ struct NullTest<'a> {
 }
 
 #[tactic(auto, using(crate::proofs::NullCells::null_rules))]
-impl<'a> Source for NullTest<'a> {
+impl<'a> NullableValues for NullTest<'a> {
     type Value = bool;
 
-    ghost slots = { λ s. map (null_is s.wanted) s.series.now.cells };
+    ghost nullables = { λ s. map (null_found s.wanted) s.series.now.cells };
 
-    fn slot(&self, i: usize) -> (bool, bool) {
+    fn nullable(&self, i: usize) -> (bool, bool) {
         (true, self.series.is_null(i) == self.wanted)
     }
 }
@@ -43,27 +43,26 @@ fn is_null(cell: &AnyValue) -> bool
 
 /// Whether null or no null is wanted and found in an operand, row by row.
 #[tactic(auto, using(crate::proofs::NullCells::null_rules))]
-fn found(
+fn tested(
     alloc: Global,
     rows: usize,
     inner: Operand<'_>,
     wanted: bool,
-) -> Result<Parts<bool>, AllocError>
+) -> Result<Column<bool>, AllocError>
     requires { IsOperand rows inner }
-    ensures { IfOk result (λ parts. parts ≡ map (null_is wanted) (operand_cells rows inner.entry)) }
+    ensures { IfOk result (λ c. c ≡ map (null_found wanted) (operand_cells rows inner.entry)) }
 {
     match inner {
         Operand::Lent(series) => Ok(collect(alloc, rows, &NullTest { series, wanted })?),
-        Operand::Made(made) => {
-            let series = made.into_series(Text::new(alloc));
+        Operand::Owned(series) => {
             let series = &series;
             Ok(collect(alloc, rows, &NullTest { series, wanted })?)
         }
         Operand::Constant(_, cell) => Ok(collect(
             alloc,
             rows,
-            &Repeated {
-                present: true,
+            &ScalarValue {
+                valid: true,
                 value: is_null(cell) == wanted,
                 rows,
             },
@@ -71,18 +70,18 @@ fn found(
     }
 }
 
-/// Whether null, or no null, is found in an operand, row by row.
+/// Whether null, or no null, is found in an operand, row by row: a series without a name.
 #[tactic(auto, using(crate::proofs::NullCells::null_rules))]
 pub(crate) fn test_for_null(
     alloc: Global,
     rows: usize,
     inner: Operand<'_>,
     wanted: bool,
-) -> Result<Made, AllocError>
+) -> Result<Series, AllocError>
     requires { IsOperand rows inner }
-    ensures dtype { IfOk result (λ made. made_dtype made ≡ dtype.Boolean) }
-    ensures cells { IfOk result (λ made. made_cells made ≡ map (null_value wanted) (operand_cells rows inner.entry)) }
+    ensures dtype { IfOk result (λ made. made.dtype ≡ dtype.Boolean) }
+    ensures cells { IfOk result (λ s. s.cells ≡ each_row (null_test_cell wanted) rows inner.entry) }
 {
-    let parts = found(alloc, rows, inner, wanted)?;
-    Ok(Made::Boolean(parts))
+    let column = tested(alloc, rows, inner, wanted)?;
+    Ok(Series::from_column(Text::new(alloc), column))
 }

@@ -3,7 +3,6 @@
 ghost use Rattle.std.specs.Prelude.{◌≡◌};
 ghost use Rattle.pipe_expr.specs.Operands.{operand_dtype};
 
-use crate::made::Made;
 use pipe_frame::{AnyValue, DataType, Series};
 
 /// The values of a subexpression.
@@ -11,8 +10,8 @@ use pipe_frame::{AnyValue, DataType, Series};
 pub(crate) enum Operand<'a> {
     /// A column of the frame.
     Lent(&'a Series),
-    /// A column that was made.
-    Made(Made),
+    /// A column that the evaluation made.
+    Owned(Series),
     /// One cell of a type, at every row.
     Constant(DataType, &'a AnyValue),
 }
@@ -24,7 +23,7 @@ impl<'a> Operand<'a> {
     {
         match self {
             Operand::Lent(series) => series.dtype(),
-            Operand::Made(made) => made.dtype(),
+            Operand::Owned(series) => series.dtype(),
             Operand::Constant(dtype, _) => *dtype,
         }
     }

@@ -1,10 +1,9 @@
 //! Expressions that were made for a schema: the columns that they give.
 
 ghost use Rattle.std.specs.Prelude.{◌≡◌, IfOk};
-ghost use Rattle.pipe_frame.specs.Frame.{Table};
-ghost use Rattle.pipe_expr.specs.Alike.{NamedAlike};
-ghost use Rattle.pipe_expr.specs.Typing.{IsTyped};
+ghost use Rattle.pipe_expr.specs.Formula.{formula_of, named_formula_of};
 ghost use Rattle.pipe_expr.specs.Physical.{expr_column};
+ghost use Rattle.pipe_expr.specs.Typing.{IsTyped};
 
 use crate::evaluate::evaluate_expr;
 use crate::expr::NamedExpr;
@@ -19,10 +18,10 @@ pub trait PhysicalPipedExpr: Send + Sync {
     ghost use Rattle.pipe_frame.specs.Chunks.{HasSchema};
     ghost use Rattle.pipe_frame.specs.declared.field.Field.{Field as Column};
     ghost use Rattle.pipe_expr.specs.Projections.{expr_field};
-    ghost use Rattle.pipe_expr.specs.declared.expr.NamedExpr.{NamedExpr as Named};
+    ghost use Rattle.pipe_expr.specs.Formula.{NamedFormula, named_formula_of};
 
-    /// The expression with its name.
-    ghost expr_of: { Self → Named };
+    /// The expression's formula, with its name.
+    ghost expr_of: { Self → NamedFormula };
 
     /// The schema that it was made for.
     ghost schema_of: { Self → List Column };
@@ -30,17 +29,17 @@ pub trait PhysicalPipedExpr: Send + Sync {
     /// The column over a chunk of that schema: under the expression's name, its value at each row.
     fn evaluate(&self, alloc: Global, chunk: &DataChunk) -> Result<Series, AllocError>
         requires { HasSchema (schema_of self.now) chunk.now }
-        ensures { IfOk result (λ column. column ≡ expr_column (expr_of self.now) chunk.now.frame) };
+        ensures { IfOk result (λ c. c ≡ expr_column (expr_of self.now) chunk.now.frame) };
 
     /// The name and the type of that column.
     fn field(&self, alloc: Global, input_schema: &Schema) -> Result<Field, AllocError>
         requires { input_schema.now ≡ schema_of self.now }
-        ensures { IfOk result (λ field. field ≡ expr_field input_schema.now (expr_of self.now)) };
+        ensures { IfOk result (λ f. f ≡ expr_field input_schema.now (expr_of self.now)) };
 
     /// The expression, which has a type over that schema.
     fn expression(&self) -> &NamedExpr
-        ensures expr { result.now ≡ expr_of self.now }
-        ensures typed { IsTyped (expr_of self.now).expr (schema_of self.now) };
+        ensures formula { named_formula_of result.now ≡ expr_of self.now }
+        ensures typed { IsTyped (expr_of self.now).formula (schema_of self.now) };
 }
 
 /// An expression with its name, and the schema that it was made for.
@@ -60,6 +59,7 @@ impl Drop for PhysicalExpr {
 
 impl Model for PhysicalExpr {
     ghost use Rattle.pipe_expr.specs.Physical.{Physical};
+    ghost use Rattle.pipe_expr.specs.Formula.{formula_of};
     ghost use Rattle.pipe_expr.specs.Typing.{IsTyped};
     ghost use Rattle.pipe_expr.specs.contracts.expr.Expr as e;
     ghost use Rattle.std.specs.Coded.{codes};
@@ -70,7 +70,7 @@ impl Model for PhysicalExpr {
 
     ghost view = { λ p. record { expr = p.expr; schema = p.schema } };
 
-    ghost invariant = { λ p. IsTyped p.expr.expr p.schema };
+    ghost invariant = { λ p. IsTyped (formula_of p.expr.expr) p.schema };
 }
 
 impl PhysicalExpr {
@@ -83,7 +83,7 @@ impl PhysicalExpr {
 }
 
 impl PhysicalPipedExpr for PhysicalExpr {
-    ghost expr_of = { λ p. p.expr };
+    ghost expr_of = { λ p. named_formula_of p.expr };
 
     ghost schema_of = { λ p. p.schema };
 
@@ -108,16 +108,14 @@ impl PhysicalPipedExpr for PhysicalExpr {
 }
 
 /// An expression, made for a schema over which it has a type. It has a copy of its own.
-#[tactic(auto, using(crate::proofs::SameColumn::same_column))]
 pub fn to_physical(
     _alloc: Global,
     expr: &NamedExpr,
     schema: &Schema,
 ) -> Result<PhysicalExpr, AllocError>
-    requires { IsTyped expr.now.expr schema.now }
-    ensures alike { IfOk result (λ p. NamedAlike expr.now p.expr) }
+    requires { IsTyped (formula_of expr.now.expr) schema.now }
+    ensures formula { IfOk result (λ p. named_formula_of p.expr ≡ named_formula_of expr.now) }
     ensures schema { IfOk result (λ p. p.schema ≡ schema.now) }
-    ensures column { IfOk result (λ p. (frame : Table) → expr_column p.expr frame ≡ expr_column expr.now frame) }
 {
     Ok(PhysicalExpr {
         expr: expr.try_clone()?,

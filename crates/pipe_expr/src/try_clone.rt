@@ -1,9 +1,9 @@
 //! Copies of expressions, renamings and functions.
 //!
-//! A copy's boxes lie elsewhere in memory, so an expression's copy is alike to its source, and not equal to it.
+//! A copy's boxes lie elsewhere in memory, so an expression's copy isn't equal to its source: it has the same formula.
 
 ghost use Rattle.std.specs.Prelude.{◌≡◌, IfOk};
-ghost use Rattle.pipe_expr.specs.Alike.{Alike, EachAlike, NamedAlike};
+ghost use Rattle.pipe_expr.specs.Formula.{formula_of, formulas_of, named_formula_of, named_formulas_of};
 
 use crate::expr::{Expr, NamedExpr};
 use crate::join_words::{FunctionIR, RenamePair};
@@ -18,9 +18,9 @@ fn boxed(other: &Box<Expr>, expr: Expr) -> Result<Box<Expr>, AllocError>
 }
 
 impl Expr {
-    /// A copy, which is the same wherever its parts lie in memory.
+    /// A copy, which has the same formula.
     pub fn try_clone(&self) -> Result<Expr, AllocError>
-        ensures { IfOk result (λ copy. Alike self.now copy) }
+        ensures { IfOk result (λ copy. formula_of copy ≡ formula_of self.now) }
     {
         match self {
             Expr::Col(name) => Ok(Expr::Col(name.try_clone()?)),
@@ -56,9 +56,9 @@ impl Expr {
 }
 
 impl NamedExpr {
-    /// A copy, which is the same wherever its parts lie in memory.
+    /// A copy, which has the same formula.
     pub fn try_clone(&self) -> Result<NamedExpr, AllocError>
-        ensures { IfOk result (λ copy. NamedAlike self.now copy) }
+        ensures { IfOk result (λ copy. named_formula_of copy ≡ named_formula_of self.now) }
     {
         Ok(NamedExpr {
             name: self.name.try_clone()?,
@@ -67,10 +67,10 @@ impl NamedExpr {
     }
 }
 
-/// Copies of some expressions, each alike to its source.
-#[tactic(auto, using(crate::proofs::Copies::each_next))]
+/// Copies of some expressions, in their order.
+#[tactic(auto, using(crate::proofs::Copies::copied_next))]
 pub fn copy_exprs(alloc: Global, exprs: &[Expr]) -> Result<List<Expr>, AllocError>
-    ensures { IfOk result (λ copies. EachAlike Alike exprs.now copies) }
+    ensures { IfOk result (λ copies. formulas_of copies ≡ formulas_of exprs.now) }
 {
     let mut copies = List::new(alloc);
     for expr in exprs {
@@ -79,10 +79,10 @@ pub fn copy_exprs(alloc: Global, exprs: &[Expr]) -> Result<List<Expr>, AllocErro
     Ok(copies)
 }
 
-/// Copies of some expressions with their names, each alike to its source.
-#[tactic(auto, using(crate::proofs::Copies::each_next))]
+/// Copies of some expressions with their names, in their order.
+#[tactic(auto, using(crate::proofs::Copies::copied_next))]
 pub fn copy_named_exprs(alloc: Global, exprs: &[NamedExpr]) -> Result<List<NamedExpr>, AllocError>
-    ensures { IfOk result (λ copies. EachAlike NamedAlike exprs.now copies) }
+    ensures { IfOk result (λ copies. named_formulas_of copies ≡ named_formulas_of exprs.now) }
 {
     let mut copies = List::new(alloc);
     for expr in exprs {

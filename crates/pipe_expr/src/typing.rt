@@ -1,10 +1,11 @@
 //! The type of an expression over a schema.
 
-ghost use Rattle.std.specs.Prelude.{◌≡◌, ◌⊎◌, Some, None, IfOk, IfErr};
+ghost use Rattle.std.specs.Prelude.{◌≡◌, Some, None, IfOk, IfErr};
 ghost use Rattle.std.specs.Option.{option_copied};
 ghost use Rattle.pipe_frame.specs.Cell.{eq_dtype};
-ghost use Rattle.pipe_expr.specs.Types.{type_of as expr_type_of, type_of_column, unknown_column, is_whole, literal_type, arithmetic_type, comparison_type, not_type, logic_type, null_test_type};
-ghost use Rattle.pipe_expr.specs.Typing.{type_fault};
+ghost use Rattle.pipe_expr.specs.Formula.{formula_of};
+ghost use Rattle.pipe_expr.specs.Types.{type_of as expr_type_of, type_of_column, unknown_column, is_integer, literal_type, arithmetic_type, comparison_type, not_type, logic_type, null_test_type};
+ghost use Rattle.pipe_expr.specs.Typing.{IsTold};
 
 use crate::error::ExprError;
 use crate::expr::Expr;
@@ -30,13 +31,17 @@ pub fn column_type(name: &Text, schema: &[Field]) -> Option<DataType>
     None
 }
 
-/// Whether it is one of the whole-number types.
-fn is_whole_number(dtype: DataType) -> bool
-    ensures { result ≡ is_whole dtype }
+/// Whether it is one of the integer types.
+fn is_integer_type(dtype: DataType) -> bool
+    ensures { result ≡ is_integer dtype }
 {
     match dtype {
-        DataType::Int32 | DataType::Int64 | DataType::UInt32 | DataType::UInt64 => true,
-        _ => false,
+        DataType::Int32
+        | DataType::Int64
+        | DataType::UInt32
+        | DataType::UInt64
+        | DataType::Int128 => true,
+        DataType::Boolean | DataType::String | DataType::Binary => false,
     }
 }
 
@@ -53,7 +58,7 @@ fn arithmetic(left: Option<DataType>, right: Option<DataType>) -> Option<DataTyp
 {
     match (left, right) {
         (Some(left), Some(right)) => {
-            if is_same_type(left, right) && is_whole_number(left) {
+            if is_same_type(left, right) && is_integer_type(left) {
                 Some(left)
             } else {
                 None
@@ -123,7 +128,7 @@ fn null_test(inner: Option<DataType>) -> Option<DataType>
 
 /// The type of an expression over some fields, none where it has none.
 pub fn expr_type(expr: &Expr, schema: &[Field]) -> Option<DataType>
-    ensures { result ≡ expr_type_of expr.now schema.now }
+    ensures { result ≡ expr_type_of (formula_of expr.now) schema.now }
 {
     match expr {
         Expr::Col(name) => column_type(name, schema),
@@ -150,7 +155,7 @@ pub fn expr_type(expr: &Expr, schema: &[Field]) -> Option<DataType>
 /// The first name of an expression, read left to right, that no field has.
 #[tactic(auto, using(crate::proofs::Known::known_rules))]
 pub fn unknown_name<'e>(expr: &'e Expr, schema: &[Field]) -> Option<&'e Text>
-    ensures { option_copied result ≡ unknown_column schema.now expr.now }
+    ensures { option_copied result ≡ unknown_column schema.now (formula_of expr.now) }
 {
     match expr {
         Expr::Col(name) => match column_type(name, schema) {
@@ -181,8 +186,8 @@ pub fn unknown_name<'e>(expr: &'e Expr, schema: &[Field]) -> Option<&'e Text>
 /// The type of an expression over a schema. `UnknownColumn` with the first name, read left to right, that no column
 /// has; `TypeMismatch` exactly where all names are known and there is no type. Only the copy of a name takes memory.
 pub fn type_of(alloc: Global, expr: &Expr, schema: &Schema) -> Result<DataType, ExprError>
-    ensures ok { IfOk result (λ t. expr_type_of expr.now schema.now ≡ Some t) }
-    ensures err { IfErr result (λ e. (e ≡ ExprError.Memory) ⊎ (type_fault expr.now schema.now ≡ Some e)) }
+    ensures ok { IfOk result (λ t. expr_type_of (formula_of expr.now) schema.now ≡ Some t) }
+    ensures err { IfErr result (λ e. IsTold (formula_of expr.now) schema.now e) }
 {
     let fields = schema.fields();
     match unknown_name(expr, fields) {
