@@ -2,6 +2,10 @@
 pub mod Walk
 -- the numbers of a good run
 pub mod Config
+-- nodes, with formulas in place of expressions
+pub mod Node
+-- a plan: nodes and tables
+pub mod Plan
 -- the nodes under the root
 pub mod Under
 -- the output schema of a node
@@ -10,7 +14,5 @@ pub mod Schemas
 pub mod PlanRows
 -- when a plan is well-formed, and which fault it has else
 pub mod Faults
--- the jobs that can be run so far
-pub mod First
 -- which side of a join is built
 pub mod Swap
