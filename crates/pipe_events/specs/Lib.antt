@@ -1,0 +1,5 @@
+pub mod Stages
+pub mod Worlds
+pub mod Schedules
+pub mod PlanStages
+pub mod Decided
