@@ -1,10 +1,10 @@
 -- A table of the first nodes, made one node at a time, is the walk.
-use Rattle.std.proofs.Common.{◌≡◌, ℕ, zero, suc, ◌+◌, ◌<◌, ◌≤◌, Bool, true, false, eqb, get_or, List, [], ◌∷◌, ◌++◌, map, refl, ap, sym, ◌∙◌, arith, ◌⊎◌, inl, inr}
+use Rattle.std.proofs.Common.{◌≡◌, ℕ, zero, suc, ◌+◌, ◌<◌, ◌≤◌, Bool, true, false, eqb, get_or, length, List, [], ◌∷◌, ◌++◌, map, refl, ap, sym, ◌∙◌, arith, ◌⊎◌, inl, inr}
 use Rattle.std.specs.Prelude.{◌||◌}
 use Rattle.std.specs.List.{range_with_len, list_any}
 use Rattle.std.proofs.lemmas.Bool.{cases_lt}
 use Rattle.std.proofs.lemmas.Bool.Decides.{Decides-eqb}
-use Rattle.std.proofs.lemmas.List.{get_or_past}
+use Rattle.std.proofs.lemmas.List.{get_or_past, get_or_default, get_or-map}
 use Rattle.std.proofs.lemmas.List.FromFn.{get_or-map-range_with_len, length-map-range_with_len, map-range_with_len_more}
 use Rattle.pipe_frame.specs.declared.field.Field.{Field}
 use Rattle.pipe_frame.specs.Rows.{Row}
@@ -12,8 +12,11 @@ use Rattle.pipe_plan.specs.Walk.{walk}
 use Rattle.pipe_plan.specs.Under.{node_at, reaches_at, inputs_of}
 use Rattle.pipe_plan.specs.Schemas.{node_schema, schema_at}
 use Rattle.pipe_plan.specs.PlanRows.{node_rows, rows_at}
-use Rattle.pipe_plan.specs.declared.arena.Arena.{Arena}
+use Rattle.pipe_plan.specs.Node.{Node, node_of}
+use Rattle.pipe_plan.specs.Node as node
+use Rattle.pipe_plan.specs.Plan.{Plan}
 use Rattle.pipe_plan.specs.declared.ir.IR.{IR}
+use Rattle.pipe_plan.specs.declared.ir.IR.TheVariants as ir
 use Rattle.pipe_plain.specs.Tables.{table, at_place}
 
 different : (n m : ℕ) → (n ≡ m → ⊥) → eqb n m ≡ false
@@ -52,21 +55,27 @@ table-more none f k =
     let all : table none f (k + 1) ≡ map (walk none f (suc k)) (range_with_len 0 k) ++ walk none f (suc k) k ∷ [] = ap (λ j. map (walk none f j) (range_with_len 0 (k + 1))) next ∙ map-range_with_len_more (walk none f (suc k)) 0 k k (omega arith) in
     all ∙ rw (low, self) refl
 
-pub schemas-more : (arena : Arena) (k : ℕ) (schemas : List (List Field)) (x : IR) (made : List Field) → schemas ≡ table [] (schema_at arena) k → x ≡ node_at arena.nodes k → made ≡ node_schema arena.frames (at_place [] schemas) x → schemas ++ made ∷ [] ≡ table [] (schema_at arena) (k + 1)
-schemas-more arena k schemas x made s n m =
-    let below : at_place [] schemas ≡ walk [] (schema_at arena) k = ap (at_place []) s ∙ table-walks [] (schema_at arena) k in
-    let here : made ≡ schema_at arena (walk [] (schema_at arena) k) k = m ∙ ap (λ b. node_schema arena.frames b x) below ∙ ap (node_schema arena.frames (walk [] (schema_at arena) k)) n in
-    rw (here, s) (sym (table-more [] (schema_at arena) k))
+-- the node that stands at a place
+pub node-there : (nodes : List IR) (k : ℕ) (x : IR) → k < length nodes → x ≡ get_or nodes k x → node_of x ≡ node_at (map node_of nodes) k
+node-there nodes k x within is =
+    let none : IR = ir.Union [] in
+    ap node_of (is ∙ get_or_default nodes k x none within) ∙ sym (get_or-map node_of nodes k none (node.Union []) within)
 
-pub rows-more : (arena : Arena) (k : ℕ) (schemas : List (List Field)) (tables : List (List Row)) (x : IR) (made : List Row) → schemas ≡ table [] (schema_at arena) k → tables ≡ table [] (rows_at arena) k → x ≡ node_at arena.nodes k → made ≡ node_rows arena.frames (at_place [] schemas) (at_place [] tables) x → tables ++ made ∷ [] ≡ table [] (rows_at arena) (k + 1)
-rows-more arena k schemas tables x made s t n m =
-    let fields : at_place [] schemas ≡ walk [] (schema_at arena) k = ap (at_place []) s ∙ table-walks [] (schema_at arena) k in
-    let below : at_place [] tables ≡ walk [] (rows_at arena) k = ap (at_place []) t ∙ table-walks [] (rows_at arena) k in
-    let here : made ≡ rows_at arena (walk [] (rows_at arena) k) k =
-    m ∙ ap (λ b. node_rows arena.frames b (at_place [] tables) x) fields ∙ ap (λ b. node_rows arena.frames (walk [] (schema_at arena) k) b x) below ∙ ap (node_rows arena.frames (walk [] (schema_at arena) k) (walk [] (rows_at arena) k)) n in
-    rw (here, t) (sym (table-more [] (rows_at arena) k))
+pub schemas-more : (plan : Plan) (k : ℕ) (schemas : List (List Field)) (x : Node) (made : List Field) → schemas ≡ table [] (schema_at plan) k → x ≡ node_at plan.nodes k → made ≡ node_schema plan.frames (at_place [] schemas) x → schemas ++ made ∷ [] ≡ table [] (schema_at plan) (k + 1)
+schemas-more plan k schemas x made s n m =
+    let below : at_place [] schemas ≡ walk [] (schema_at plan) k = ap (at_place []) s ∙ table-walks [] (schema_at plan) k in
+    let here : made ≡ schema_at plan (walk [] (schema_at plan) k) k = m ∙ ap (λ b. node_schema plan.frames b x) below ∙ ap (node_schema plan.frames (walk [] (schema_at plan) k)) n in
+    rw (here, s) (sym (table-more [] (schema_at plan) k))
 
-pub under-more : (nodes : List IR) (n k : ℕ) (marks : List Bool) (x : IR) (made : Bool) → marks ≡ table false (reaches_at nodes n) k → x ≡ node_at nodes k → made ≡ (eqb k n || list_any (at_place false marks) (inputs_of x)) → marks ++ made ∷ [] ≡ table false (reaches_at nodes n) (k + 1)
+pub rows-more : (plan : Plan) (k : ℕ) (schemas : List (List Field)) (tables : List (List Row)) (x : Node) (made : List Row) → schemas ≡ table [] (schema_at plan) k → tables ≡ table [] (rows_at plan) k → x ≡ node_at plan.nodes k → made ≡ node_rows plan.frames (at_place [] schemas) (at_place [] tables) x → tables ++ made ∷ [] ≡ table [] (rows_at plan) (k + 1)
+rows-more plan k schemas tables x made s t n m =
+    let fields : at_place [] schemas ≡ walk [] (schema_at plan) k = ap (at_place []) s ∙ table-walks [] (schema_at plan) k in
+    let below : at_place [] tables ≡ walk [] (rows_at plan) k = ap (at_place []) t ∙ table-walks [] (rows_at plan) k in
+    let here : made ≡ rows_at plan (walk [] (rows_at plan) k) k =
+    m ∙ ap (λ b. node_rows plan.frames b (at_place [] tables) x) fields ∙ ap (λ b. node_rows plan.frames (walk [] (schema_at plan) k) b x) below ∙ ap (node_rows plan.frames (walk [] (schema_at plan) k) (walk [] (rows_at plan) k)) n in
+    rw (here, t) (sym (table-more [] (rows_at plan) k))
+
+pub under-more : (nodes : List Node) (n k : ℕ) (marks : List Bool) (x : Node) (made : Bool) → marks ≡ table false (reaches_at nodes n) k → x ≡ node_at nodes k → made ≡ (eqb k n || list_any (at_place false marks) (inputs_of x)) → marks ++ made ∷ [] ≡ table false (reaches_at nodes n) (k + 1)
 under-more nodes n k marks x made t e m =
     let below : at_place false marks ≡ walk false (reaches_at nodes n) k = ap (at_place false) t ∙ table-walks false (reaches_at nodes n) k in
     let here : made ≡ reaches_at nodes n (walk false (reaches_at nodes n) k) k = m ∙ ap (λ b. eqb k n || list_any b (inputs_of x)) below ∙ ap (λ y. eqb k n || list_any (walk false (reaches_at nodes n) k) (inputs_of y)) e in

@@ -1,6 +1,10 @@
 -- which comparison is meant
 pub mod Comparisons
--- what expressions make of two operands
+-- what differs from the first of several
+pub mod Differences
+-- the errors of a node that tell no name
+pub mod Nameless
+-- what formulas make of two operands
 pub mod Operands
 -- the settings of a join
 pub mod Sides

@@ -1,9 +1,14 @@
 //! When a node is a bad one: an input isn't smaller, stands twice or is read below; or the node is void.
 
-ghost use Rattle.std.specs.Prelude.{◌≡◌, ◌==◌, ◌&&◌, [], nat_le, IfOk};
+ghost use Rattle.std.specs.Prelude.{◌≡◌, ◌==◌, map, nat_le, IfOk};
 ghost use Rattle.std.specs.List.{list_any};
-ghost use Rattle.pipe_plan.specs.Under.{inputs_of, node_at, is_under};
+ghost use Rattle.pipe_plan.specs.Node.{node_of};
+ghost use Rattle.pipe_plan.specs.Plan.{plan_of};
+ghost use Rattle.pipe_plan.specs.Under.{node_at};
 ghost use Rattle.pipe_plan.specs.Faults.{is_empty, repeats, is_read_below, names_nothing, is_void, is_bad_node};
+ghost use Rattle.pipe_plan.specs.Faults.{has_input as node_has_input};
+ghost use Rattle.pipe_plan.specs.Faults.{is_reader as reads_under};
+ghost use Rattle.pipe_plan.specs.Faults.{is_void_function as is_function_void};
 
 use crate::under::{inputs, is_below};
 use pipe_expr::FunctionIR;
@@ -35,7 +40,7 @@ fn is_repeated(numbers: &[u32]) -> bool
 
 /// Whether an input isn't smaller than its node.
 fn is_any_above(numbers: &[u32], n: u32) -> bool
-    ensures { result ≡ list_any (λ i. nat_le n i) numbers.now }
+    ensures { result ≡ list_any (nat_le n) numbers.now }
 {
     for i in numbers {
         if n <= *i {
@@ -47,7 +52,7 @@ fn is_any_above(numbers: &[u32], n: u32) -> bool
 
 /// Whether a node has an input.
 fn has_input(alloc: Global, nodes: &[IR], m: u32, input: u32) -> Result<bool, AllocError>
-    ensures { IfOk result (λ holds. holds ≡ list_any (λ i. i == input) (inputs_of (node_at nodes.now m))) }
+    ensures { IfOk result (λ holds. holds ≡ node_has_input (map node_of nodes.now) input m) }
 {
     match nodes.get(m as usize) {
         Some(node) => {
@@ -66,7 +71,8 @@ fn is_reader(
     m: u32,
     input: u32,
 ) -> Result<bool, AllocError>
-    ensures { IfOk result (λ holds. holds ≡ (is_under arena.now.nodes root m && list_any (λ i. i == input) (inputs_of (node_at arena.now.nodes m)))) }
+    ensures { let nodes = map node_of arena.now.nodes in
+        IfOk result (λ holds. holds ≡ reads_under nodes root input m) }
 {
     let nodes = arena.nodes.as_slice();
     let is_there = is_below(alloc, nodes, root, m)?;
@@ -77,7 +83,8 @@ fn is_reader(
 /// Whether a smaller node under the root has the input too.
 #[tactic(auto, using(crate::proofs::Ranges::range_rules))]
 fn is_read(alloc: Global, arena: &Arena, root: u32, n: u32, input: u32) -> Result<bool, AllocError>
-    ensures { IfOk result (λ holds. holds ≡ is_read_below arena.now root n input) }
+    ensures { let nodes = map node_of arena.now.nodes in
+        IfOk result (λ holds. holds ≡ is_read_below nodes root n input) }
 {
     for m in 0..n {
         if is_reader(alloc, arena, root, m, input)? {
@@ -95,7 +102,8 @@ fn is_any_read(
     n: u32,
     numbers: &[u32],
 ) -> Result<bool, AllocError>
-    ensures { IfOk result (λ holds. holds ≡ list_any (is_read_below arena.now root n) numbers.now) }
+    ensures { let nodes = map node_of arena.now.nodes in
+        IfOk result (λ holds. holds ≡ list_any (is_read_below nodes root n) numbers.now) }
 {
     for input in numbers {
         if is_read(alloc, arena, root, n, *input)? {
@@ -127,22 +135,39 @@ pub(crate) fn is_none_there<T>(items: &[T]) -> bool
 
 /// A scan of no frame, a union of nothing, an output without columns, an unpivot of no column.
 fn is_void_node(frames: &[DataFrame], node: &IR) -> bool
-    ensures { result ≡ is_void frames.now node.now }
+    ensures { result ≡ is_void frames.now (node_of node.now) }
 {
     match node {
-        IR::DataFrameScan { frame, columns } => frames.len() <= *frame as usize
-            || is_nothing_named(columns),
+        IR::DataFrameScan { frame, columns } => {
+            frames.len() <= *frame as usize || is_nothing_named(columns)
+        }
         IR::SimpleProjection { input: _, columns } => is_none_there(columns.as_slice()),
         IR::Select { input: _, exprs } => is_none_there(exprs.as_slice()),
         IR::Union { inputs } => is_none_there(inputs.as_slice()),
         IR::MapFunction { input: _, function } => is_void_function(function),
-        _ => false,
+        IR::Filter {
+            input: _,
+            predicate: _,
+        } => false,
+        IR::HStack { input: _, exprs: _ } => false,
+        IR::Join {
+            left: _,
+            right: _,
+            left_on: _,
+            right_on: _,
+            options: _,
+        } => false,
+        IR::Sort {
+            input: _,
+            by: _,
+            options: _,
+        } => false,
     }
 }
 
 /// An unpivot of no column.
 fn is_void_function(function: &FunctionIR) -> bool
-    ensures { result ≡ is_void [] (IR.MapFunction 0 function.now) }
+    ensures { result ≡ is_function_void function.now }
 {
     match function {
         FunctionIR::Unpivot {
@@ -163,8 +188,8 @@ pub(crate) fn is_bad(
     n: u32,
     node: &IR,
 ) -> Result<bool, AllocError>
-    requires { node.now ≡ node_at arena.now.nodes n }
-    ensures { IfOk result (λ holds. holds ≡ is_bad_node arena.now root n) }
+    requires { node_of node.now ≡ node_at (map node_of arena.now.nodes) n }
+    ensures { IfOk result (λ holds. holds ≡ is_bad_node (plan_of arena.now) root n) }
 {
     let numbers = inputs(alloc, node)?;
     let is_read = is_any_read(alloc, arena, root, n, numbers.as_slice())?;

@@ -4,14 +4,16 @@ ghost use Rattle.std.specs.Prelude.{◌≡◌, ◌++◌, [], ◌∷◌, map, IfO
 ghost use Rattle.std.specs.List.{flat_map};
 ghost use Rattle.std.specs.Option.{option_copied};
 ghost use Rattle.pipe_frame.specs.Schema.{has_name, names_of, first_repeated};
+ghost use Rattle.pipe_expr.specs.Formula.{formula_of, named_formula_of};
 ghost use Rattle.pipe_expr.specs.Types.{columns_in};
-ghost use Rattle.pipe_expr.specs.Types.{first_unknown as unknown_among};
+ghost use Rattle.pipe_frame.specs.Schema.{first_unknown as unknown_among};
 ghost use Rattle.pipe_expr.specs.Projections.{expr_name};
+ghost use Rattle.pipe_plan.specs.Node.{node_of};
 ghost use Rattle.pipe_plan.specs.Schemas.{frame_at, node_schema};
-ghost use Rattle.pipe_plan.specs.Faults.{or_else, expr_columns, existing_of, function_names, unknown_scanned, unknown_in, once_names, duplicate_in};
+ghost use Rattle.pipe_plan.specs.Faults.{or_else, expr_columns, existing_of, function_names, unknown_scanned, unknown_in, once_named, once_names, duplicate_in, repeats_name};
 ghost use Rattle.pipe_plain.specs.Tables.{at_place};
 
-use crate::plan::{fields_at, fields_of_node, frame_fields};
+use crate::node_schemas::{fields_at, fields_of_node, frame_fields};
 use crate::projections::is_named;
 use pipe_expr::{Expr, FunctionIR, NamedExpr, RenamePair};
 use pipe_frame::{DataFrame, Field, List, Text, TryClone};
@@ -50,7 +52,7 @@ fn one_name(alloc: Global, name: &Text) -> Result<List<Text>, AllocError>
 
 /// The columns that an expression names, read left to right.
 fn columns(alloc: Global, expr: &Expr) -> Result<List<Text>, AllocError>
-    ensures { IfOk result (λ names. names ≡ columns_in expr.now) }
+    ensures { IfOk result (λ names. names ≡ columns_in (formula_of expr.now)) }
 {
     match expr {
         Expr::Col(name) => one_name(alloc, name),
@@ -72,7 +74,7 @@ fn columns(alloc: Global, expr: &Expr) -> Result<List<Text>, AllocError>
 
 /// The columns that some expressions name.
 fn columns_of_exprs(alloc: Global, exprs: &[Expr]) -> Result<List<Text>, AllocError>
-    ensures { IfOk result (λ names. names ≡ flat_map columns_in exprs.now) }
+    ensures { IfOk result (λ names. names ≡ flat_map columns_in (map formula_of exprs.now)) }
 {
     let mut names = List::new(alloc);
     for expr in exprs {
@@ -83,7 +85,8 @@ fn columns_of_exprs(alloc: Global, exprs: &[Expr]) -> Result<List<Text>, AllocEr
 
 /// The columns that some named expressions name.
 fn columns_of_named(alloc: Global, exprs: &[NamedExpr]) -> Result<List<Text>, AllocError>
-    ensures { IfOk result (λ names. names ≡ flat_map expr_columns exprs.now) }
+    ensures { let formulas = map named_formula_of exprs.now in
+        IfOk result (λ names. names ≡ flat_map expr_columns formulas) }
 {
     let mut names = List::new(alloc);
     for expr in exprs {
@@ -155,7 +158,10 @@ fn missing_keys(
     left_on: &[Expr],
     right_on: &[Expr],
 ) -> Result<Option<Text>, AllocError>
-    ensures { IfOk result (λ name. name ≡ or_else (unknown_among left.now (flat_map columns_in left_on.now)) (unknown_among right.now (flat_map columns_in right_on.now))) }
+    ensures { let left_names = flat_map columns_in (map formula_of left_on.now) in
+        let right_names = flat_map columns_in (map formula_of right_on.now) in
+        let in_left = unknown_among left.now left_names in
+        IfOk result (λ name. name ≡ or_else in_left (unknown_among right.now right_names)) }
 {
     let names = columns_of_exprs(alloc, left_on)?;
     match first_missing(left, names.as_slice())? {
@@ -173,7 +179,8 @@ fn missing_named(
     schema: &[Field],
     exprs: &[NamedExpr],
 ) -> Result<Option<Text>, AllocError>
-    ensures { IfOk result (λ name. name ≡ unknown_among schema.now (flat_map expr_columns exprs.now)) }
+    ensures { let names = flat_map expr_columns (map named_formula_of exprs.now) in
+        IfOk result (λ name. name ≡ unknown_among schema.now names) }
 {
     let names = columns_of_named(alloc, exprs)?;
     Ok(first_missing(schema, names.as_slice())?)
@@ -181,7 +188,8 @@ fn missing_named(
 
 /// The first name of a predicate that a schema lacks.
 fn missing_in_expr(alloc: Global, schema: &[Field], expr: &Expr) -> Result<Option<Text>, AllocError>
-    ensures { IfOk result (λ name. name ≡ unknown_among schema.now (columns_in expr.now)) }
+    ensures { let names = columns_in (formula_of expr.now) in
+        IfOk result (λ name. name ≡ unknown_among schema.now names) }
 {
     let names = columns(alloc, expr)?;
     Ok(first_missing(schema, names.as_slice())?)
@@ -206,37 +214,25 @@ pub(crate) fn unknown(
     schemas: &[List<Field>],
     node: &IR,
 ) -> Result<Option<Text>, AllocError>
-    ensures { IfOk result (λ name. name ≡ unknown_in frames.now (at_place [] schemas.now) node.now) }
+    ensures { let schema = at_place [] schemas.now in
+        IfOk result (λ name. name ≡ unknown_in frames.now schema (node_of node.now)) }
 {
     match node {
-        IR::DataFrameScan { frame, columns } => missing_scanned(
-            frame_fields(frames, *frame),
-            columns,
-        ),
-        IR::Filter { input, predicate } => missing_in_expr(
-            alloc,
-            fields_at(schemas, *input),
-            predicate,
-        ),
-        IR::SimpleProjection { input, columns } => first_missing(
-            fields_at(schemas, *input),
-            columns.as_slice(),
-        ),
-        IR::Select { input, exprs } => missing_named(
-            alloc,
-            fields_at(schemas, *input),
-            exprs.as_slice(),
-        ),
-        IR::HStack { input, exprs } => missing_named(
-            alloc,
-            fields_at(schemas, *input),
-            exprs.as_slice(),
-        ),
-        IR::MapFunction { input, function } => missing_in_function(
-            alloc,
-            fields_at(schemas, *input),
-            function,
-        ),
+        IR::DataFrameScan { frame, columns } => {
+            missing_scanned(frame_fields(frames, *frame), columns)
+        }
+        IR::Filter { input, predicate } => {
+            missing_in_expr(alloc, fields_at(schemas, *input), predicate)
+        }
+        IR::SimpleProjection { input, columns } => {
+            first_missing(fields_at(schemas, *input), columns.as_slice())
+        }
+        IR::Select { input, exprs } | IR::HStack { input, exprs } => {
+            missing_named(alloc, fields_at(schemas, *input), exprs.as_slice())
+        }
+        IR::MapFunction { input, function } => {
+            missing_in_function(alloc, fields_at(schemas, *input), function)
+        }
         IR::Union { inputs: _ } => Ok(None),
         IR::Join {
             left,
@@ -245,13 +241,9 @@ pub(crate) fn unknown(
             right_on,
             options: _,
         } => {
-            missing_keys(
-                alloc,
-                fields_at(schemas, *left),
-                fields_at(schemas, *right),
-                left_on.as_slice(),
-                right_on.as_slice(),
-            )
+            let left = fields_at(schemas, *left);
+            let right = fields_at(schemas, *right);
+            missing_keys(alloc, left, right, left_on.as_slice(), right_on.as_slice())
         }
         IR::Sort {
             input,
@@ -276,7 +268,7 @@ fn is_among_names(names: &[Text], name: &Text) -> bool
 }
 
 /// The first of some names that stands again further on.
-pub(crate) fn repeated_name(names: &[Text]) -> Result<Option<Text>, AllocError>
+fn repeated_name(names: &[Text]) -> Result<Option<Text>, AllocError>
     ensures { IfOk result (λ name. name ≡ first_repeated names.now) }
 {
     match names.split_first() {
@@ -288,6 +280,16 @@ pub(crate) fn repeated_name(names: &[Text]) -> Result<Option<Text>, AllocError>
             }
         }
         None => Ok(None),
+    }
+}
+
+/// Whether a name stands twice among some.
+pub(crate) fn is_name_repeated(names: &[Text]) -> Result<bool, AllocError>
+    ensures { IfOk result (λ holds. holds ≡ repeats_name names.now) }
+{
+    match repeated_name(names)? {
+        Some(_) => Ok(true),
+        None => Ok(false),
     }
 }
 
@@ -304,7 +306,7 @@ fn field_names(alloc: Global, fields: &[Field]) -> Result<List<Text>, AllocError
 
 /// The names of some expressions.
 fn expr_names(alloc: Global, exprs: &[NamedExpr]) -> Result<List<Text>, AllocError>
-    ensures { IfOk result (λ names. names ≡ map expr_name exprs.now) }
+    ensures { IfOk result (λ names. names ≡ map expr_name (map named_formula_of exprs.now)) }
 {
     let mut names = List::new(alloc);
     for expr in exprs {
@@ -315,7 +317,7 @@ fn expr_names(alloc: Global, exprs: &[NamedExpr]) -> Result<List<Text>, AllocErr
 
 /// The names that a function may name but once.
 fn function_once(alloc: Global, function: &FunctionIR) -> Result<List<Text>, AllocError>
-    ensures { IfOk result (λ names. names ≡ once_names (IR.MapFunction 0 function.now)) }
+    ensures { IfOk result (λ names. names ≡ once_named function.now) }
 {
     match function {
         FunctionIR::Unpivot {
@@ -330,12 +332,37 @@ fn function_once(alloc: Global, function: &FunctionIR) -> Result<List<Text>, All
 
 /// The names that a node may name but once.
 fn once(alloc: Global, node: &IR) -> Result<List<Text>, AllocError>
-    ensures { IfOk result (λ names. names ≡ once_names node.now) }
+    ensures { IfOk result (λ names. names ≡ once_names (node_of node.now)) }
 {
     match node {
         IR::HStack { input: _, exprs } => Ok(expr_names(alloc, exprs.as_slice())?),
         IR::MapFunction { input: _, function } => Ok(function_once(alloc, function)?),
-        _ => Ok(List::new(alloc)),
+        IR::DataFrameScan {
+            frame: _,
+            columns: _,
+        } => Ok(List::new(alloc)),
+        IR::Filter {
+            input: _,
+            predicate: _,
+        } => Ok(List::new(alloc)),
+        IR::SimpleProjection {
+            input: _,
+            columns: _,
+        } => Ok(List::new(alloc)),
+        IR::Select { input: _, exprs: _ } => Ok(List::new(alloc)),
+        IR::Union { inputs: _ } => Ok(List::new(alloc)),
+        IR::Join {
+            left: _,
+            right: _,
+            left_on: _,
+            right_on: _,
+            options: _,
+        } => Ok(List::new(alloc)),
+        IR::Sort {
+            input: _,
+            by: _,
+            options: _,
+        } => Ok(List::new(alloc)),
     }
 }
 
@@ -346,7 +373,8 @@ pub(crate) fn duplicate(
     schemas: &[List<Field>],
     node: &IR,
 ) -> Result<Option<Text>, AllocError>
-    ensures { IfOk result (λ name. name ≡ duplicate_in frames.now (at_place [] schemas.now) node.now) }
+    ensures { let schema = at_place [] schemas.now in
+        IfOk result (λ name. name ≡ duplicate_in frames.now schema (node_of node.now)) }
 {
     let fields = fields_of_node(alloc, frames, schemas, node)?;
     let names = field_names(alloc, fields.as_slice())?;

@@ -1,7 +1,8 @@
 //! The nodes under a root.
 
-ghost use Rattle.std.specs.Prelude.{◌≡◌, ℕ, [], ◌∷◌, ◌==◌, ◌||◌, length, false, IfOk};
+ghost use Rattle.std.specs.Prelude.{◌≡◌, ℕ, [], ◌∷◌, ◌==◌, ◌||◌, length, map, false, IfOk};
 ghost use Rattle.std.specs.List.{list_any};
+ghost use Rattle.pipe_plan.specs.Node.{node_of};
 ghost use Rattle.pipe_plan.specs.Under.{inputs_of, reaches_at, is_under};
 ghost use Rattle.pipe_plain.specs.Tables.{table, at_place};
 
@@ -20,7 +21,7 @@ fn one(alloc: Global, input: u32) -> Result<List<u32>, AllocError>
 
 /// The inputs of a node, in the order of its members.
 pub(crate) fn inputs(alloc: Global, node: &IR) -> Result<List<u32>, AllocError>
-    ensures { IfOk result (λ inputs. inputs ≡ inputs_of node.now) }
+    ensures { IfOk result (λ inputs. inputs ≡ inputs_of (node_of node.now)) }
 {
     match node {
         IR::DataFrameScan {
@@ -86,7 +87,8 @@ fn is_reached(k: usize, n: u32, marks: &[bool], inputs: &[u32]) -> bool
 
 /// For each node, whether a node is it or stands under it.
 fn reaching(alloc: Global, nodes: &[IR], n: u32) -> Result<Vec<bool>, AllocError>
-    ensures { IfOk result (λ marks. marks.items ≡ table false (reaches_at nodes.now n) (length nodes.now)) }
+    ensures { let marks_at = reaches_at (map node_of nodes.now) n in
+        IfOk result (λ marks. marks.items ≡ table false marks_at (length nodes.now)) }
 {
     let mut marks = Vec::new(alloc);
     for (k, node) in nodes.iter().enumerate() {
@@ -97,8 +99,8 @@ fn reaching(alloc: Global, nodes: &[IR], n: u32) -> Result<Vec<bool>, AllocError
 }
 
 /// Whether node n is the root or stands under it.
-pub(crate) fn is_below(alloc: Global, nodes: &[IR], root: u32, n: u32) -> Result<bool, AllocError>
-    ensures { IfOk result (λ holds. holds ≡ is_under nodes.now root n) }
+pub fn is_below(alloc: Global, nodes: &[IR], root: u32, n: u32) -> Result<bool, AllocError>
+    ensures { IfOk result (λ holds. holds ≡ is_under (map node_of nodes.now) root n) }
 {
     let marks = reaching(alloc, nodes, n)?;
     Ok(mark(marks.as_slice(), root))

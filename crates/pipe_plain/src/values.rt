@@ -2,7 +2,8 @@
 
 ghost use Rattle.std.specs.Prelude.{◌≡◌, IfOk};
 ghost use Rattle.pipe_frame.specs.Schema.{place_of};
-ghost use Rattle.pipe_expr.specs.Values.{named_cell, sum_of, difference_of, product_of, both_of, either_of, opposite_of, is_missing, is_present, value_of};
+ghost use Rattle.pipe_expr.specs.Formula.{formula_of};
+ghost use Rattle.pipe_expr.specs.Values.{named_cell, truth_of, sum_of, difference_of, product_of, both_of, either_of, opposite_of, is_missing, is_present, value_of};
 ghost use Rattle.pipe_plain.specs.Operands.{operated};
 
 use crate::comparison::Comparison;
@@ -19,6 +20,7 @@ fn sum(a: &AnyValue, b: &AnyValue) -> AnyValue
         (AnyValue::Int64(a), AnyValue::Int64(b)) => AnyValue::Int64(a.wrapping_add(*b)),
         (AnyValue::UInt32(a), AnyValue::UInt32(b)) => AnyValue::UInt32(a.wrapping_add(*b)),
         (AnyValue::UInt64(a), AnyValue::UInt64(b)) => AnyValue::UInt64(a.wrapping_add(*b)),
+        (AnyValue::Int128(a), AnyValue::Int128(b)) => AnyValue::Int128(a.wrapping_add(*b)),
         _ => AnyValue::Null,
     }
 }
@@ -32,6 +34,7 @@ fn difference(a: &AnyValue, b: &AnyValue) -> AnyValue
         (AnyValue::Int64(a), AnyValue::Int64(b)) => AnyValue::Int64(a.wrapping_sub(*b)),
         (AnyValue::UInt32(a), AnyValue::UInt32(b)) => AnyValue::UInt32(a.wrapping_sub(*b)),
         (AnyValue::UInt64(a), AnyValue::UInt64(b)) => AnyValue::UInt64(a.wrapping_sub(*b)),
+        (AnyValue::Int128(a), AnyValue::Int128(b)) => AnyValue::Int128(a.wrapping_sub(*b)),
         _ => AnyValue::Null,
     }
 }
@@ -45,7 +48,18 @@ fn product(a: &AnyValue, b: &AnyValue) -> AnyValue
         (AnyValue::Int64(a), AnyValue::Int64(b)) => AnyValue::Int64(a.wrapping_mul(*b)),
         (AnyValue::UInt32(a), AnyValue::UInt32(b)) => AnyValue::UInt32(a.wrapping_mul(*b)),
         (AnyValue::UInt64(a), AnyValue::UInt64(b)) => AnyValue::UInt64(a.wrapping_mul(*b)),
+        (AnyValue::Int128(a), AnyValue::Int128(b)) => AnyValue::Int128(a.wrapping_mul(*b)),
         _ => AnyValue::Null,
+    }
+}
+
+/// The truth value of a cell, none where it is null.
+fn truth(cell: &AnyValue) -> Option<bool>
+    ensures { result ≡ truth_of cell.now }
+{
+    match cell {
+        AnyValue::Boolean(holds) => Some(*holds),
+        _ => None,
     }
 }
 
@@ -53,10 +67,10 @@ fn product(a: &AnyValue, b: &AnyValue) -> AnyValue
 fn both(a: &AnyValue, b: &AnyValue) -> AnyValue
     ensures { result ≡ both_of a.now b.now }
 {
-    match (a, b) {
-        (AnyValue::Boolean(false), _) | (_, AnyValue::Boolean(false)) => AnyValue::Boolean(false),
-        (AnyValue::Boolean(true), AnyValue::Boolean(true)) => AnyValue::Boolean(true),
-        _ => AnyValue::Null,
+    match (truth(a), truth(b)) {
+        (Some(false), _) | (_, Some(false)) => AnyValue::Boolean(false),
+        (Some(true), Some(true)) => AnyValue::Boolean(true),
+        (None, _) | (_, None) => AnyValue::Null,
     }
 }
 
@@ -64,10 +78,10 @@ fn both(a: &AnyValue, b: &AnyValue) -> AnyValue
 fn either(a: &AnyValue, b: &AnyValue) -> AnyValue
     ensures { result ≡ either_of a.now b.now }
 {
-    match (a, b) {
-        (AnyValue::Boolean(true), _) | (_, AnyValue::Boolean(true)) => AnyValue::Boolean(true),
-        (AnyValue::Boolean(false), AnyValue::Boolean(false)) => AnyValue::Boolean(false),
-        _ => AnyValue::Null,
+    match (truth(a), truth(b)) {
+        (Some(true), _) | (_, Some(true)) => AnyValue::Boolean(true),
+        (Some(false), Some(false)) => AnyValue::Boolean(false),
+        (None, _) | (_, None) => AnyValue::Null,
     }
 }
 
@@ -75,9 +89,9 @@ fn either(a: &AnyValue, b: &AnyValue) -> AnyValue
 fn opposite(a: &AnyValue) -> AnyValue
     ensures { result ≡ opposite_of a.now }
 {
-    match a {
-        AnyValue::Boolean(holds) => AnyValue::Boolean(!*holds),
-        _ => AnyValue::Null,
+    match truth(a) {
+        Some(holds) => AnyValue::Boolean(!holds),
+        None => AnyValue::Null,
     }
 }
 
@@ -135,7 +149,7 @@ pub(crate) fn cell_named(
 
 /// What an expression makes of the values of its two operands, null where it hasn't two.
 fn of_operands(expr: &Expr, a: &AnyValue, b: &AnyValue) -> AnyValue
-    ensures { result ≡ operated expr.now a.now b.now }
+    ensures { result ≡ operated (formula_of expr.now) a.now b.now }
 {
     match expr {
         Expr::Add(_, _) => sum(a, b),
@@ -149,13 +163,15 @@ fn of_operands(expr: &Expr, a: &AnyValue, b: &AnyValue) -> AnyValue
         Expr::GtEq(_, _) => Comparison::GtEq.of(a, b),
         Expr::And(_, _) => both(a, b),
         Expr::Or(_, _) => either(a, b),
-        _ => AnyValue::Null,
+        Expr::Col(_) => AnyValue::Null,
+        Expr::Lit { dtype: _, value: _ } => AnyValue::Null,
+        Expr::Not(_) | Expr::IsNull(_) | Expr::IsNotNull(_) => AnyValue::Null,
     }
 }
 
 /// The value of an expression at a row.
 pub fn value_at(expr: &Expr, schema: &[Field], row: &[AnyValue]) -> Result<AnyValue, AllocError>
-    ensures { IfOk result (λ cell. cell ≡ value_of expr.now schema.now row.now) }
+    ensures { IfOk result (λ cell. cell ≡ value_of (formula_of expr.now) schema.now row.now) }
 {
     match expr {
         Expr::Col(name) => cell_named(schema, row, name),

@@ -1,6 +1,7 @@
 use Rattle.std.proofs.Common.{◌≡◌, map, take}
+use Rattle.pipe_expr.specs.Formula.{named_formula_of}
 use Rattle.pipe_expr.specs.Projections.{expr_cell}
 use Rattle.pipe_plain.proofs.projections.selected_row.Given as goal
 
 abbrev pub invariant-loop-expr : goal.invariant-loop-expr
-invariant-loop-expr l = l.cells ≡ map (expr_cell l.schema l.row) (take l.expr-index l.exprs)
+invariant-loop-expr l = l.cells ≡ map (expr_cell l.schema l.row) (map named_formula_of (take l.expr-index l.exprs))

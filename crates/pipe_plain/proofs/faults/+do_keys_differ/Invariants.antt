@@ -1,5 +1,0 @@
-use Rattle.std.proofs.Common.{length}
-use Rattle.pipe_plain.proofs.faults.+do_keys_differ.Given as goal
-
-abbrev pub decreases-do_keys_differ : goal.decreases-do_keys_differ
-decreases-do_keys_differ l = length l.left_on.now

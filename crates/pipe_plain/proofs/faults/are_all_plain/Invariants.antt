@@ -1,7 +1,0 @@
-use Rattle.std.proofs.Common.{◌≡◌, drop}
-use Rattle.std.specs.List.{list_all}
-use Rattle.pipe_plan.specs.Faults.{is_column}
-use Rattle.pipe_plain.proofs.faults.are_all_plain.Given as goal
-
-abbrev pub invariant-loop-expr : goal.invariant-loop-expr
-invariant-loop-expr l = list_all is_column (drop l.expr-index l.exprs) ≡ list_all is_column l.exprs

@@ -1,6 +1,0 @@
-use Rattle.std.proofs.Common.{◌≡◌, map, take}
-use Rattle.pipe_expr.specs.Projections.{select_row}
-use Rattle.pipe_plain.proofs.plan.selected_rows.Given as goal
-
-abbrev pub invariant-loop-row : goal.invariant-loop-row
-invariant-loop-row l = l.made ≡ map (select_row l.schema l.exprs) (take l.row-index l.rows)
