@@ -1,12 +1,11 @@
 -- What is spelled so has the shape.
-use Rattle.std.proofs.Common.{◌≡◌, ◌<◌, ◌^◌, ℕ, ℤ, pos, negsuc, map, List, [], ◌∷◌, Bool, true, false, not, ◌&&◌, is_some, length, Option, Some, None, refl, ap, ap₂, sym, ◌∙◌, arith, rules, true≢false, ◌+◌, cond}
+use Rattle.std.proofs.Common.{◌≡◌, ◌<◌, ◌^◌, ℕ, ℤ, pos, negsuc, map, List, [], ◌∷◌, Bool, true, false, not, ◌&&◌, is_some, length, Option, Some, None, refl, inl, inr, ap, ap₂, sym, ◌∙◌, arith, rules, true≢false, ◌+◌, cond}
 use Rattle.std.proofs.lemmas.Bool.Decides.{nat_tests, Decides-eqb}
 use Rattle.std.specs.List.{AllByRecursion}
 use Rattle.std.specs.Prelude.{FitsSigned}
-use Rattle.std.specs.Int.{w32, w64}
+use Rattle.std.specs.Int.{w32, w64, w128}
 use Rattle.std.specs.Str.{bytes_eq}
 use Rattle.hex.specs.Hex.{encode_lower, IsBytes}
-use Rattle.hex.proofs.HexLemmas.{decode_of-encode_lower}
 use Rattle.serde_json.specs.Data.{Data, boolean, number, unsigned, string}
 use Rattle.serde_json.specs.Find.{of_integer}
 use Rattle.pipe_frame.specs.declared.any_value.AnyValue.{AnyValue}
@@ -20,27 +19,28 @@ use Rattle.pipe_frame.specs.declared.field.Field.{Field}
 use Rattle.pipe_frame.specs.Rows.{Row}
 use Rattle.std.proofs.lemmas.List.{length-map}
 use Rattle.pipe_frame.specs.Frame.{Table, columns_from, cell_of_row, columns_of, field_of, other_height, differing, else_fault, frame_fault}
-use Rattle.pipe_expr.specs.declared.expr.Expr.{Expr, Col, Lit, Add', Sub', Mul', Eq', NotEq', Lt', LtEq', Gt', GtEq', And', Or', Not', IsNull', IsNotNull'}
-use Rattle.pipe_expr.specs.declared.expr.NamedExpr.{NamedExpr}
+use Rattle.pipe_expr.specs.Formula.{Formula, Column, Literal, Add, Sub, Mul, Eq, NotEq, Lt, LtEq, Gt, GtEq, And, Or, Not, IsNull, IsNotNull, NamedFormula}
 use Rattle.pipe_expr.specs.declared.join_words.JoinType.{JoinType}
 use Rattle.pipe_expr.specs.declared.join_words.JoinType.TheVariants as how
 use Rattle.pipe_expr.specs.declared.join_words.JoinCoalesce.{JoinCoalesce}
 use Rattle.pipe_expr.specs.declared.join_words.JoinCoalesce.TheVariants as coalesce
 use Rattle.pipe_expr.specs.declared.join_words.RenamePair.{RenamePair}
 use Rattle.pipe_expr.specs.declared.join_words.FunctionIR.TheVariants as function
-use Rattle.pipe_plan.specs.declared.ir.IR.{IR}
-use Rattle.pipe_plan.specs.declared.ir.IR.TheVariants as node
+use Rattle.pipe_plan.specs.Node.{Node}
+use Rattle.pipe_plan.specs.Node as node
 use Rattle.pipe_plan.specs.declared.ir.RowsHint.{RowsHint}
 use Rattle.pipe_plan.specs.declared.ir.PlanSlice.{PlanSlice}
-use Rattle.pipe_job.specs.Spelling.{maybe, MaybeFits, list, whole, type_name, cell_spelling, FitsType}
-use Rattle.pipe_job.specs.ExprSpelling.{expr_spelling, ExprFits, named_spelling, NamedFits}
-use Rattle.pipe_job.specs.PlanSpelling.{how_spelling, coalesce_spelling, hint_spelling, HintFits, pair_spelling, slice_spelling, SliceFits, node_spelling, NodeFits, Fits32}
+use Rattle.pipe_job.specs.Spelling.{maybe, MaybeFits, list, whole, decimal_spelling, type_name, cell_spelling, FitsType}
+use Rattle.pipe_job.specs.FormulaSpelling.{formula_spelling, FormulaFits, named_spelling, NamedFits}
+use Rattle.pipe_job.specs.NodeSpelling.{how_spelling, coalesce_spelling, hint_spelling, HintFits, pair_spelling, slice_spelling, SliceFits, node_spelling, NodeFits, Fits32}
 use Rattle.pipe_job.specs.FrameSpelling.{column_spelling, ColumnFits, frame_spelling, FrameFits}
-use Rattle.pipe_job.specs.JobSpelling.{job_spelling, JobFits, Spells}
-use Rattle.pipe_job.specs.Shape.{is_how, is_coalesce, is_hint, is_pair, is_unsigned, is_signed, is_hex, is_encoded, is_cell, is_maybe, is_list, is_text, is_truth, is_expr, is_named, is_slice, is_column, is_table, is_frame, type_named}
-use Rattle.pipe_job.specs.Kinds.{is_node, is_job}
+use Rattle.pipe_job.specs.JobSpelling.{Task, task_spelling, PartsFit, Spells}
+use Rattle.pipe_job.specs.Version.{VersionFits}
+use Rattle.pipe_job.specs.Shape.{is_how, is_coalesce, is_hint, is_pair, is_unsigned, is_signed, is_hex, is_decimal, is_cell, is_maybe, is_list, is_text, is_truth, is_expr, is_named, is_slice, is_column, is_table, is_frame, type_named}
+use Rattle.pipe_job.specs.Kinds.{is_node, is_version, is_job}
+use Rattle.pipe_job.proofs.Decimals.{decimal_again}
+use Rattle.pipe_job.proofs.Hexes.{hex_text}
 use Rattle.pipe_job.proofs.FrameTests.{fault_outlined}
-use Rattle.pipe_job.specs.declared.jobs.Job.{Job}
 
 -- ---- numbers and bytes
 
@@ -55,11 +55,8 @@ int32_again : (z : ℤ) → FitsSigned w32 z → is_signed 31 (number (of_intege
 int32_again (pos n) h = grind (arith, nat_tests)
 int32_again (negsuc n) h = grind (arith, nat_tests)
 
-same_bytes : (s : List ℕ) → bytes_eq s s ≡ true
-same_bytes s = search rules
-
 hex_again : (b : List ℕ) → IsBytes b → is_hex (string (encode_lower b)) ≡ true
-hex_again b h = ap (is_encoded (encode_lower b)) (decode_of-encode_lower b h) ∙ same_bytes (encode_lower b)
+hex_again b h = hex_text b h
 
 -- ---- lists
 
@@ -93,46 +90,47 @@ type_again dtype.UInt64 = refl
 type_again dtype.Boolean = refl
 type_again dtype.String = refl
 type_again dtype.Binary = refl
+type_again dtype.Int128 = refl
 
 null_again : (t : DataType) → is_cell t (cell_spelling cell.Null) ≡ true
 null_again t = refl
 
 cell_again : (t : DataType) (c : AnyValue) → FitsType t c → is_cell t (cell_spelling c) ≡ true
 cell_again t cell.Null h = null_again t
-cell_again dtype.Int32 (cell.Int32 z) h = int32_again z h
-cell_again dtype.Int64 (cell.Int64 z) h = int64_again z h
-cell_again dtype.UInt32 (cell.UInt32 n) h = unsigned_again 32 n h
-cell_again dtype.UInt64 (cell.UInt64 n) h = unsigned_again 64 n h
-cell_again dtype.Boolean (cell.Boolean b) h = refl
-cell_again dtype.String (cell.String s) h = refl
-cell_again dtype.Binary (cell.Binary b) h = hex_again b h
-cell_again t c h = absurd h
+cell_again t (cell.Int32 z) h = ap (λ (u : DataType). is_cell u (cell_spelling (cell.Int32 z))) h.0 ∙ int32_again z h.1
+cell_again t (cell.Int64 z) h = ap (λ (u : DataType). is_cell u (cell_spelling (cell.Int64 z))) h.0 ∙ int64_again z h.1
+cell_again t (cell.UInt32 n) h = ap (λ (u : DataType). is_cell u (cell_spelling (cell.UInt32 n))) h.0 ∙ unsigned_again 32 n h.1
+cell_again t (cell.UInt64 n) h = ap (λ (u : DataType). is_cell u (cell_spelling (cell.UInt64 n))) h.0 ∙ unsigned_again 64 n h.1
+cell_again t (cell.Boolean b) h = ap (λ (u : DataType). is_cell u (cell_spelling (cell.Boolean b))) h
+cell_again t (cell.String s) h = ap (λ (u : DataType). is_cell u (cell_spelling (cell.String s))) h
+cell_again t (cell.Binary b) h = ap (λ (u : DataType). is_cell u (cell_spelling (cell.Binary b))) h.0 ∙ hex_again b h.1
+cell_again t (cell.Int128 z) h = ap (λ (u : DataType). is_cell u (cell_spelling (cell.Int128 z))) h.0 ∙ decimal_again z h.1
 
-expr_again : (e : Expr) → ExprFits e → is_expr (expr_spelling e) ≡ true
-expr_again (Col name) h = refl
-expr_again (Lit t c) h = rw type_again (rw (cell_again t c h) refl)
-expr_again (Add' p l q r) h = rw (expr_again l h.0, expr_again r h.1)
-expr_again (Sub' p l q r) h = rw (expr_again l h.0, expr_again r h.1)
-expr_again (Mul' p l q r) h = rw (expr_again l h.0, expr_again r h.1)
-expr_again (Eq' p l q r) h = rw (expr_again l h.0, expr_again r h.1)
-expr_again (NotEq' p l q r) h = rw (expr_again l h.0, expr_again r h.1)
-expr_again (Lt' p l q r) h = rw (expr_again l h.0, expr_again r h.1)
-expr_again (LtEq' p l q r) h = rw (expr_again l h.0, expr_again r h.1)
-expr_again (Gt' p l q r) h = rw (expr_again l h.0, expr_again r h.1)
-expr_again (GtEq' p l q r) h = rw (expr_again l h.0, expr_again r h.1)
-expr_again (And' p l q r) h = rw (expr_again l h.0, expr_again r h.1)
-expr_again (Or' p l q r) h = rw (expr_again l h.0, expr_again r h.1)
-expr_again (Not' p e) h = expr_again e h
-expr_again (IsNull' p e) h = expr_again e h
-expr_again (IsNotNull' p e) h = expr_again e h
+formula_again : (f : Formula) → FormulaFits f → is_expr (formula_spelling f) ≡ true
+formula_again (Column name) h = refl
+formula_again (Literal t c) h = rw type_again (rw (cell_again t c h) refl)
+formula_again (Add l r) h = rw (formula_again l h.0, formula_again r h.1)
+formula_again (Sub l r) h = rw (formula_again l h.0, formula_again r h.1)
+formula_again (Mul l r) h = rw (formula_again l h.0, formula_again r h.1)
+formula_again (Eq l r) h = rw (formula_again l h.0, formula_again r h.1)
+formula_again (NotEq l r) h = rw (formula_again l h.0, formula_again r h.1)
+formula_again (Lt l r) h = rw (formula_again l h.0, formula_again r h.1)
+formula_again (LtEq l r) h = rw (formula_again l h.0, formula_again r h.1)
+formula_again (Gt l r) h = rw (formula_again l h.0, formula_again r h.1)
+formula_again (GtEq l r) h = rw (formula_again l h.0, formula_again r h.1)
+formula_again (And l r) h = rw (formula_again l h.0, formula_again r h.1)
+formula_again (Or l r) h = rw (formula_again l h.0, formula_again r h.1)
+formula_again (Not f) h = formula_again f h
+formula_again (IsNull f) h = formula_again f h
+formula_again (IsNotNull f) h = formula_again f h
 
-named_again : (e : NamedExpr) → NamedFits e → is_named (named_spelling e) ≡ true
-named_again e h = rw (expr_again e.expr h)
+named_again : (e : NamedFormula) → NamedFits e → is_named (named_spelling e) ≡ true
+named_again e h = rw (formula_again e.formula h)
 
-exprs_again : (es : List Expr) → AllByRecursion ExprFits es → is_list is_expr (list expr_spelling es) ≡ true
-exprs_again es h = list_again expr_spelling ExprFits is_expr expr_again es h
+formulas_again : (es : List Formula) → AllByRecursion FormulaFits es → is_list is_expr (list formula_spelling es) ≡ true
+formulas_again es h = list_again formula_spelling FormulaFits is_expr formula_again es h
 
-nameds_again : (es : List NamedExpr) → AllByRecursion NamedFits es → is_list is_named (list named_spelling es) ≡ true
+nameds_again : (es : List NamedFormula) → AllByRecursion NamedFits es → is_list is_named (list named_spelling es) ≡ true
 nameds_again es h = list_again named_spelling NamedFits is_named named_again es h
 
 -- ---- nodes
@@ -149,6 +147,8 @@ how_again how.Inner = refl
 how_again how.Left = refl
 how_again how.Full = refl
 how_again how.Cross = refl
+how_again how.Semi = refl
+how_again how.Anti = refl
 
 coalesce_again : (c : JoinCoalesce) → is_coalesce (coalesce_spelling c) ≡ true
 coalesce_again coalesce.JoinSpecific = refl
@@ -162,10 +162,10 @@ known_again (Some n) h = unsigned_again 64 n h
 hint_again : (h : RowsHint) → HintFits h → is_hint (hint_spelling h) ≡ true
 hint_again h fits = rw (known_again h.known fits.0, unsigned_again 64 h.estimate fits.1)
 
-node_again : (n : IR) → NodeFits n → is_node (node_spelling n) ≡ true
+node_again : (n : Node) → NodeFits n → is_node (node_spelling n) ≡ true
 node_again (node.DataFrameScan frame None) h = rw (unsigned_again 32 frame h)
 node_again (node.DataFrameScan frame (Some cs)) h = rw (texts_again cs, unsigned_again 32 frame h)
-node_again (node.Filter input e) h = rw (unsigned_again 32 input h.0, expr_again e h.1)
+node_again (node.Filter input e) h = rw (unsigned_again 32 input h.0, formula_again e h.1)
 node_again (node.SimpleProjection input cs) h = rw (texts_again cs, unsigned_again 32 input h)
 node_again (node.Select input es) h = rw (nameds_again es h.1, unsigned_again 32 input h.0)
 node_again (node.HStack input es) h = rw (nameds_again es h.1, unsigned_again 32 input h.0)
@@ -177,9 +177,9 @@ node_again (node.Join left right left_on right_on o) h =
       coalesce_again o.coalesce,
       how_again o.how,
       unsigned_again 32 left h.0,
-      exprs_again left_on h.2,
+      formulas_again left_on h.2,
       unsigned_again 32 right h.1,
-      exprs_again right_on h.3,
+      formulas_again right_on h.3,
       hint_again o.rows_left h.4,
       hint_again o.rows_right h.5,
     )
@@ -216,16 +216,21 @@ table_again f h = ap (λ (o : Option FrameError). not (is_some o)) (fault_outlin
 frame_again : (f : Table) → FrameFits f → is_frame (frame_spelling f) ≡ true
 frame_again f h = rw (list_again column_spelling ColumnFits is_column column_again (columns_of f) h.cells, table_again f h)
 
-job_again : (j : Job) → JobFits j → is_job (job_spelling j) ≡ true
-job_again j h = rw (
-  unsigned_again 32 j.config.chunk_rows h.chunk_rows,
-  list_again frame_spelling FrameFits is_frame frame_again j.arena.frames h.frames,
-  list_again node_spelling NodeFits is_node node_again j.arena.nodes h.nodes,
-  unsigned_again 32 j.root h.root,
-  unsigned_again 32 j.config.row_limit h.row_limit,
-  unsigned_again 32 j.config.workers h.workers,
+version_again : (n : ℕ) → VersionFits n → is_version (whole n) ≡ true
+version_again n (inl e) = ap (λ (m : ℕ). is_version (whole m)) e
+version_again n (inr e) = ap (λ (m : ℕ). is_version (whole m)) e
+
+task_again : (t : Task) → PartsFit t → is_job (task_spelling t) ≡ true
+task_again t h = rw (
+  unsigned_again 32 t.config.chunk_rows h.chunk_rows,
+  list_again frame_spelling FrameFits is_frame frame_again t.plan.frames h.frames,
+  list_again node_spelling NodeFits is_node node_again t.plan.nodes h.nodes,
+  unsigned_again 32 t.root h.root,
+  unsigned_again 32 t.config.row_limit h.row_limit,
+  version_again t.version h.version,
+  unsigned_again 32 t.config.workers h.workers,
 )
 
 -- what has not the shape of a job is not spelled by one
-pub no_job : (v : Data) → is_job v ≡ false → (job : Job) → Spells v job → ⊥
-no_job v none job s = true≢false (sym (ap is_job s.spelled ∙ job_again job s.fits) ∙ none)
+pub no_task : (v : Data) → is_job v ≡ false → (t : Task) → Spells v t → ⊥
+no_task v none t s = true≢false (sym (ap is_job s.spelled ∙ task_again t s.fits.parts) ∙ none)

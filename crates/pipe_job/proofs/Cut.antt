@@ -3,7 +3,7 @@ use Rattle.std.proofs.Common.{◌≡◌, ◌≢◌, ◌==◌, ◌/◌, ◌%◌, 
 use Rattle.std.proofs.lemmas.Bool.Decides.{nat_tests}
 use Rattle.std.proofs.lemmas.Bool.{and_parts}
 use Rattle.std.specs.Char.{digit_char}
-use Rattle.std.specs.Fmt.{digits, digits_onto, digit_glyph}
+use Rattle.std.specs.Fmt.{digits, digits_onto, digit_glyph, signed_decimal}
 use Rattle.json.specs.Print.{escape_letter, escape_byte, escape, quoted}
 use Rattle.serde_json.specs.Data.{Data, string}
 use Rattle.serde_json.specs.View.{items_of}
@@ -94,6 +94,7 @@ Clean-cell (cell.Boolean true) = record { each = refl }
 Clean-cell (cell.Boolean false) = record { each = refl }
 Clean-cell (cell.String s) = Clean-quoted s
 Clean-cell (cell.Binary b) = Clean-quoted (encode_lower b)
+Clean-cell (cell.Int128 z) = Clean-quoted (signed_decimal z)
 
 Clean-comma : (b : Bool) → Clean (comma_if b)
 Clean-comma true = record { each = refl }

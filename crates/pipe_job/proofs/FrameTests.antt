@@ -7,9 +7,9 @@ use Rattle.pipe_frame.specs.declared.field.Field.{Field}
 use Rattle.pipe_frame.specs.declared.error.FrameError.{FrameError}
 use Rattle.pipe_frame.specs.Series.{Cells}
 use Rattle.pipe_frame.specs.Schema.{IsSchema, names_of, names_fault}
-use Rattle.pipe_frame.specs.Frame.{Table, table_of, columns_of, field_of, rows_of, height_of, other_height, AllOfHeight, differing, else_fault, frame_fault}
+use Rattle.pipe_frame.specs.Frame.{Table, table_of, columns_of, field_of, column_rows, height_of, other_height, AllOfHeight, differing, else_fault, frame_fault}
 use Rattle.pipe_frame.specs.Rows.{Row}
-use Rattle.pipe_frame.proofs.Tables.{columns_of-table, length-rows_of}
+use Rattle.pipe_frame.proofs.Tables.{columns_of-table, length-column_rows}
 use Rattle.pipe_job.specs.Spelling.{list, cell_spelling}
 use Rattle.pipe_job.specs.Shape.{nulls_of, outlines_in, is_table}
 use Rattle.pipe_job.specs.FrameSpelling.{column_spelling, ColumnFits, IsFrameOf}
@@ -40,11 +40,11 @@ pub no_table : (columns : List Cells) (e : FrameError) → frame_fault columns �
 no_table columns e h = ap (λ (o : Option FrameError). not (is_some o)) (fault_outlined columns ∙ h)
 
 -- the frame that was made of columns
-pub frame_made : (columns : List Cells) (table : Table) → table.schema ≡ map field_of columns → table.rows ≡ rows_of columns (height_of columns) → IsSchema (map field_of columns) → AllOfHeight (height_of columns) columns → AllByRecursion ColumnFits columns → IsFrameOf columns table
+pub frame_made : (columns : List Cells) (table : Table) → table.schema ≡ map field_of columns → table.rows ≡ column_rows columns (height_of columns) → IsSchema (map field_of columns) → AllOfHeight (height_of columns) columns → AllByRecursion ColumnFits columns → IsFrameOf columns table
 frame_made columns table schema rows good even fit =
     let made : table_of columns (height_of columns) ≡ table = ap₂ (λ (s : List Field) (r : List Row). let t : Table = record { schema = s; rows = r } in t) (sym schema) (sym rows) in
     let back : columns ≡ columns_of table = columns_of-table columns (height_of columns) made even in
-    let high : height_of columns ≡ length table.rows = sym (length-rows_of columns (height_of columns)) ∙ sym (ap length rows) in
+    let high : height_of columns ≡ length table.rows = sym (length-column_rows columns (height_of columns)) ∙ sym (ap length rows) in
     record {
       columns_are = back;
       fits = record {

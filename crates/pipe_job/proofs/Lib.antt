@@ -6,6 +6,9 @@ pub mod Depths
 pub mod Shapes
 pub mod TypedColumns
 pub mod FrameTests
+pub mod Formulas
+pub mod Decimals
+pub mod Hexes
 pub mod Again
-pub mod OneExpr
+pub mod OneFormula
 pub mod OneJob

@@ -1,5 +1,5 @@
--- A value spells one job at most, up to where the parts of expressions lie.
-use Rattle.std.proofs.Common.{◌≡◌, ℕ, List, [], ◌∷◌, length, map, refl, ap, ap₂, sym, ◌∙◌, codes, arith, ℤ, pos, negsuc, Bool, Option, Some, None}
+-- A value spells one job at most.
+use Rattle.std.proofs.Common.{◌≡◌, ℕ, List, [], ◌∷◌, length, map, refl, ap, ap₂, sym, ◌∙◌, codes, arith, ℤ, pos, negsuc, Bool, true, true≢false, Option, Some, None}
 use Rattle.std.specs.Prelude.{if◌then◌else◌, ⊤}
 use Rattle.std.specs.List.{AllByRecursion}
 use Rattle.std.specs.Str.{bytes_eq}
@@ -14,8 +14,7 @@ use Rattle.pipe_frame.specs.Rows.{Row}
 use Rattle.pipe_frame.specs.Series.{Cells}
 use Rattle.pipe_frame.specs.Schema.{IsSchema}
 use Rattle.pipe_frame.specs.Frame.{Table, table_of, columns_of, columns_from, cell_of_row, height_of}
-use Rattle.pipe_expr.specs.declared.expr.Expr.{Expr}
-use Rattle.pipe_expr.specs.declared.expr.NamedExpr.{NamedExpr}
+use Rattle.pipe_expr.specs.Formula.{Formula, NamedFormula}
 use Rattle.pipe_expr.specs.declared.join_words.JoinType.{JoinType}
 use Rattle.pipe_expr.specs.declared.join_words.JoinType.TheVariants as how
 use Rattle.pipe_expr.specs.declared.join_words.JoinCoalesce.{JoinCoalesce}
@@ -23,38 +22,23 @@ use Rattle.pipe_expr.specs.declared.join_words.JoinCoalesce.TheVariants as coale
 use Rattle.pipe_expr.specs.declared.join_words.RenamePair.{RenamePair}
 use Rattle.pipe_expr.specs.declared.join_words.FunctionIR.{FunctionIR}
 use Rattle.pipe_expr.specs.declared.join_words.FunctionIR.TheVariants as function
-use Rattle.pipe_plan.specs.declared.ir.IR.{IR}
-use Rattle.pipe_plan.specs.declared.ir.IR.TheVariants as node
+use Rattle.pipe_plan.specs.Node.{Node}
+use Rattle.pipe_plan.specs.Node as node
+use Rattle.pipe_plan.specs.Plan.{Plan}
 use Rattle.pipe_plan.specs.declared.ir.JoinOptions.{JoinOptions}
 use Rattle.pipe_plan.specs.declared.ir.SortOptions.{SortOptions}
 use Rattle.pipe_plan.specs.declared.ir.RowsHint.{RowsHint}
 use Rattle.pipe_plan.specs.declared.ir.PlanSlice.{PlanSlice}
 use Rattle.pipe_plan.specs.declared.config.PipeConfig.{PipeConfig}
 use Rattle.pipe_job.specs.Spelling.{maybe, list, whole, cell_spelling, FitsType}
-use Rattle.pipe_job.specs.ExprSpelling.{expr_spelling, ExprFits, named_spelling, NamedFits}
-use Rattle.pipe_job.specs.PlanSpelling.{how_spelling, coalesce_spelling, hint_spelling, pair_spelling, slice_spelling, function_spelling, node_spelling, NodeFits}
+use Rattle.pipe_job.specs.FormulaSpelling.{formula_spelling, FormulaFits, named_spelling, NamedFits}
+use Rattle.pipe_job.specs.NodeSpelling.{how_spelling, coalesce_spelling, hint_spelling, pair_spelling, slice_spelling, function_spelling, node_spelling, NodeFits}
 use Rattle.pipe_job.specs.FrameSpelling.{column_spelling, ColumnFits, frame_spelling, FrameFits}
-use Rattle.pipe_job.specs.JobSpelling.{job_spelling, Spells}
-use Rattle.pipe_expr.specs.Alike.{Alike, EachAlike, NamedAlike}
-use Rattle.pipe_job.specs.Alike.{NodeAlike, JobAlike, NamedIsFlat, NodeIsFlat}
-use Rattle.pipe_job.proofs.OneExpr.{one_type, one_cell, one_expr, flat_expr, flat_exprs}
-use Rattle.pipe_job.specs.declared.jobs.Job.{Job}
+use Rattle.pipe_job.specs.JobSpelling.{Task, task_spelling, PartsFit, Spells}
+use Rattle.pipe_job.specs.Version.{plan_has_int128}
+use Rattle.pipe_job.proofs.OneFormula.{one_type, one_cell, one_formula}
 
 -- ---- lists and what may be missing
-
-items_alike : {A : Type 0} (spell : A → Data) (Fits : A → Type 0) (Same : A → A → Type 0) → ((x y : A) → Fits x → Fits y → spell x ≡ spell y → Same x y)
-    → (xs ys : List A) → AllByRecursion Fits xs → AllByRecursion Fits ys → items_of (map spell xs) ≡ items_of (map spell ys) → EachAlike Same xs ys
-items_alike spell Fits Same one [] [] h k e = tt
-items_alike spell Fits Same one [] (_ ∷ _) h k e = cc
-items_alike spell Fits Same one (_ ∷ _) [] h k e = cc
-items_alike spell Fits Same one (x ∷ xs) (y ∷ ys) h k e =
-    let first : spell x ≡ spell y = cc in
-    let rest : items_of (map spell xs) ≡ items_of (map spell ys) = cc in
-    (one x y h.0 k.0 first, items_alike spell Fits Same one xs ys h.1 k.1 rest)
-
-list_alike : {A : Type 0} (spell : A → Data) (Fits : A → Type 0) (Same : A → A → Type 0) → ((x y : A) → Fits x → Fits y → spell x ≡ spell y → Same x y)
-    → (xs ys : List A) → AllByRecursion Fits xs → AllByRecursion Fits ys → list spell xs ≡ list spell ys → EachAlike Same xs ys
-list_alike spell Fits Same one xs ys h k e = items_alike spell Fits Same one xs ys h k (cc)
 
 items_same : {A : Type 0} (spell : A → Data) (Fits : A → Type 0) → ((x y : A) → Fits x → Fits y → spell x ≡ spell y → x ≡ y)
     → (xs ys : List A) → AllByRecursion Fits xs → AllByRecursion Fits ys → items_of (map spell xs) ≡ items_of (map spell ys) → xs ≡ ys
@@ -144,14 +128,18 @@ one_maybe_slice (Some _) None e = cc
 one_maybe_slice (Some x) (Some y) e = ap Some (one_slice x y e)
 
 abbrev how_at : Data → JoinType
-how_at (string s) = if bytes_eq s (codes "inner") then how.Inner else if bytes_eq s (codes "left") then how.Left else if bytes_eq s (codes "full") then how.Full else how.Cross
-how_at _ = how.Cross
+how_at (string s) =
+    if bytes_eq s (codes "inner") then how.Inner else if bytes_eq s (codes "left") then how.Left else if bytes_eq s (codes "full") then how.Full
+    else if bytes_eq s (codes "cross") then how.Cross else if bytes_eq s (codes "semi") then how.Semi else how.Anti
+how_at _ = how.Anti
 
 how_back : (h : JoinType) → how_at (how_spelling h) ≡ h
 how_back how.Inner = refl
 how_back how.Left = refl
 how_back how.Full = refl
 how_back how.Cross = refl
+how_back how.Semi = refl
+how_back how.Anti = refl
 
 one_how : (x y : JoinType) → how_spelling x ≡ how_spelling y → x ≡ y
 one_how x y e = sym (how_back x) ∙ ap how_at e ∙ how_back y
@@ -168,17 +156,24 @@ coalesce_back coalesce.KeepColumns = refl
 one_coalesce : (x y : JoinCoalesce) → coalesce_spelling x ≡ coalesce_spelling y → x ≡ y
 one_coalesce x y e = sym (coalesce_back x) ∙ ap coalesce_at e ∙ coalesce_back y
 
-one_named : (x y : NamedExpr) → NamedFits x → NamedFits y → named_spelling x ≡ named_spelling y → NamedAlike x y
+named_of : List ℕ → Formula → NamedFormula
+named_of n f = record { name = n; formula = f }
+
+named_back : (e : NamedFormula) → named_of e.name e.formula ≡ e
+unfolding named_of
+named_back e = refl
+
+one_named : (x y : NamedFormula) → NamedFits x → NamedFits y → named_spelling x ≡ named_spelling y → x ≡ y
 one_named x y h k e =
     let name : x.name ≡ y.name = cc in
-    let expr : expr_spelling x.expr ≡ expr_spelling y.expr = cc in
-    (name, one_expr x.expr y.expr h k expr)
+    let spelled : formula_spelling x.formula ≡ formula_spelling y.formula = cc in
+    sym (named_back x) ∙ ap₂ named_of name (one_formula x.formula y.formula h k spelled) ∙ named_back y
 
-one_nameds : (xs ys : List NamedExpr) → AllByRecursion NamedFits xs → AllByRecursion NamedFits ys → list named_spelling xs ≡ list named_spelling ys → EachAlike NamedAlike xs ys
-one_nameds = list_alike named_spelling NamedFits NamedAlike one_named
+one_nameds : (xs ys : List NamedFormula) → AllByRecursion NamedFits xs → AllByRecursion NamedFits ys → list named_spelling xs ≡ list named_spelling ys → xs ≡ ys
+one_nameds = list_same named_spelling NamedFits one_named
 
-one_exprs : (xs ys : List Expr) → AllByRecursion ExprFits xs → AllByRecursion ExprFits ys → list expr_spelling xs ≡ list expr_spelling ys → EachAlike Alike xs ys
-one_exprs = list_alike expr_spelling ExprFits Alike one_expr
+one_formulas : (xs ys : List Formula) → AllByRecursion FormulaFits xs → AllByRecursion FormulaFits ys → list formula_spelling xs ≡ list formula_spelling ys → xs ≡ ys
+one_formulas = list_same formula_spelling FormulaFits one_formula
 
 options_of : JoinType → Bool → JoinCoalesce → List ℕ → RowsHint → RowsHint → JoinOptions
 options_of h n c s l r = record { how = h; join_nulls = n; coalesce = c; suffix = s; rows_left = l; rows_right = r }
@@ -230,22 +225,27 @@ one_function m n (function.Rename pairs) (function.Rename others) e = let same =
 one_function m n (function.Unpivot _ _ _ _) (function.Rename _) e = absurd (omega (arith, ap node_number e))
 one_function m n (function.Rename _) (function.Unpivot _ _ _ _) e = absurd (omega (arith, ap node_number e))
 
-one_node : (a b : IR) → NodeFits a → NodeFits b → node_spelling a ≡ node_spelling b → NodeAlike a b
-one_node (node.DataFrameScan m cs) (node.DataFrameScan n ds) h k e = (cc, one_columns cs ds (cc))
-one_node (node.Filter m p) (node.Filter n q) h k e = (cc, one_expr p q h.1 k.1 (cc))
-one_node (node.SimpleProjection m cs) (node.SimpleProjection n ds) h k e = (cc, one_texts cs ds (cc))
-one_node (node.Select m es) (node.Select n fs) h k e = (cc, one_nameds es fs h.1 k.1 (cc))
-one_node (node.HStack m es) (node.HStack n fs) h k e = (cc, one_nameds es fs h.1 k.1 (cc))
-one_node (node.MapFunction m f) (node.MapFunction n g) h k e = one_function m n f g e
-one_node (node.Union ms) (node.Union ns) h k e = one_numbers ms ns (cc)
+one_node : (a b : Node) → NodeFits a → NodeFits b → node_spelling a ≡ node_spelling b → a ≡ b
+one_node (node.DataFrameScan m cs) (node.DataFrameScan n ds) h k e = let same = one_columns cs ds (cc) in cc
+one_node (node.Filter m p) (node.Filter n q) h k e = let same = one_formula p q h.1 k.1 (cc) in cc
+one_node (node.SimpleProjection m cs) (node.SimpleProjection n ds) h k e = let same = one_texts cs ds (cc) in cc
+one_node (node.Select m es) (node.Select n fs) h k e = let same = one_nameds es fs h.1 k.1 (cc) in cc
+one_node (node.HStack m es) (node.HStack n fs) h k e = let same = one_nameds es fs h.1 k.1 (cc) in cc
+one_node (node.MapFunction m f) (node.MapFunction n g) h k e = let same = one_function m n f g e in let input = same.0 in let function = same.1 in cc
+one_node (node.Union ms) (node.Union ns) h k e = ap node.Union (one_numbers ms ns (cc))
 one_node (node.Join a b es fs o) (node.Join c d gs hs p) h k e =
-    (cc, cc, one_exprs es gs h.2 k.2 (cc), one_exprs fs hs h.3 k.3 (cc), one_options o p (cc) (cc) (cc) (cc) (cc) (cc))
+    let left = one_formulas es gs h.2 k.2 (cc) in
+    let right = one_formulas fs hs h.3 k.3 (cc) in
+    let options = one_options o p (cc) (cc) (cc) (cc) (cc) (cc) in
+    cc
 one_node (node.Sort m by o) (node.Sort n by_other p) h k e =
     let same_descending = one_truths o.descending p.descending (cc) in
     let same_nulls = one_truths o.nulls_last p.nulls_last (cc) in
     let same_slice = one_maybe_slice o.slice p.slice (cc) in
     let same : sort_options_of o.descending o.nulls_last o.slice ≡ sort_options_of p.descending p.nulls_last p.slice = cc in
-    (cc, one_texts by by_other (cc), sym (sort_options_back o) ∙ same ∙ sort_options_back p)
+    let keys = one_texts by by_other (cc) in
+    let options = sym (sort_options_back o) ∙ same ∙ sort_options_back p in
+    cc
 one_node (node.MapFunction m (function.Unpivot _ _ _ _)) b h k e = absurd (omega (arith, ap node_number e))
 one_node (node.MapFunction m (function.Rename _)) b h k e = absurd (omega (arith, ap node_number e))
 one_node a (node.MapFunction n (function.Unpivot _ _ _ _)) h k e = absurd (omega (arith, ap node_number e))
@@ -289,73 +289,43 @@ config_back : (c : PipeConfig) → config_of c.workers c.chunk_rows c.row_limit 
 unfolding config_of
 config_back c = refl
 
-pub one_job : (v : Data) (a b : Job) → Spells v a → Spells v b → JobAlike a b
-one_job v a b s t =
-    let e : job_spelling a ≡ job_spelling b = sym s.spelled ∙ t.spelled in
+plan_from : List Node → List Table → Plan
+plan_from nodes frames = record { nodes = nodes; frames = frames }
+
+plan_back : (p : Plan) → plan_from p.nodes p.frames ≡ p
+unfolding plan_from
+plan_back p = refl
+
+task_from : ℕ → PipeConfig → Plan → ℕ → Task
+task_from version config plan root = record { version = version; config = config; plan = plan; root = root }
+
+task_back : (t : Task) → task_from t.version t.config t.plan t.root ≡ t
+unfolding task_from
+task_back t = refl
+
+pub one_task : (a b : Task) → PartsFit a → PartsFit b → task_spelling a ≡ task_spelling b → a ≡ b
+one_task a b h k e =
+    let version : a.version ≡ b.version = cc in
     let chunk_rows : a.config.chunk_rows ≡ b.config.chunk_rows = cc in
     let row_limit : a.config.row_limit ≡ b.config.row_limit = cc in
     let workers : a.config.workers ≡ b.config.workers = cc in
-    let frames : list frame_spelling a.arena.frames ≡ list frame_spelling b.arena.frames = cc in
-    let nodes : list node_spelling a.arena.nodes ≡ list node_spelling b.arena.nodes = cc in
-    let config : config_of a.config.workers a.config.chunk_rows a.config.row_limit ≡ config_of b.config.workers b.config.chunk_rows b.config.row_limit = cc in
-    record {
-      config = sym (config_back a.config) ∙ config ∙ config_back b.config;
-      frames = list_same frame_spelling FrameFits one_frame a.arena.frames b.arena.frames s.fits.frames t.fits.frames frames;
-      nodes = list_alike node_spelling NodeFits NodeAlike one_node a.arena.nodes b.arena.nodes s.fits.nodes t.fits.nodes nodes;
-      root = cc;
-    }
+    let root : a.root ≡ b.root = cc in
+    let frames : list frame_spelling a.plan.frames ≡ list frame_spelling b.plan.frames = cc in
+    let nodes : list node_spelling a.plan.nodes ≡ list node_spelling b.plan.nodes = cc in
+    let same_config : config_of a.config.workers a.config.chunk_rows a.config.row_limit ≡ config_of b.config.workers b.config.chunk_rows b.config.row_limit = cc in
+    let config : a.config ≡ b.config = sym (config_back a.config) ∙ same_config ∙ config_back b.config in
+    let same_frames = list_same frame_spelling FrameFits one_frame a.plan.frames b.plan.frames h.frames k.frames frames in
+    let same_nodes = list_same node_spelling NodeFits one_node a.plan.nodes b.plan.nodes h.nodes k.nodes nodes in
+    let plan : a.plan ≡ b.plan = sym (plan_back a.plan) ∙ ap₂ plan_from same_nodes same_frames ∙ plan_back b.plan in
+    let same : task_from a.version a.config a.plan a.root ≡ task_from b.version b.config b.plan b.root = cc in
+    sym (task_back a) ∙ same ∙ task_back b
 
--- ---- jobs whose expressions have no part
+pub one_job : (v : Data) (a b : Task) → Spells v a → Spells v b → a ≡ b
+one_job v a b s t = one_task a b s.fits.parts t.fits.parts (sym s.spelled ∙ t.spelled)
 
-named_of : List ℕ → Expr → NamedExpr
-named_of n e = record { name = n; expr = e }
-
-named_back : (e : NamedExpr) → named_of e.name e.expr ≡ e
-unfolding named_of
-named_back e = refl
-
-flat_nameds : (xs ys : List NamedExpr) → AllByRecursion NamedIsFlat ys → EachAlike NamedAlike xs ys → xs ≡ ys
-flat_nameds [] [] h e = refl
-flat_nameds [] (_ ∷ _) h e = absurd e
-flat_nameds (_ ∷ _) [] h e = absurd e
-flat_nameds (x ∷ xs) (y ∷ ys) h e =
-    let expr = flat_expr x.expr y.expr h.0 e.0.1 in
-    let first : x ≡ y = sym (named_back x) ∙ ap₂ named_of e.0.0 expr ∙ named_back y in
-    let rest = flat_nameds xs ys h.1 e.1 in
-    cc
-
-flat_node : (a b : IR) → NodeIsFlat b → NodeAlike a b → a ≡ b
-flat_node (node.DataFrameScan m cs) (node.DataFrameScan n ds) h e = cc
-flat_node (node.Filter m p) (node.Filter n q) h e = let same = flat_expr p q h e.1 in cc
-flat_node (node.SimpleProjection m cs) (node.SimpleProjection n ds) h e = cc
-flat_node (node.Select m es) (node.Select n fs) h e = let same = flat_nameds es fs h e.1 in cc
-flat_node (node.HStack m es) (node.HStack n fs) h e = let same = flat_nameds es fs h e.1 in cc
-flat_node (node.MapFunction m f) (node.MapFunction n g) h e = cc
-flat_node (node.Union ms) (node.Union ns) h e = cc
-flat_node (node.Join k l es fs o) (node.Join m n gs hs p) h e = let left = flat_exprs es gs h.0 e.2 in let right = flat_exprs fs hs h.1 e.3 in cc
-flat_node (node.Sort m by o) (node.Sort n by_other p) h e = cc
-flat_node _ _ h e = absurd e
-
-flat_nodes : (xs ys : List IR) → AllByRecursion NodeIsFlat ys → EachAlike NodeAlike xs ys → xs ≡ ys
-flat_nodes [] [] h e = refl
-flat_nodes [] (_ ∷ _) h e = absurd e
-flat_nodes (_ ∷ _) [] h e = absurd e
-flat_nodes (x ∷ xs) (y ∷ ys) h e = let first = flat_node x y h.0 e.0 in let rest = flat_nodes xs ys h.1 e.1 in cc
-
-job_from : PipeConfig → List IR → List Table → ℕ → Job
-job_from c ns fs r = record { config = c; arena = record { nodes = ns; frames = fs }; root = r }
-
-job_back : (j : Job) → job_from j.config j.arena.nodes j.arena.frames j.root ≡ j
-unfolding job_from
-job_back j = refl
-
--- where the expressions of one job have no part, a value that spells it spells no other
-pub one_flat_job : (v : Data) (a b : Job) → Spells v a → Spells v b → AllByRecursion NodeIsFlat b.arena.nodes → a ≡ b
-one_flat_job v a b s t flat =
-    let alike = one_job v a b s t in
-    let nodes = flat_nodes a.arena.nodes b.arena.nodes flat alike.nodes in
-    let config = alike.config in
-    let frames = alike.frames in
-    let root = alike.root in
-    let same : job_from a.config a.arena.nodes a.arena.frames a.root ≡ job_from b.config b.arena.nodes b.arena.frames b.root = cc in
-    sym (job_back a) ∙ same ∙ job_back b
+-- where the types are not those of the version, the value spells no job
+pub too_early : (v : Data) (t : Task) → v ≡ task_spelling t → PartsFit t → t.version ≡ 1 → plan_has_int128 t.plan ≡ true → (other : Task) → Spells v other → ⊥
+too_early v t e h version has other s =
+    let same : t ≡ other = one_task t other h s.fits.parts (sym e ∙ s.spelled) in
+    let none = s.fits.types (sym (ap (λ (u : Task). u.version) same) ∙ version) in
+    true≢false (sym has ∙ ap (λ (u : Task). plan_has_int128 u.plan) same ∙ none)

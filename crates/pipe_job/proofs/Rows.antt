@@ -3,8 +3,8 @@ use Rattle.std.proofs.Common.{◌≡◌, ◌<◌, ◌-◌, ◌+◌, ◌++◌, �
 use Rattle.std.specs.List.{range_with_len}
 use Rattle.pipe_frame.specs.Rows.{Row}
 use Rattle.pipe_frame.specs.Series.{Cells}
-use Rattle.pipe_frame.specs.Frame.{row_at, rows_of}
-use Rattle.pipe_frame.proofs.Tables.{get_or-rows_of}
+use Rattle.pipe_frame.specs.Frame.{row_at, column_rows}
+use Rattle.pipe_frame.proofs.Tables.{get_or-column_rows}
 use Rattle.pipe_job.specs.Line.{row_line}
 
 abbrev lines_from : List Cells → ℕ → ℕ → List ℕ
@@ -21,5 +21,5 @@ written_next columns height i old new all lt e before =
     ∙ before
 
 -- the row at a place of a frame is that of its columns
-pub row_in : (columns : List Cells) (rows : List Row) (height i : ℕ) → rows ≡ rows_of columns height → i < height → slice_index_or rows i [] ≡ row_at columns i
-row_in columns rows height i e lt = ap (λ (all : List Row). slice_index_or all i []) e ∙ get_or-rows_of columns height i lt
+pub row_in : (columns : List Cells) (rows : List Row) (height i : ℕ) → rows ≡ column_rows columns height → i < height → slice_index_or rows i [] ≡ row_at columns i
+row_in columns rows height i e lt = ap (λ (all : List Row). slice_index_or all i []) e ∙ get_or-column_rows columns height i lt

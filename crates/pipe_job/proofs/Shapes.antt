@@ -6,7 +6,7 @@ use Rattle.std.specs.Str.{bytes_eq}
 use Rattle.serde_json.specs.Data.{Data, object, Members, no_members, member}
 use Rattle.pipe_job.specs.declared.misread.Misread.{Misread}
 use Rattle.pipe_job.specs.declared.misread.Misread.TheVariants.{Other, Memory}
-use Rattle.pipe_job.specs.Reads.{Takes}
+use Rattle.pipe_job.specs.Reads.{ReadWhere}
 use Rattle.pipe_job.specs.Shape.{after, has, on_object}
 
 -- what fails further on, fails from here
@@ -30,7 +30,7 @@ Refuses test Other = test ≡ false
 Refuses test Memory = Unit {0}
 
 -- a refusal that is passed on
-pub passed_on : {Y : Type 0} (here later : Bool) (Q : Y → Type 0) (e : Misread) (r : Result Y Misread) → Refuses later e → IsErrAnd r (λ f. f ≡ e) → (later ≡ false → here ≡ false) → Takes here Q r
+pub passed_on : {Y : Type 0} (here later : Bool) (Q : Y → Type 0) (e : Misread) (r : Result Y Misread) → Refuses later e → IsErrAnd r (λ f. f ≡ e) → (later ≡ false → here ≡ false) → ReadWhere here Q r
 passed_on here later Q e (Ok y) h k up = absurd k
 passed_on here later Q Other (Err f) h k up = rw k (up h)
 passed_on here later Q Memory (Err f) h k up = rw k tt

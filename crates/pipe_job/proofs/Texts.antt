@@ -9,15 +9,15 @@ use Rattle.pipe_frame.specs.declared.any_value.AnyValue.{AnyValue}
 use Rattle.pipe_frame.specs.declared.any_value.AnyValue.TheVariants as cell
 use Rattle.pipe_frame.specs.declared.data_type.DataType.{DataType}
 use Rattle.pipe_frame.specs.declared.data_type.DataType.TheVariants as dtype
-use Rattle.pipe_frame.specs.Cell.{eq_dtype, int32_cell, int64_cell, uint32_cell, uint64_cell, boolean_cell, string_cell, binary_cell}
-use Rattle.pipe_frame.specs.Column.{slot_at}
+use Rattle.pipe_frame.specs.Cell.{int32_cell, int64_cell, uint32_cell, uint64_cell, boolean_cell, string_cell, binary_cell, int128_cell}
+use Rattle.pipe_frame.specs.Column.{nullable_at}
 use Rattle.pipe_frame.specs.Series.{cell_at}
 use Rattle.pipe_frame.proofs.SeriesCells.{cell_at-map}
 use Rattle.pipe_job.specs.Spelling.{cell_spelling}
 use Rattle.std.proofs.lemmas.Bool.{and_parts}
 use Rattle.std.proofs.lemmas.Bool.Decides.{nat_tests}
 use Rattle.json.specs.Print.{escape_byte, escape, quoted}
-use Rattle.pipe_job.specs.Text.{is_plain, all_plain, text_or_null, boolean_text, quoted_hex}
+use Rattle.pipe_job.specs.Text.{is_plain, all_plain, text_or_null, boolean_text, quoted_hex, quoted_decimal}
 
 escape_byte-plain : (b : ℕ) → is_plain b ≡ true → escape_byte b ≡ b ∷ []
 unfolding escape_byte
@@ -62,41 +62,38 @@ text-binary : (x : Option (List ℕ)) → compact_text (cell_spelling (binary_ce
 text-binary None = refl
 text-binary (Some b) = refl
 
+text-int128 : (x : Option ℤ) → compact_text (cell_spelling (int128_cell x)) ≡ text_or_null quoted_decimal x
+text-int128 None = refl
+text-int128 (Some z) = refl
+
 -- what a cell of a typed column is written as
 of_cells : {T : Type 0} (f : Option T → AnyValue) (text : T → List ℕ) → ((x : Option T) → compact_text (cell_spelling (f x)) ≡ text_or_null text x) → f None ≡ cell.Null
-    → (column : List (Option T)) (cells : List AnyValue) (i : ℕ) → cells ≡ map f column → text_or_null text (slot_at column i) ≡ compact_text (cell_spelling (cell_at cells i))
-of_cells f text same none column cells i e = sym (ap (λ (c : AnyValue). compact_text (cell_spelling c)) (ap (λ (l : List AnyValue). cell_at l i) e ∙ cell_at-map f column i none) ∙ same (slot_at column i))
+    → (column : List (Option T)) (cells : List AnyValue) (i : ℕ) → cells ≡ map f column → text_or_null text (nullable_at column i) ≡ compact_text (cell_spelling (cell_at cells i))
+of_cells f text same none column cells i e = sym (ap (λ (c : AnyValue). compact_text (cell_spelling c)) (ap (λ (l : List AnyValue). cell_at l i) e ∙ cell_at-map f column i none) ∙ same (nullable_at column i))
 
-pub of_int32 : (column : List (Option ℤ)) (cells : List AnyValue) (i : ℕ) → cells ≡ map int32_cell column → text_or_null signed_decimal (slot_at column i) ≡ compact_text (cell_spelling (cell_at cells i))
+pub of_int32 : (column : List (Option ℤ)) (cells : List AnyValue) (i : ℕ) → cells ≡ map int32_cell column → text_or_null signed_decimal (nullable_at column i) ≡ compact_text (cell_spelling (cell_at cells i))
 of_int32 = of_cells int32_cell signed_decimal text-int32 refl
 
-pub of_int64 : (column : List (Option ℤ)) (cells : List AnyValue) (i : ℕ) → cells ≡ map int64_cell column → text_or_null signed_decimal (slot_at column i) ≡ compact_text (cell_spelling (cell_at cells i))
+pub of_int64 : (column : List (Option ℤ)) (cells : List AnyValue) (i : ℕ) → cells ≡ map int64_cell column → text_or_null signed_decimal (nullable_at column i) ≡ compact_text (cell_spelling (cell_at cells i))
 of_int64 = of_cells int64_cell signed_decimal text-int64 refl
 
-pub of_uint32 : (column : List (Option ℕ)) (cells : List AnyValue) (i : ℕ) → cells ≡ map uint32_cell column → text_or_null decimal (slot_at column i) ≡ compact_text (cell_spelling (cell_at cells i))
+pub of_uint32 : (column : List (Option ℕ)) (cells : List AnyValue) (i : ℕ) → cells ≡ map uint32_cell column → text_or_null decimal (nullable_at column i) ≡ compact_text (cell_spelling (cell_at cells i))
 of_uint32 = of_cells uint32_cell decimal text-uint32 refl
 
-pub of_uint64 : (column : List (Option ℕ)) (cells : List AnyValue) (i : ℕ) → cells ≡ map uint64_cell column → text_or_null decimal (slot_at column i) ≡ compact_text (cell_spelling (cell_at cells i))
+pub of_uint64 : (column : List (Option ℕ)) (cells : List AnyValue) (i : ℕ) → cells ≡ map uint64_cell column → text_or_null decimal (nullable_at column i) ≡ compact_text (cell_spelling (cell_at cells i))
 of_uint64 = of_cells uint64_cell decimal text-uint64 refl
 
-pub of_boolean : (column : List (Option Bool)) (cells : List AnyValue) (i : ℕ) → cells ≡ map boolean_cell column → text_or_null boolean_text (slot_at column i) ≡ compact_text (cell_spelling (cell_at cells i))
+pub of_boolean : (column : List (Option Bool)) (cells : List AnyValue) (i : ℕ) → cells ≡ map boolean_cell column → text_or_null boolean_text (nullable_at column i) ≡ compact_text (cell_spelling (cell_at cells i))
 of_boolean = of_cells boolean_cell boolean_text text-boolean refl
 
-pub of_string : (column : List (Option (List ℕ))) (cells : List AnyValue) (i : ℕ) → cells ≡ map string_cell column → text_or_null quoted (slot_at column i) ≡ compact_text (cell_spelling (cell_at cells i))
+pub of_string : (column : List (Option (List ℕ))) (cells : List AnyValue) (i : ℕ) → cells ≡ map string_cell column → text_or_null quoted (nullable_at column i) ≡ compact_text (cell_spelling (cell_at cells i))
 of_string = of_cells string_cell quoted text-string refl
 
-pub of_binary : (column : List (Option (List ℕ))) (cells : List AnyValue) (i : ℕ) → cells ≡ map binary_cell column → text_or_null quoted_hex (slot_at column i) ≡ compact_text (cell_spelling (cell_at cells i))
+pub of_binary : (column : List (Option (List ℕ))) (cells : List AnyValue) (i : ℕ) → cells ≡ map binary_cell column → text_or_null quoted_hex (nullable_at column i) ≡ compact_text (cell_spelling (cell_at cells i))
 of_binary = of_cells binary_cell quoted_hex text-binary refl
 
--- what is left of a column's type
-pub some_type : (t : DataType) → false ≡ eq_dtype t dtype.Int32 → false ≡ eq_dtype t dtype.Int64 → false ≡ eq_dtype t dtype.UInt32 → false ≡ eq_dtype t dtype.UInt64 → false ≡ eq_dtype t dtype.Boolean → false ≡ eq_dtype t dtype.String → false ≡ eq_dtype t dtype.Binary → ⊥
-some_type dtype.Int32 a b c d e f g = true≢false (sym a)
-some_type dtype.Int64 a b c d e f g = true≢false (sym b)
-some_type dtype.UInt32 a b c d e f g = true≢false (sym c)
-some_type dtype.UInt64 a b c d e f g = true≢false (sym d)
-some_type dtype.Boolean a b c d e f g = true≢false (sym e)
-some_type dtype.String a b c d e f g = true≢false (sym f)
-some_type dtype.Binary a b c d e f g = true≢false (sym g)
+pub of_int128 : (column : List (Option ℤ)) (cells : List AnyValue) (i : ℕ) → cells ≡ map int128_cell column → text_or_null quoted_decimal (nullable_at column i) ≡ compact_text (cell_spelling (cell_at cells i))
+of_int128 = of_cells int128_cell quoted_decimal text-int128 refl
 
 plain_at : (s : List ℕ) (d : ℕ) → all_plain s ≡ true → d < length s → is_plain (slice_index s d) ≡ true
 plain_at [] d h lt = absurd (omega arith)
@@ -107,4 +104,4 @@ plain_at (b ∷ s) (suc d) h lt = let p = and_parts (is_plain b) (all_plain s) h
 pub escape_byte-digit : (d : ℕ) → d < 16 → escape_byte (slice_index lower_digits d) ≡ slice_index lower_digits d ∷ []
 escape_byte-digit d lt = escape_byte-plain (slice_index lower_digits d) (plain_at lower_digits d refl lt)
 
-pub ruleset cell_rules = (of_int32, of_int64, of_uint32, of_uint64, of_boolean, of_string, of_binary, length-map)
+pub ruleset cell_rules = (of_int32, of_int64, of_uint32, of_uint64, of_boolean, of_string, of_binary, of_int128, length-map)

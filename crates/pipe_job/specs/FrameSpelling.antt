@@ -7,7 +7,7 @@ use Rattle.pipe_frame.specs.Schema.{IsSchema}
 use Rattle.pipe_frame.specs.Series.{Cells}
 use Rattle.pipe_frame.specs.Frame.{Table, table_of, columns_of}
 use Rattle.pipe_job.specs.declared.misread.Misread.{Misread}
-use Rattle.pipe_job.specs.Reads.{Takes}
+use Rattle.pipe_job.specs.Reads.{ReadWhere}
 use Rattle.pipe_job.specs.Shape.{is_list, is_cell}
 use Rattle.pipe_job.specs.Spelling.{list, single, type_spelling, cell_spelling, FitsType}
 
@@ -35,7 +35,7 @@ pub record IsColumn (name : List ℕ) (t : DataType) (v : Data) (c : Cells) : Ty
   pub fits : AllByRecursion (FitsType t) c.cells
 
 abbrev pub ReadsColumn : List ℕ → DataType → Data → Result Cells Misread → Type 0
-ReadsColumn name t v r = Takes (is_list (is_cell t) v) (IsColumn name t v) r
+ReadsColumn name t v r = ReadWhere (is_list (is_cell t) v) (IsColumn name t v) r
 
 -- the frame of these columns
 pub record IsFrameOf (columns : List Cells) (table : Table) : Type 0 where

@@ -1,7 +1,7 @@
 -- The kinds of nodes, and whether a value spells a node of a kind.
-use Rattle.std.specs.Prelude.{ℕ, List, codes, Bool, ◌&&◌, Option, Some, if◌then◌else◌}
+use Rattle.std.specs.Prelude.{ℕ, List, codes, Bool, ◌&&◌, ◌||◌, Option, Some, if◌then◌else◌}
 use Rattle.std.specs.Str.{bytes_eq}
-use Rattle.serde_json.specs.Data.{Data, string}
+use Rattle.serde_json.specs.Data.{Data, string, Members}
 use Rattle.serde_json.specs.Find.{get}
 use Rattle.pipe_job.specs.Shape.{is_scan, is_filter, is_projection, is_exprs, is_unpivot, is_rename, is_union, is_join, is_sort, is_node_word, on_object, after, is_unsigned, is_list, is_frame, is_exactly, is_end}
 use Rattle.pipe_job.specs.declared.kinds.Kind.{Kind}
@@ -54,7 +54,16 @@ kind_in _ = kind.Sort
 abbrev pub is_node : Data → Bool
 is_node d = is_node_word (get (codes "node") d) && is_kind (kind_in (get (codes "node") d)) d
 
--- whether a value spells a job
+abbrev pub is_version : Data → Bool
+is_version d = is_exactly 1 d || is_exactly 2 d
+
+-- whether members are the last ones of a job
+abbrev pub is_job_back : Members → Bool
+is_job_back ms =
+    after (codes "row_limit") (is_unsigned 32) (after (codes "version") is_version (after (codes "workers") (is_unsigned 32) is_end)) ms
+
+-- whether a value spells a job, as far as its version says nothing of its types
 abbrev pub is_job : Data → Bool
-is_job d = on_object (after (codes "chunk_rows") (is_unsigned 32) (after (codes "frames") (is_list is_frame) (after (codes "plan") (is_list is_node) (after (codes "root") (is_unsigned 32)
-    (after (codes "row_limit") (is_unsigned 32) (after (codes "version") (is_exactly 1) (after (codes "workers") (is_unsigned 32) is_end))))))) d
+is_job d =
+    on_object (after (codes "chunk_rows") (is_unsigned 32) (after (codes "frames") (is_list is_frame) (after (codes "plan") (is_list is_node)
+    (after (codes "root") (is_unsigned 32) is_job_back)))) d

@@ -2,10 +2,10 @@
 pub mod Text
 -- the spelling of cells, and what may be missing
 pub mod Spelling
--- the spelling of expressions
-pub mod ExprSpelling
+-- the spelling of formulas
+pub mod FormulaSpelling
 -- the spelling of nodes
-pub mod PlanSpelling
+pub mod NodeSpelling
 -- the lines of rows
 pub mod Line
 -- the names of operators
@@ -16,11 +16,11 @@ pub mod Shape
 pub mod Kinds
 -- the spelling of frames
 pub mod FrameSpelling
+-- the types of a version
+pub mod Version
 -- the spelling of jobs
 pub mod JobSpelling
 -- what is read from bytes
 pub mod Reading
--- when two jobs are the same
-pub mod Alike
--- what a reader answers
+-- what a reader of values answers
 pub mod Reads

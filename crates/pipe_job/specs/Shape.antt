@@ -1,9 +1,9 @@
 -- Whether a value spells something of a kind: a test for each kind.
-use Rattle.std.specs.Prelude.{ℕ, ◌^◌, ◌==◌, negsuc, codes, List, [], ◌∷◌, ◌||◌, if◌then◌else◌, Option, Some, None, Result, Ok, Err, Bool, true, false, ◌&&◌, not, nat_lt, is_some}
+use Rattle.std.specs.Prelude.{ℕ, ℤ, pos, ◌^◌, ◌==◌, negsuc, codes, List, [], ◌∷◌, ◌||◌, if◌then◌else◌, Option, Some, None, Bool, true, false, ◌&&◌, not, nat_lt, nat_le, ◌%◌, length, is_some}
+use Rattle.std.specs.Fmt.{signed_decimal}
 use Rattle.std.specs.Str.{bytes_eq}
+use Rattle.std.specs.Str.Parse.{signed_digits_value}
 use Rattle.serde_json.specs.Find.{get}
-use Rattle.hex.specs.Hex.{decode_of, encode_lower}
-use Rattle.hex.specs.declared.error.FromHexError.{FromHexError}
 use Rattle.serde_json.specs.Data.{unsigned, negative, Data, null, boolean, number, string, array, object, Items, no_items, item, Members, no_members, member}
 use Rattle.pipe_frame.specs.declared.any_value.AnyValue.{AnyValue}
 use Rattle.pipe_frame.specs.declared.any_value.AnyValue.TheVariants as cell
@@ -105,14 +105,34 @@ abbrev pub is_one_of : List (List ℕ) → Data → Bool
 is_one_of words (string s) = contains_text words s
 is_one_of words _ = false
 
--- whether the bytes that a text decodes to are spelled so
-abbrev pub is_encoded : List ℕ → Result (List ℕ) FromHexError → Bool
-is_encoded s (Ok b) = bytes_eq (encode_lower b) s
-is_encoded s (Err e) = false
+-- whether a byte is a lower-case hexadecimal digit
+abbrev pub is_lower_digit : ℕ → Bool
+is_lower_digit byte = (nat_le 48 byte && nat_le byte 57) || (nat_le 97 byte && nat_le byte 102)
+
+abbrev pub are_lower_digits : List ℕ → Bool
+are_lower_digits [] = true
+are_lower_digits (byte ∷ text) = is_lower_digit byte && are_lower_digits text
+
+-- whether a text is lower-case hexadecimal of even length
+abbrev pub is_hex_text : List ℕ → Bool
+is_hex_text s = are_lower_digits s && (length s % 2 == 0)
 
 abbrev pub is_hex : Data → Bool
-is_hex (string s) = is_encoded s (decode_of s)
+is_hex (string s) = is_hex_text s
 is_hex _ = false
+
+-- whether a whole number fits this many bits beside the sign
+abbrev pub is_within : ℕ → ℤ → Bool
+is_within bits (pos n) = nat_lt n (2 ^ bits)
+is_within bits (negsuc n) = nat_lt n (2 ^ bits)
+
+-- whether a text is the decimal text of the number that its digits stand for, which fits 128 bits
+abbrev pub is_decimal_text : List ℕ → Bool
+is_decimal_text s = is_within 127 (signed_digits_value 10 s) && bytes_eq (signed_decimal (signed_digits_value 10 s)) s
+
+abbrev pub is_decimal : Data → Bool
+is_decimal (string s) = is_decimal_text s
+is_decimal _ = false
 
 -- ---- cells and their types
 
@@ -125,10 +145,11 @@ type_named s =
     else if bytes_eq s (codes "Boolean") then Some dtype.Boolean
     else if bytes_eq s (codes "String") then Some dtype.String
     else if bytes_eq s (codes "Binary") then Some dtype.Binary
+    else if bytes_eq s (codes "Int128") then Some dtype.Int128
     else None
 
 abbrev pub type_words : List (List ℕ)
-type_words = codes "Int32" ∷ codes "Int64" ∷ codes "UInt32" ∷ codes "UInt64" ∷ codes "Boolean" ∷ codes "String" ∷ codes "Binary" ∷ []
+type_words = codes "Int32" ∷ codes "Int64" ∷ codes "UInt32" ∷ codes "UInt64" ∷ codes "Boolean" ∷ codes "String" ∷ codes "Binary" ∷ codes "Int128" ∷ []
 
 abbrev pub is_type : Data → Bool
 is_type d = is_one_of type_words d
@@ -141,6 +162,7 @@ is_value dtype.UInt64 = is_unsigned 64
 is_value dtype.Boolean = is_truth
 is_value dtype.String = is_text
 is_value dtype.Binary = is_hex
+is_value dtype.Int128 = is_decimal
 
 abbrev pub is_cell : DataType → Data → Bool
 is_cell t = is_maybe (is_value t)
@@ -217,7 +239,7 @@ abbrev pub is_slice : Data → Bool
 is_slice d = on_couple (is_signed 63) (is_unsigned 64) d
 
 abbrev pub is_how : Data → Bool
-is_how d = is_one_of (codes "inner" ∷ codes "left" ∷ codes "full" ∷ codes "cross" ∷ []) d
+is_how d = is_one_of (codes "inner" ∷ codes "left" ∷ codes "full" ∷ codes "cross" ∷ codes "semi" ∷ codes "anti" ∷ []) d
 
 abbrev pub is_coalesce : Data → Bool
 is_coalesce d = is_one_of (codes "JoinSpecific" ∷ codes "CoalesceColumns" ∷ codes "KeepColumns" ∷ []) d

@@ -1,5 +1,6 @@
 -- The texts of cells, piece by piece: what the writer of a cell appends.
-use Rattle.std.specs.Prelude.{ℕ, List, [], ◌∷◌, Bool, true, false, ◌&&◌, ◌==◌, not, nat_lt, Option, Some, None, codes}
+use Rattle.std.specs.Prelude.{ℕ, ℤ, List, [], ◌∷◌, Bool, true, false, ◌&&◌, ◌==◌, not, nat_lt, Option, Some, None, codes}
+use Rattle.std.specs.Fmt.{signed_decimal}
 use Rattle.json.specs.Print.{quoted}
 use Rattle.hex.specs.Hex.{encode_lower}
 
@@ -24,3 +25,7 @@ boolean_text false = codes "false"
 -- the digits of bytes as a JSON string
 abbrev pub quoted_hex : List ℕ → List ℕ
 quoted_hex bytes = quoted (encode_lower bytes)
+
+-- the decimal digits of a whole number as a JSON string
+abbrev pub quoted_decimal : ℤ → List ℕ
+quoted_decimal z = quoted (signed_decimal z)

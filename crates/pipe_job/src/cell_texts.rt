@@ -8,7 +8,7 @@ ghost use Rattle.serde_json.specs.Written.{compact_text, comma_if};
 ghost use Rattle.hex.specs.Hex.{encode_lower, lower_digits};
 ghost use Rattle.pipe_frame.specs.Series.{cell_at};
 ghost use Rattle.pipe_job.specs.Spelling.{cell_spelling};
-ghost use Rattle.pipe_job.specs.Text.{is_plain as stands_for_itself, all_plain, text_or_null, quoted_hex, boolean_text};
+ghost use Rattle.pipe_job.specs.Text.{is_plain as stands_for_itself, all_plain, text_or_null, quoted_hex, quoted_decimal, boolean_text};
 
 use itoa::{Buffer, Integer};
 use pipe_frame::{DataType, Series};
@@ -149,6 +149,19 @@ fn push_number<I: Integer>(out: &mut Vec<u8>, x: Option<I>) -> Result<(), AllocE
     }
 }
 
+/// Appends a number of 128 bits as a JSON string, or null.
+fn push_decimal(out: &mut Vec<u8>, x: Option<i128>) -> Result<(), AllocError>
+    ensures { OnOk result (out.new.items ≡ out.old.items ++ text_or_null quoted_decimal x) }
+{
+    match x {
+        Some(x) => {
+            let mut buffer = Buffer::new();
+            push_quoted(out, buffer.format(x))
+        }
+        None => out.extend_from_slice(b"null"),
+    }
+}
+
 /// Appends a truth value, or null.
 fn push_boolean(out: &mut Vec<u8>, x: Option<bool>) -> Result<(), AllocError>
     ensures { OnOk result (out.new.items ≡ out.old.items ++ text_or_null boolean_text x) }
@@ -197,26 +210,29 @@ pub(crate) fn push_cell(out: &mut Vec<u8>, column: &Series, i: usize) -> Result<
     requires { i < length column.now.cells }
     ensures { OnOk result (out.new.items ≡ out.old.items ++ compact_text (cell_spelling (cell_at column.now.cells i))) }
 {
-    if let Some(cells) = column.as_int32() {
+    if let Some(cells) = column.as_column::<i32>() {
         return push_number(out, cells.at(i));
     }
-    if let Some(cells) = column.as_int64() {
+    if let Some(cells) = column.as_column::<i64>() {
         return push_number(out, cells.at(i));
     }
-    if let Some(cells) = column.as_uint32() {
+    if let Some(cells) = column.as_column::<u32>() {
         return push_number(out, cells.at(i));
     }
-    if let Some(cells) = column.as_uint64() {
+    if let Some(cells) = column.as_column::<u64>() {
         return push_number(out, cells.at(i));
     }
-    if let Some(cells) = column.as_boolean() {
+    if let Some(cells) = column.as_column::<bool>() {
         return push_boolean(out, cells.at(i));
     }
     if let Some(cells) = column.as_string() {
         return push_string(out, cells.get(i));
     }
-    match column.as_binary() {
-        Some(cells) => push_binary(out, cells.get(i)),
+    if let Some(cells) = column.as_binary() {
+        return push_binary(out, cells.get(i));
+    }
+    match column.as_column::<i128>() {
+        Some(cells) => push_decimal(out, cells.at(i)),
         None => unreachable!(),
     }
 }

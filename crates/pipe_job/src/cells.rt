@@ -3,10 +3,10 @@
 ghost use Rattle.std.specs.Prelude.{◌≡◌, ⊤};
 ghost use Rattle.serde_json.specs.Data.{string};
 ghost use Rattle.serde_json.specs.View.{view};
-ghost use Rattle.hex.specs.Hex.{encode_lower, IsBytes};
-ghost use Rattle.pipe_job.specs.Reads.{Takes};
-ghost use Rattle.pipe_job.specs.Shape.{is_hex, is_type, is_cell};
-ghost use Rattle.pipe_job.specs.Spelling.{hex_spelling, type_spelling, cell_spelling, FitsType};
+ghost use Rattle.hex.specs.Hex.{IsBytes};
+ghost use Rattle.pipe_job.specs.Reads.{ReadWhere};
+ghost use Rattle.pipe_job.specs.Shape.{is_lower_digit, are_lower_digits, is_hex, is_type, is_cell};
+ghost use Rattle.pipe_job.specs.Spelling.{hex_spelling, type_spelling, cell_spelling, FitsType, IsHexOf};
 
 use crate::misread::Misread;
 use crate::spelled::Spelled;
@@ -37,21 +37,39 @@ fn bytes_from(bytes: Vec<u8>) -> Bytes
     Bytes::from_vec(bytes)
 }
 
-/// The bytes of a text in lower-case hexadecimal digits.
-fn bytes_of(alloc: Global, text: &str) -> Result<Bytes, Misread>
-    ensures { Takes (is_hex (string text.now)) (λ b. (text.now ≡ encode_lower b) × IsBytes b) result }
+/// Whether a byte is a lower-case hexadecimal digit.
+fn is_lower_digit(byte: u8) -> bool
+    ensures { result ≡ is_lower_digit byte }
 {
+    (b'0' <= byte && byte <= b'9') || (b'a' <= byte && byte <= b'f')
+}
+
+/// Whether a text has lower-case hexadecimal digits alone.
+fn are_lower_digits(text: &[u8]) -> bool
+    ensures { result ≡ are_lower_digits text.now }
+{
+    for byte in text {
+        if !is_lower_digit(*byte) {
+            return false;
+        }
+    }
+    true
+}
+
+/// The bytes of a text in lower-case hexadecimal digits.
+#[tactic(auto, using(crate::proofs::Hexes::hex_rules))]
+fn bytes_of(alloc: Global, text: &str) -> Result<Bytes, Misread>
+    ensures { ReadWhere (is_hex (string text.now)) (IsHexOf text.now) result }
+{
+    if !are_lower_digits(text.as_bytes()) {
+        return Err(Misread::Other);
+    }
     let bytes = match hex::decode(alloc, text) {
         Ok(bytes) => bytes,
         Err(hex::FromHexError::OutOfMemory) => return Err(Misread::Memory),
         Err(_) => return Err(Misread::Other),
     };
-    let again = hex::encode(alloc, bytes.as_slice())?;
-    if again.as_str() == text {
-        Ok(bytes_from(bytes))
-    } else {
-        Err(Misread::Other)
-    }
+    Ok(bytes_from(bytes))
 }
 
 impl Spelled for DataType {
@@ -70,6 +88,7 @@ impl Spelled for DataType {
             Some("Boolean") => Ok(DataType::Boolean),
             Some("String") => Ok(DataType::String),
             Some("Binary") => Ok(DataType::Binary),
+            Some("Int128") => Ok(DataType::Int128),
             _ => Err(Misread::Other),
         }
     }
@@ -77,7 +96,7 @@ impl Spelled for DataType {
 
 /// The cell of a type that a value spells.
 pub(crate) fn cell_of(alloc: Global, dtype: DataType, value: &Value) -> Result<AnyValue, Misread>
-    ensures { Takes (is_cell dtype (view value.now)) (λ x. (view value.now ≡ cell_spelling x) × FitsType dtype x) result }
+    ensures { ReadWhere (is_cell dtype (view value.now)) (λ x. (view value.now ≡ cell_spelling x) × FitsType dtype x) result }
 {
     if value.is_null() {
         return Ok(AnyValue::Null);
@@ -90,5 +109,6 @@ pub(crate) fn cell_of(alloc: Global, dtype: DataType, value: &Value) -> Result<A
         DataType::Boolean => Ok(AnyValue::Boolean(bool::read(alloc, value)?)),
         DataType::String => Ok(AnyValue::String(Text::read(alloc, value)?)),
         DataType::Binary => Ok(AnyValue::Binary(Bytes::read(alloc, value)?)),
+        DataType::Int128 => Ok(AnyValue::Int128(i128::read(alloc, value)?)),
     }
 }

@@ -7,7 +7,7 @@ ghost use Rattle.serde_json.specs.Data.{string};
 ghost use Rattle.serde_json.specs.View.{view};
 ghost use Rattle.hex.specs.Hex.{IsBytes, encode_lower};
 ghost use Rattle.pipe_frame.specs.declared.data_type.DataType.TheVariants as dtype;
-ghost use Rattle.pipe_job.specs.Reads.{Takes};
+ghost use Rattle.pipe_job.specs.Reads.{ReadWhere};
 ghost use Rattle.pipe_job.specs.Shape.{is_list, is_maybe, is_text, is_hex, is_column};
 ghost use Rattle.pipe_job.specs.Spelling.{list, maybe, MaybeFits, hex_spelling};
 ghost use Rattle.pipe_job.specs.FrameSpelling.{column_spelling, ColumnFits, ReadsColumn};
@@ -15,14 +15,15 @@ ghost use Rattle.pipe_job.specs.FrameSpelling.{column_spelling, ColumnFits, Read
 use crate::members::Members;
 use crate::misread::Misread;
 use crate::spelled::Spelled;
+use crate::spelled_cell::SpelledCell;
 use pipe_frame::{BinaryColumn, Bytes, Column, DataType, Series, StringColumn, Text};
 use serde_json::Value;
 use std::alloc::{AllocError, Global};
 
-/// What may be a value, as a value spells it.
-fn slot_of<T: Spelled>(alloc: Global, value: &Value) -> Result<Option<T>, Misread>
-    ensures { Takes (is_maybe T.shape (view value.now))
-        (λ slot. (view value.now ≡ maybe T.spelling slot) × MaybeFits T.fits slot) result }
+/// The nullable value that a value spells.
+fn nullable_of<T: Spelled>(alloc: Global, value: &Value) -> Result<Option<T>, Misread>
+    ensures { ReadWhere (is_maybe T.shape (view value.now))
+        (λ x. (view value.now ≡ maybe T.spelling x) × MaybeFits T.fits x) result }
 {
     <Option<T>>::read(alloc, value)
 }
@@ -33,7 +34,7 @@ fn values_of<T: Spelled + Copy>(
     value: &Value,
     filler: T,
 ) -> Result<Column<T>, Misread>
-    ensures { Takes (is_list (is_maybe T.shape) (view value.now))
+    ensures { ReadWhere (is_list (is_maybe T.shape) (view value.now))
         (λ column. (view value.now ≡ list (maybe T.spelling) column) × AllByRecursion (MaybeFits T.fits) column) result }
 {
     let Value::Array(values) = value else {
@@ -41,15 +42,15 @@ fn values_of<T: Spelled + Copy>(
     };
     let mut column = Column::new(alloc);
     for value in values {
-        let slot = slot_of::<T>(alloc, value)?;
-        column.push_maybe(slot, filler)?;
+        let x = nullable_of::<T>(alloc, value)?;
+        column.push_option(x, filler)?;
     }
     Ok(column)
 }
 
 /// The text that a value spells, or none of null.
 fn text_of(value: &Value) -> Result<Option<&str>, Misread>
-    ensures { Takes (is_maybe is_text (view value.now)) (λ text. view value.now ≡ maybe string (option_copied text)) result }
+    ensures { ReadWhere (is_maybe is_text (view value.now)) (λ text. view value.now ≡ maybe string (option_copied text)) result }
 {
     match value {
         Value::Null => Ok(None),
@@ -60,7 +61,7 @@ fn text_of(value: &Value) -> Result<Option<&str>, Misread>
 
 /// The column of texts that a value spells.
 fn texts_of(alloc: Global, value: &Value) -> Result<StringColumn, Misread>
-    ensures { Takes (is_list (is_maybe is_text) (view value.now)) (λ column. view value.now ≡ list (maybe string) column) result }
+    ensures { ReadWhere (is_list (is_maybe is_text) (view value.now)) (λ column. view value.now ≡ list (maybe string) column) result }
 {
     let Value::Array(values) = value else {
         return Err(Misread::Other);
@@ -73,7 +74,7 @@ fn texts_of(alloc: Global, value: &Value) -> Result<StringColumn, Misread>
     Ok(column)
 }
 
-/// Puts what may be bytes at the end of a column.
+/// Puts nullable bytes at the end of a column.
 fn push_bytes(column: &mut BinaryColumn, bytes: &Option<Bytes>) -> Result<(), AllocError>
     ensures { OnOk result (column.new ≡ column.old ++ bytes.now ∷ []) }
 {
@@ -85,7 +86,7 @@ fn push_bytes(column: &mut BinaryColumn, bytes: &Option<Bytes>) -> Result<(), Al
 
 /// The column of byte strings that a value spells.
 fn bytes_of(alloc: Global, value: &Value) -> Result<BinaryColumn, Misread>
-    ensures { Takes (is_list (is_maybe is_hex) (view value.now))
+    ensures { ReadWhere (is_list (is_maybe is_hex) (view value.now))
         (λ column. (view value.now ≡ list (maybe hex_spelling) column) × AllByRecursion (MaybeFits IsBytes) column) result }
 {
     let Value::Array(values) = value else {
@@ -93,10 +94,23 @@ fn bytes_of(alloc: Global, value: &Value) -> Result<BinaryColumn, Misread>
     };
     let mut column = BinaryColumn::new(alloc);
     for value in values {
-        let bytes = slot_of::<Bytes>(alloc, value)?;
+        let bytes = nullable_of::<Bytes>(alloc, value)?;
         push_bytes(&mut column, &bytes)?;
     }
     Ok(column)
+}
+
+/// The column of a name whose cells a value spells, of a type of fixed width.
+fn native_of<T: SpelledCell>(
+    alloc: Global,
+    name: Text,
+    value: &Value,
+    filler: T,
+) -> Result<Series, Misread>
+    ensures { ReadsColumn name T.dtype_of (view value.now) result }
+{
+    let column = values_of::<T>(alloc, value, filler)?;
+    Ok(Series::from_column(name, column))
 }
 
 /// The column of a name and a type whose cells a value spells.
@@ -104,16 +118,14 @@ fn series_of(alloc: Global, name: Text, dtype: DataType, value: &Value) -> Resul
     ensures { ReadsColumn name dtype (view value.now) result }
 {
     match dtype {
-        DataType::Int32 => Ok(Series::from_int32(name, values_of::<i32>(alloc, value, 0)?)),
-        DataType::Int64 => Ok(Series::from_int64(name, values_of::<i64>(alloc, value, 0)?)),
-        DataType::UInt32 => Ok(Series::from_uint32(name, values_of::<u32>(alloc, value, 0)?)),
-        DataType::UInt64 => Ok(Series::from_uint64(name, values_of::<u64>(alloc, value, 0)?)),
-        DataType::Boolean => Ok(Series::from_boolean(
-            name,
-            values_of::<bool>(alloc, value, false)?,
-        )),
+        DataType::Int32 => native_of::<i32>(alloc, name, value, 0),
+        DataType::Int64 => native_of::<i64>(alloc, name, value, 0),
+        DataType::UInt32 => native_of::<u32>(alloc, name, value, 0),
+        DataType::UInt64 => native_of::<u64>(alloc, name, value, 0),
+        DataType::Boolean => native_of::<bool>(alloc, name, value, false),
         DataType::String => Ok(Series::from_string(name, texts_of(alloc, value)?)),
         DataType::Binary => Ok(Series::from_binary(name, bytes_of(alloc, value)?)),
+        DataType::Int128 => native_of::<i128>(alloc, name, value, 0),
     }
 }
 

@@ -2,10 +2,10 @@
 
 ghost use Rattle.std.specs.Prelude.{◌≡◌, codes, IfOk};
 ghost use Rattle.serde_json.specs.View.{view};
-ghost use Rattle.pipe_job.specs.Reads.{Takes};
+ghost use Rattle.pipe_job.specs.Reads.{ReadWhere};
 ghost use Rattle.pipe_job.specs.Shape.{is_literal, is_expr, is_text};
 ghost use Rattle.pipe_job.specs.Spelling.{single};
-ghost use Rattle.pipe_job.specs.ExprSpelling.{expr_spelling, ExprFits};
+ghost use Rattle.pipe_job.specs.FormulaSpelling.{expr_spelling, ExprFits, IsExpr};
 
 use crate::cells::cell_of;
 use crate::members::{Members, only_member, two_items};
@@ -19,7 +19,7 @@ use std::alloc::{AllocError, Global};
 
 /// The literal that a value spells.
 fn literal_of(alloc: Global, value: &Value) -> Result<Expr, Misread>
-    ensures { Takes (is_literal (view value.now)) (λ x. (expr_spelling x ≡ single (codes "lit") (view value.now)) × ExprFits x) result }
+    ensures { ReadWhere (is_literal (view value.now)) (λ x. (expr_spelling x ≡ single (codes "lit") (view value.now)) × ExprFits x) result }
 {
     let mut members = Members::of(value)?;
     let dtype = members.field::<DataType>(alloc, "type")?;
@@ -31,7 +31,7 @@ fn literal_of(alloc: Global, value: &Value) -> Result<Expr, Misread>
 
 /// The column that a value names.
 fn column_of(alloc: Global, value: &Value) -> Result<Expr, Misread>
-    ensures { Takes (is_text (view value.now)) (λ x. (expr_spelling x ≡ single (codes "col") (view value.now)) × ExprFits x) result }
+    ensures { ReadWhere (is_text (view value.now)) (λ x. (expr_spelling x ≡ single (codes "col") (view value.now)) × ExprFits x) result }
 {
     Ok(Expr::Col(Text::read(alloc, value)?))
 }
@@ -45,7 +45,7 @@ fn boxed(alloc: Global, expr: Expr) -> Result<Box<Expr>, AllocError>
 
 /// The expression that a value spells.
 fn expr_of(alloc: Global, value: &Value) -> Result<Expr, Misread>
-    ensures { Takes (is_expr (view value.now)) (λ x. (view value.now ≡ expr_spelling x) × ExprFits x) result }
+    ensures { ReadWhere (is_expr (view value.now)) (IsExpr (view value.now)) result }
 {
     let (name, inner) = only_member(value)?;
     if name == "col" {

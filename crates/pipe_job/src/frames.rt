@@ -3,7 +3,7 @@
 ghost use Rattle.std.specs.Prelude.{◌≡◌};
 ghost use Rattle.std.specs.List.{AllByRecursion};
 ghost use Rattle.serde_json.specs.View.{view};
-ghost use Rattle.pipe_job.specs.Reads.{Takes};
+ghost use Rattle.pipe_job.specs.Reads.{ReadWhere};
 ghost use Rattle.pipe_job.specs.Shape.{is_frame, is_table};
 ghost use Rattle.pipe_job.specs.Spelling.{list};
 ghost use Rattle.pipe_job.specs.FrameSpelling.{column_spelling, ColumnFits, frame_spelling, FrameFits, IsFrameOf};
@@ -19,7 +19,7 @@ use std::alloc::Global;
 #[tactic(auto, using(crate::proofs::FrameTests::frame_rules))]
 fn frame_of(alloc: Global, columns: Vec<Series>) -> Result<DataFrame, Misread>
     requires { AllByRecursion ColumnFits columns.items }
-    ensures { Takes (is_table (list column_spelling columns.items)) (IsFrameOf columns.items) result }
+    ensures { ReadWhere (is_table (list column_spelling columns.items)) (IsFrameOf columns.items) result }
 {
     match DataFrame::new(alloc, columns) {
         Ok(frame) => Ok(frame),

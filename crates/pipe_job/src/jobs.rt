@@ -1,15 +1,16 @@
 //! Jobs in JSON.
 
-ghost use Rattle.std.specs.Prelude.{◌≡◌, IfOk, IfErr, IfSome, IfNone};
-ghost use Rattle.serde_json.specs.Data.{Data};
-ghost use Rattle.serde_json.specs.View.{view};
-ghost use Rattle.pipe_job.specs.Kinds.{is_job};
-ghost use Rattle.pipe_job.specs.JobSpelling.{job_spelling, JobFits, Spells};
-ghost use Rattle.pipe_job.specs.Reading.{Reading, ReadsJob, ReadsNoJob};
+ghost use Rattle.std.specs.Prelude.{◌≡◌, IfOk, IfSome, IfNone, IsErrOf};
+ghost use Rattle.serde_json.specs.View.{view, members_view};
+ghost use Rattle.pipe_job.specs.Kinds.{is_job, is_job_back};
+ghost use Rattle.pipe_job.specs.JobSpelling.{IsJobBack, PartsFit, Spells, Task, task_of, task_spelling};
+ghost use Rattle.pipe_job.specs.Reads.{ReadWhere};
+ghost use Rattle.pipe_job.specs.Reading.{Reading, ReadsJob, ReadsNoJob, ReadsNothing};
 
 use crate::members::Members;
 use crate::misread::Misread;
 use crate::spelled::Spelled;
+use crate::version::{arena_has_int128, version_of};
 use pipe_frame::{DataFrame, List};
 use pipe_plan::{Arena, IR, PipeConfig};
 use serde_json::Value;
@@ -19,6 +20,8 @@ use thiserror::Error;
 /// A plan, the frames that it scans, and how it is run.
 #[derive(Debug)]
 pub struct Job {
+    /// 1 or 2. Only version 2 has the type Int128.
+    pub version: u32,
     pub config: PipeConfig,
     pub arena: Arena,
     /// The number of the node whose rows are asked for.
@@ -28,6 +31,7 @@ pub struct Job {
 impl Drop for Job {
     fn drop(self) {
         let Job {
+            version: _,
             config: _,
             arena,
             root: _,
@@ -36,24 +40,51 @@ impl Drop for Job {
     }
 }
 
-impl Spelled for Job {
-    ghost spelling = { job_spelling };
+/// What comes of a job from its row limit on.
+#[derive(Clone, Copy)]
+struct JobBack {
+    row_limit: u32,
+    version: u32,
+    workers: u32,
+}
 
-    ghost fits = { JobFits };
+/// The last members of a job, from its row limit on.
+fn back_of(alloc: Global, members: &mut Members) -> Result<JobBack, Misread>
+    ensures { ReadWhere (is_job_back (members_view members.old.rest)) (IsJobBack (members_view members.old.rest)) result }
+{
+    let row_limit = members.field::<u32>(alloc, "row_limit")?;
+    let version = version_of(members.take("version")?)?;
+    let workers = members.field::<u32>(alloc, "workers")?;
+    members.end()?;
+    Ok(JobBack {
+        row_limit,
+        version,
+        workers,
+    })
+}
+
+impl Spelled for Job {
+    ghost spelling = { λ job. task_spelling (task_of job) };
+
+    ghost fits = { λ job. PartsFit (task_of job) };
 
     ghost shape = { is_job };
 
+    /// Whether the types are those of the version isn't looked at here.
+    #[tactic(auto, using(crate::proofs::Formulas::node_lists))]
     fn read(alloc: Global, value: &Value) -> Result<Job, Misread> {
         let mut members = Members::of(value)?;
         let chunk_rows = members.field::<u32>(alloc, "chunk_rows")?;
         let frames = members.field::<List<DataFrame>>(alloc, "frames")?;
         let nodes = members.field::<List<IR>>(alloc, "plan")?;
         let root = members.field::<u32>(alloc, "root")?;
-        let row_limit = members.field::<u32>(alloc, "row_limit")?;
-        members.whole("version", 1)?;
-        let workers = members.field::<u32>(alloc, "workers")?;
-        members.end()?;
+        let JobBack {
+            row_limit,
+            version,
+            workers,
+        } = back_of(alloc, &mut members)?;
         Ok(Job {
+            version,
             config: PipeConfig {
                 workers,
                 chunk_rows,
@@ -66,13 +97,17 @@ impl Spelled for Job {
 }
 
 /// The job that a value spells, none exactly where it spells no job.
-#[tactic(auto, using(crate::proofs::Again::no_job))]
+#[tactic(auto, using(crate::proofs::Again::no_task))]
 pub fn job_of(alloc: Global, value: &Value) -> Result<Option<Job>, AllocError>
-    ensures found { IfOk result (λ job. IfSome job (Spells (view value.now))) }
-    ensures none { IfOk result (λ job. IfNone job ((other : Job) → Spells (view value.now) other → ⊥)) }
+    ensures found { IfOk result (λ found. IfSome found (λ job. Spells (view value.now) (task_of job))) }
+    ensures none { IfOk result (λ found. IfNone found ((task : Task) → Spells (view value.now) task → ⊥)) }
 {
     match Job::read(alloc, value) {
-        Ok(job) => Ok(Some(job)),
+        Ok(job) => if job.version == 1 && arena_has_int128(&job.arena) {
+            Ok(None)
+        } else {
+            Ok(Some(job))
+        },
         Err(Misread::Other) => Ok(None),
         Err(Misread::Memory) => Err(AllocError),
     }
@@ -93,10 +128,10 @@ pub enum JobError {
 }
 
 /// The value that bytes read as.
-fn value_of(alloc: Global, bytes: &[u8]) -> Result<Value, JobError>
+pub fn read_value(alloc: Global, bytes: &[u8]) -> Result<Value, JobError>
     ensures value { IfOk result (λ v. Reading bytes.now (view v)) }
-    ensures bad_text { IfErr result (λ e. e ≡ JobError.BadText → (d : Data) → Reading bytes.now d → ⊥) }
-    ensures no_other { IfErr result (λ e. e ≡ JobError.BadJob → ⊥) }
+    ensures bad_text { IsErrOf result JobError.BadText → ReadsNothing bytes.now }
+    ensures no_other { IsErrOf result JobError.BadJob → ⊥ }
 {
     match Value::from_slice(alloc, bytes) {
         Ok(value) => Ok(value),
@@ -111,11 +146,11 @@ fn value_of(alloc: Global, bytes: &[u8]) -> Result<Value, JobError>
 /// The job that bytes spell. `BadText` where they are no JSON text, `BadJob` exactly where the value read spells
 /// no job.
 pub fn read_job(alloc: Global, bytes: &[u8]) -> Result<Job, JobError>
-    ensures job { IfOk result (ReadsJob bytes.now) }
-    ensures bad_text { IfErr result (λ e. e ≡ JobError.BadText → (d : Data) → Reading bytes.now d → ⊥) }
-    ensures bad_job { IfErr result (λ e. e ≡ JobError.BadJob → ReadsNoJob bytes.now) }
+    ensures job { IfOk result (λ job. ReadsJob bytes.now (task_of job)) }
+    ensures bad_text { IsErrOf result JobError.BadText → ReadsNothing bytes.now }
+    ensures bad_job { IsErrOf result JobError.BadJob → ReadsNoJob bytes.now }
 {
-    let value = value_of(alloc, bytes)?;
+    let value = read_value(alloc, bytes)?;
     match job_of(alloc, &value) {
         Ok(Some(job)) => Ok(job),
         Ok(None) => Err(JobError::BadJob),

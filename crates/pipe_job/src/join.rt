@@ -2,9 +2,9 @@
 
 ghost use Rattle.std.specs.Prelude.{◌≡◌, ⊤};
 ghost use Rattle.serde_json.specs.View.{view, members_view};
-ghost use Rattle.pipe_job.specs.Reads.{Takes};
+ghost use Rattle.pipe_job.specs.Reads.{ReadWhere};
 ghost use Rattle.pipe_job.specs.Shape.{is_how, is_coalesce, is_hint, is_join, is_join_back};
-ghost use Rattle.pipe_job.specs.PlanSpelling.{how_spelling, coalesce_spelling, hint_spelling, HintFits, node_spelling, NodeFits, join_back, JoinBackFits};
+ghost use Rattle.pipe_job.specs.NodeSpelling.{how_spelling, coalesce_spelling, hint_spelling, HintFits, IsBack, IsNode};
 
 use crate::members::{Members, two_items};
 use crate::misread::Misread;
@@ -28,6 +28,8 @@ impl Spelled for JoinType {
             Some("left") => Ok(JoinType::Left),
             Some("full") => Ok(JoinType::Full),
             Some("cross") => Ok(JoinType::Cross),
+            Some("semi") => Ok(JoinType::Semi),
+            Some("anti") => Ok(JoinType::Anti),
             _ => Err(Misread::Other),
         }
     }
@@ -76,10 +78,10 @@ struct Back {
 }
 
 /// The last members of a join, from its right side on.
+#[tactic(auto, using(crate::proofs::Formulas::formula_lists))]
 fn back_of(alloc: Global, members: &mut Members) -> Result<Back, Misread>
-    ensures { Takes (is_join_back (members_view members.old.rest))
-        (λ b. (members_view members.old.rest ≡ join_back b.right b.right_on b.rows_left b.rows_right b.suffix)
-        × JoinBackFits b.right b.right_on b.rows_left b.rows_right) result }
+    ensures { ReadWhere (is_join_back (members_view members.old.rest))
+        (IsBack (members_view members.old.rest)) result }
 {
     let right = members.field::<u32>(alloc, "right")?;
     let right_on = members.field::<List<Expr>>(alloc, "right_on")?;
@@ -97,9 +99,9 @@ fn back_of(alloc: Global, members: &mut Members) -> Result<Back, Misread>
 }
 
 /// The join that a value spells.
-#[tactic(auto, using(crate::proofs::Shapes::shapes))]
+#[tactic(auto, using(crate::proofs::Shapes::shapes, crate::proofs::Formulas::formula_lists))]
 pub(crate) fn join_of(alloc: Global, value: &Value) -> Result<IR, Misread>
-    ensures { Takes (is_join (view value.now)) (λ x. (view value.now ≡ node_spelling x) × NodeFits x) result }
+    ensures { ReadWhere (is_join (view value.now)) (IsNode (view value.now)) result }
 {
     let mut members = Members::of(value)?;
     let coalesce = members.field::<JoinCoalesce>(alloc, "coalesce")?;

@@ -4,7 +4,7 @@ ghost use Rattle.std.specs.Prelude.{◌≡◌, codes, MatchOption, false, Some};
 ghost use Rattle.serde_json.specs.Data.{string};
 ghost use Rattle.serde_json.specs.Find.{get};
 ghost use Rattle.serde_json.specs.View.{view};
-ghost use Rattle.pipe_job.specs.Reads.{Takes};
+ghost use Rattle.pipe_job.specs.Reads.{ReadWhere};
 ghost use Rattle.pipe_job.specs.Shape.{contains_text, node_words, is_node_word};
 ghost use Rattle.pipe_job.specs.Kinds.{kind_name};
 
@@ -49,7 +49,7 @@ impl Kind {
 
 /// The kind of the node that a value may spell.
 pub(crate) fn kind_of(value: &Value) -> Result<Kind, Misread>
-    ensures { Takes (is_node_word (get (codes "node") (view value.now)))
+    ensures { ReadWhere (is_node_word (get (codes "node") (view value.now)))
         (λ kind. get (codes "node") (view value.now) ≡ Some (string (kind_name kind))) result }
 {
     let name = match value.get("node") {

@@ -1,6 +1,6 @@
 //! Jobs in JSON: their spelling, their reader, and the lines of rows.
 //!
-//! The one contract used above: a value spells a job exactly where the reader gives that job.
+//! A value spells a job exactly where the reader gives that job.
 #![tactic(auto)]
 
 mod cell_texts;
@@ -19,10 +19,9 @@ mod misread;
 mod nodes;
 mod ops;
 mod spelled;
+mod spelled_cell;
+mod version;
 
-pub use jobs::{Job, JobError, job_of, read_job};
-pub use laws::{lines_of_frame, one_flat_job, one_job};
+pub use jobs::{Job, JobError, job_of, read_job, read_value};
+pub use laws::{lines_of_frame, one_job};
 pub use lines::{head_line, push_head_line, push_rows, row_line};
-
-#[cfg(test)]
-mod tests;

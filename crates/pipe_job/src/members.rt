@@ -1,10 +1,10 @@
 //! The members of an object, one by one in the order of their names, and other parts of values.
 
 ghost use Rattle.std.specs.Prelude.{◌≡◌, false, MatchResult, IfOk};
-ghost use Rattle.serde_json.specs.Data.{object, member, string, number, unsigned, no_members, array, item, no_items};
+ghost use Rattle.serde_json.specs.Data.{object, member, string, no_members, array, item, no_items};
 ghost use Rattle.serde_json.specs.View.{view, members_view};
-ghost use Rattle.pipe_job.specs.Shape.{begins, is_object, is_end, has, is_word, is_exactly, is_single, is_couple};
-ghost use Rattle.pipe_job.specs.Reads.{Takes};
+ghost use Rattle.pipe_job.specs.Shape.{begins, is_object, is_end, has, is_word, is_single, is_couple};
+ghost use Rattle.pipe_job.specs.Reads.{ReadWhere};
 
 use crate::misread::Misread;
 use crate::spelled::Spelled;
@@ -21,7 +21,7 @@ pub(crate) struct Members<'a> {
 impl<'a> Members<'a> {
     /// The members of a value that is an object.
     pub(crate) fn of(value: &'a Value) -> Result<Members<'a>, Misread>
-        ensures { Takes (is_object (view value.now)) (λ m. view value.now ≡ object (members_view m.rest)) result }
+        ensures { ReadWhere (is_object (view value.now)) (λ m. view value.now ≡ object (members_view m.rest)) result }
     {
         match value {
             Value::Object(members) => Ok(Members {
@@ -33,7 +33,7 @@ impl<'a> Members<'a> {
 
     /// The value of the next member, where it has this name.
     pub(crate) fn take(&mut self, name: &str) -> Result<&'a Value, Misread>
-        ensures { Takes (begins name.now (members_view self.old.rest))
+        ensures { ReadWhere (begins name.now (members_view self.old.rest))
             (λ v. members_view self.old.rest ≡ member name.now (view v.now) (members_view self.new.rest)) result }
     {
         match self.rest.next() {
@@ -48,7 +48,7 @@ impl<'a> Members<'a> {
 
     /// Reads the value of the next member, where it has this name.
     pub(crate) fn field<T: Spelled>(&mut self, alloc: Global, name: &str) -> Result<T, Misread>
-        ensures { Takes (has name.now T.shape (members_view self.old.rest))
+        ensures { ReadWhere (has name.now T.shape (members_view self.old.rest))
             (λ x. (members_view self.old.rest ≡ member name.now (T.spelling x) (members_view self.new.rest)) × T.fits x) result }
     {
         let value = self.take(name)?;
@@ -57,7 +57,7 @@ impl<'a> Members<'a> {
 
     /// Takes a member of this name with this word for its value.
     pub(crate) fn word(&mut self, name: &str, word: &str) -> Result<(), Misread>
-        ensures { Takes (has name.now (is_word word.now) (members_view self.old.rest))
+        ensures { ReadWhere (has name.now (is_word word.now) (members_view self.old.rest))
             (λ _. members_view self.old.rest ≡ member name.now (string word.now) (members_view self.new.rest)) result }
     {
         let value = self.take(name)?;
@@ -68,22 +68,9 @@ impl<'a> Members<'a> {
         }
     }
 
-    /// Takes a member of this name with this whole number for its value.
-    pub(crate) fn whole(&mut self, name: &str, n: u64) -> Result<(), Misread>
-        ensures { Takes (has name.now (is_exactly n) (members_view self.old.rest))
-            (λ _. members_view self.old.rest ≡ member name.now (number (unsigned n)) (members_view self.new.rest)) result }
-    {
-        let value = self.take(name)?;
-        if value.as_u64() == Some(n) {
-            Ok(())
-        } else {
-            Err(Misread::Other)
-        }
-    }
-
     /// Takes no member, where there is none.
     pub(crate) fn end(&mut self) -> Result<(), Misread>
-        ensures { Takes (is_end (members_view self.old.rest)) (λ _. members_view self.old.rest ≡ no_members) result }
+        ensures { ReadWhere (is_end (members_view self.old.rest)) (λ _. members_view self.old.rest ≡ no_members) result }
     {
         match self.rest.next() {
             None => Ok(()),
@@ -94,7 +81,7 @@ impl<'a> Members<'a> {
 
 /// The name and the value of an object's one member.
 pub(crate) fn only_member(value: &Value) -> Result<(&str, &Value), Misread>
-    ensures { Takes (is_single (view value.now)) (λ p. view value.now ≡ object (member p.0.now (view p.1.now) no_members)) result }
+    ensures { ReadWhere (is_single (view value.now)) (λ p. view value.now ≡ object (member p.0.now (view p.1.now) no_members)) result }
 {
     let mut members = Members::of(value)?;
     match members.rest.next() {
@@ -109,7 +96,7 @@ pub(crate) fn only_member(value: &Value) -> Result<(&str, &Value), Misread>
 /// The items of an array of two.
 #[tactic(auto, using(crate::proofs::Depths::two_of, crate::proofs::Depths::not_two))]
 pub(crate) fn two_items(value: &Value) -> Result<(&Value, &Value), Misread>
-    ensures { Takes (is_couple (view value.now)) (λ p. view value.now ≡ array (item (view p.0.now) (item (view p.1.now) no_items))) result }
+    ensures { ReadWhere (is_couple (view value.now)) (λ p. view value.now ≡ array (item (view p.0.now) (item (view p.1.now) no_items))) result }
 {
     match value.as_array() {
         Some(items) if items.len() == 2 => Ok((&items[0], &items[1])),

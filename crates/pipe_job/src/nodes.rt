@@ -2,11 +2,11 @@
 
 ghost use Rattle.std.specs.Prelude.{◌≡◌, codes};
 ghost use Rattle.serde_json.specs.View.{view};
-ghost use Rattle.pipe_job.specs.Reads.{Takes};
+ghost use Rattle.pipe_job.specs.Reads.{ReadWhere};
 ghost use Rattle.pipe_job.specs.Shape.{is_named, is_pair, is_slice, is_scan, is_filter, is_projection, is_exprs, is_unpivot, is_rename, is_union, is_sort};
 ghost use Rattle.pipe_job.specs.Kinds.{is_kind, is_node};
-ghost use Rattle.pipe_job.specs.ExprSpelling.{named_spelling, NamedFits};
-ghost use Rattle.pipe_job.specs.PlanSpelling.{pair_spelling, slice_spelling, SliceFits, node_spelling, NodeFits};
+ghost use Rattle.pipe_job.specs.FormulaSpelling.{named_expr_spelling, NamedExprFits};
+ghost use Rattle.pipe_job.specs.NodeSpelling.{pair_spelling, slice_spelling, SliceFits, ir_spelling, IrFits, IsNode};
 
 use crate::join::join_of;
 use crate::kinds::{Kind, kind_of};
@@ -20,9 +20,9 @@ use serde_json::Value;
 use std::alloc::Global;
 
 impl Spelled for NamedExpr {
-    ghost spelling = { named_spelling };
+    ghost spelling = { named_expr_spelling };
 
-    ghost fits = { NamedFits };
+    ghost fits = { NamedExprFits };
 
     ghost shape = { is_named };
 
@@ -73,7 +73,7 @@ impl Spelled for PlanSlice {
 /// The scan that a value spells.
 #[tactic(auto, using(crate::proofs::Shapes::shapes))]
 fn scan_of(alloc: Global, value: &Value) -> Result<IR, Misread>
-    ensures { Takes (is_scan (view value.now)) (λ x. (view value.now ≡ node_spelling x) × NodeFits x) result }
+    ensures { ReadWhere (is_scan (view value.now)) (IsNode (view value.now)) result }
 {
     let mut members = Members::of(value)?;
     let columns = members.field::<Option<List<Text>>>(alloc, "columns")?;
@@ -85,7 +85,7 @@ fn scan_of(alloc: Global, value: &Value) -> Result<IR, Misread>
 
 /// The filter that a value spells.
 fn filter_of(alloc: Global, value: &Value) -> Result<IR, Misread>
-    ensures { Takes (is_filter (view value.now)) (λ x. (view value.now ≡ node_spelling x) × NodeFits x) result }
+    ensures { ReadWhere (is_filter (view value.now)) (IsNode (view value.now)) result }
 {
     let mut members = Members::of(value)?;
     let input = members.field::<u32>(alloc, "input")?;
@@ -98,7 +98,7 @@ fn filter_of(alloc: Global, value: &Value) -> Result<IR, Misread>
 /// The choice of columns that a value spells.
 #[tactic(auto, using(crate::proofs::Shapes::shapes))]
 fn projection_of(alloc: Global, value: &Value) -> Result<IR, Misread>
-    ensures { Takes (is_projection (view value.now)) (λ x. (view value.now ≡ node_spelling x) × NodeFits x) result }
+    ensures { ReadWhere (is_projection (view value.now)) (IsNode (view value.now)) result }
 {
     let mut members = Members::of(value)?;
     let columns = members.field::<List<Text>>(alloc, "columns")?;
@@ -109,8 +109,9 @@ fn projection_of(alloc: Global, value: &Value) -> Result<IR, Misread>
 }
 
 /// The selection that a value spells.
+#[tactic(auto, using(crate::proofs::Formulas::formula_lists))]
 fn select_of(alloc: Global, value: &Value) -> Result<IR, Misread>
-    ensures { Takes (is_exprs (codes "Select") (view value.now)) (λ x. (view value.now ≡ node_spelling x) × NodeFits x) result }
+    ensures { ReadWhere (is_exprs (codes "Select") (view value.now)) (IsNode (view value.now)) result }
 {
     let mut members = Members::of(value)?;
     let exprs = members.field::<List<NamedExpr>>(alloc, "exprs")?;
@@ -121,8 +122,9 @@ fn select_of(alloc: Global, value: &Value) -> Result<IR, Misread>
 }
 
 /// The extension that a value spells.
+#[tactic(auto, using(crate::proofs::Formulas::formula_lists))]
 fn hstack_of(alloc: Global, value: &Value) -> Result<IR, Misread>
-    ensures { Takes (is_exprs (codes "HStack") (view value.now)) (λ x. (view value.now ≡ node_spelling x) × NodeFits x) result }
+    ensures { ReadWhere (is_exprs (codes "HStack") (view value.now)) (IsNode (view value.now)) result }
 {
     let mut members = Members::of(value)?;
     let exprs = members.field::<List<NamedExpr>>(alloc, "exprs")?;
@@ -135,7 +137,7 @@ fn hstack_of(alloc: Global, value: &Value) -> Result<IR, Misread>
 /// The unpivot that a value spells.
 #[tactic(auto, using(crate::proofs::Shapes::shapes))]
 fn unpivot_of(alloc: Global, value: &Value) -> Result<IR, Misread>
-    ensures { Takes (is_unpivot (view value.now)) (λ x. (view value.now ≡ node_spelling x) × NodeFits x) result }
+    ensures { ReadWhere (is_unpivot (view value.now)) (IsNode (view value.now)) result }
 {
     let mut members = Members::of(value)?;
     let index = members.field::<List<Text>>(alloc, "index")?;
@@ -156,7 +158,7 @@ fn unpivot_of(alloc: Global, value: &Value) -> Result<IR, Misread>
 
 /// The renaming that a value spells.
 fn rename_of(alloc: Global, value: &Value) -> Result<IR, Misread>
-    ensures { Takes (is_rename (view value.now)) (λ x. (view value.now ≡ node_spelling x) × NodeFits x) result }
+    ensures { ReadWhere (is_rename (view value.now)) (IsNode (view value.now)) result }
 {
     let mut members = Members::of(value)?;
     let input = members.field::<u32>(alloc, "input")?;
@@ -169,7 +171,7 @@ fn rename_of(alloc: Global, value: &Value) -> Result<IR, Misread>
 
 /// The union that a value spells.
 fn union_of(alloc: Global, value: &Value) -> Result<IR, Misread>
-    ensures { Takes (is_union (view value.now)) (λ x. (view value.now ≡ node_spelling x) × NodeFits x) result }
+    ensures { ReadWhere (is_union (view value.now)) (IsNode (view value.now)) result }
 {
     let mut members = Members::of(value)?;
     let inputs = members.field::<List<u32>>(alloc, "inputs")?;
@@ -180,7 +182,7 @@ fn union_of(alloc: Global, value: &Value) -> Result<IR, Misread>
 
 /// The sort that a value spells.
 fn sort_of(alloc: Global, value: &Value) -> Result<IR, Misread>
-    ensures { Takes (is_sort (view value.now)) (λ x. (view value.now ≡ node_spelling x) × NodeFits x) result }
+    ensures { ReadWhere (is_sort (view value.now)) (IsNode (view value.now)) result }
 {
     let mut members = Members::of(value)?;
     let by = members.field::<List<Text>>(alloc, "by")?;
@@ -200,7 +202,7 @@ fn sort_of(alloc: Global, value: &Value) -> Result<IR, Misread>
 
 /// The node of a kind that a value spells.
 fn node_of(alloc: Global, kind: Kind, value: &Value) -> Result<IR, Misread>
-    ensures { Takes (is_kind kind (view value.now)) (λ x. (view value.now ≡ node_spelling x) × NodeFits x) result }
+    ensures { ReadWhere (is_kind kind (view value.now)) (IsNode (view value.now)) result }
 {
     match kind {
         Kind::DataFrameScan => scan_of(alloc, value),
@@ -217,9 +219,9 @@ fn node_of(alloc: Global, kind: Kind, value: &Value) -> Result<IR, Misread>
 }
 
 impl Spelled for IR {
-    ghost spelling = { node_spelling };
+    ghost spelling = { ir_spelling };
 
-    ghost fits = { NodeFits };
+    ghost fits = { IrFits };
 
     ghost shape = { is_node };
 

@@ -3,7 +3,7 @@
 ghost use Rattle.std.specs.Prelude.{◌≡◌, false, MatchOption};
 ghost use Rattle.pipe_job.specs.Shape.{contains_text, unary_words, binary_words};
 ghost use Rattle.pipe_job.specs.Spelling.{single, couple};
-ghost use Rattle.pipe_job.specs.ExprSpelling.{expr_spelling, ExprFits};
+ghost use Rattle.pipe_job.specs.FormulaSpelling.{expr_spelling, ExprFits};
 ghost use Rattle.pipe_job.specs.Operators.{unary_name, binary_name};
 
 use pipe_expr::Expr;

@@ -1,14 +1,16 @@
 //! What has a spelling in JSON, and how it is read.
 
 ghost use Rattle.std.specs.Prelude.{◌≡◌, ◌^◌, ◌<◌, Bool, ⊤, FitsSigned};
-ghost use Rattle.std.specs.Int.{w32, w64};
+ghost use Rattle.std.specs.Int.{w32, w64, w128};
 ghost use Rattle.serde_json.specs.Data.{Data, number, unsigned, string, boolean};
 ghost use Rattle.serde_json.specs.Find.{of_integer};
 ghost use Rattle.serde_json.specs.View.{view};
-ghost use Rattle.pipe_job.specs.Shape.{is_unsigned, is_signed, is_text, is_truth};
-ghost use Rattle.pipe_job.specs.Reads.{Reads};
+ghost use Rattle.pipe_job.specs.Shape.{is_unsigned, is_signed, is_decimal, is_text, is_truth};
+ghost use Rattle.pipe_job.specs.Reads.{ReadWhere, ReadsSpelled};
+ghost use Rattle.pipe_job.specs.Spelling.{decimal_spelling};
 
 use crate::misread::Misread;
+use itoa::Buffer;
 use pipe_frame::Text;
 use serde_json::Value;
 use std::alloc::Global;
@@ -26,7 +28,7 @@ pub trait Spelled: Drop {
 
     /// The one that a value spells.
     fn read(alloc: Global, value: &Value) -> Result<Self, Misread>
-        ensures { Reads shape spelling fits (view value.now) result };
+        ensures { ReadsSpelled shape spelling fits (view value.now) result };
 }
 
 impl Spelled for u32 {
@@ -87,6 +89,38 @@ impl Spelled for i32 {
         match i32::try_from(z) {
             Ok(z) => Ok(z),
             Err(_) => Err(Misread::Other),
+        }
+    }
+}
+
+/// The number of 128 bits whose decimal text this is.
+#[tactic(auto, using(crate::proofs::Decimals::decimal_rules))]
+fn decimal_of(text: &str) -> Result<i128, Misread>
+    ensures { ReadWhere (is_decimal (string text.now)) (λ z. (string text.now ≡ decimal_spelling z) × FitsSigned w128 z) result }
+{
+    let Ok(z) = i128::from_str_radix(text, 10) else {
+        return Err(Misread::Other);
+    };
+    // A text that isn't the number's own, as one with a plus sign or a leading zero, spells nothing.
+    let mut buffer = Buffer::new();
+    if buffer.format(z) == text {
+        Ok(z)
+    } else {
+        Err(Misread::Other)
+    }
+}
+
+impl Spelled for i128 {
+    ghost spelling = { decimal_spelling };
+
+    ghost fits = { FitsSigned w128 };
+
+    ghost shape = { is_decimal };
+
+    fn read(_alloc: Global, value: &Value) -> Result<i128, Misread> {
+        match value.as_str() {
+            Some(text) => decimal_of(text),
+            None => Err(Misread::Other),
         }
     }
 }

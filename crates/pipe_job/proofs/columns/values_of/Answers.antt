@@ -9,13 +9,13 @@ use Rattle.pipe_job.proofs.Shapes.{passed_on}
 use Rattle.pipe_job.proofs.SoFar.{all_read, none_read}
 use Rattle.pipe_job.proofs.columns.values_of.Goals as goal
 
-pub returns-in_err-slot : goal.returns-in_err-slot
-returns-in_err-slot g c =
+pub returns-in_err-x : goal.returns-in_err-x
+returns-in_err-x g c =
     let value = view c.args.value.now in
     let all = c.deref-value-items.result.now in
     let shape = is_maybe g.T.Spelled.shape in
     let seen = ap view c.in-Array.is ∙ view-Array c.in-Array.values ∙ ap (λ (l : List Value). array (items_view l)) (sym c.deref-value-items.ensures.value) in
-    passed_on (is_list shape value) (shape (view c.value-item.result)) _ _ _ c.in_err-slot.ensures c.from_residual.ensures.1
+    passed_on (is_list shape value) (shape (view c.value-item.result)) _ _ _ c.in_err-x.ensures c.from_residual.ensures.1
     (λ fails. none_read (maybe g.T.Spelled.spelling) (MaybeFits g.T.Spelled.fits) shape value c.loop-value.value-index all c.value-item.result _ seen c.loop-value-test.true c.value-item.is c.loop-value.invariant fails)
 
 pub returns : goal.returns

@@ -1,8 +1,8 @@
--- A value spells one cell and one expression at most.
-use Rattle.std.proofs.Common.{◌≡◌, ℕ, List, [], ◌∷◌, refl, ap, sym, ◌∙◌, codes, arith, ℤ, pos, negsuc, subst, Result, Ok, Err}
+-- A value spells one cell and one formula at most.
+use Rattle.std.proofs.Common.{◌≡◌, ℕ, List, [], ◌∷◌, refl, ap, ap₂, sym, ◌∙◌, codes, arith, ℤ, pos, negsuc, subst, Result, Ok, Err}
 use Rattle.std.specs.Prelude.{if◌then◌else◌}
-use Rattle.std.specs.List.{AllByRecursion}
 use Rattle.std.specs.Str.{bytes_eq}
+use Rattle.std.specs.Str.Parse.{signed_digits_value}
 use Rattle.std.proofs.lemmas.Option.{same_Some}
 use Rattle.hex.specs.Hex.{decode_of}
 use Rattle.hex.specs.declared.error.FromHexError.{FromHexError}
@@ -12,13 +12,12 @@ use Rattle.pipe_frame.specs.declared.any_value.AnyValue.{AnyValue}
 use Rattle.pipe_frame.specs.declared.any_value.AnyValue.TheVariants as cell
 use Rattle.pipe_frame.specs.declared.data_type.DataType.{DataType}
 use Rattle.pipe_frame.specs.declared.data_type.DataType.TheVariants as dtype
-use Rattle.pipe_expr.specs.declared.expr.Expr.{Expr, Col, Lit, Add', Sub', Mul', Eq', NotEq', Lt', LtEq', Gt', GtEq', And', Or', Not', IsNull', IsNotNull'}
+use Rattle.pipe_expr.specs.Formula.{Formula, Column, Literal, Add, Sub, Mul, Eq, NotEq, Lt, LtEq, Gt, GtEq, And, Or, Not, IsNull, IsNotNull}
 use Rattle.pipe_job.specs.Spelling.{type_spelling, cell_spelling, FitsType}
-use Rattle.pipe_job.specs.ExprSpelling.{expr_spelling, ExprFits}
+use Rattle.pipe_job.specs.FormulaSpelling.{formula_spelling, FormulaFits}
 use Rattle.pipe_job.specs.Shape.{type_at}
-use Rattle.pipe_expr.specs.Alike.{Alike, EachAlike}
-use Rattle.pipe_job.specs.Alike.{IsFlat}
 use Rattle.pipe_job.proofs.Again.{type_again}
+use Rattle.pipe_job.proofs.Decimals.{value_of_decimal}
 
 -- ---- types and cells
 
@@ -50,6 +49,10 @@ abbrev bytes_at : Data → AnyValue
 bytes_at (string s) = decoded (decode_of s)
 bytes_at _ = cell.Null
 
+abbrev decimal_at : Data → AnyValue
+decimal_at (string s) = cell.Int128 (signed_digits_value 10 s)
+decimal_at _ = cell.Null
+
 -- the cell of a type that a value spells, if any
 abbrev cell_at : DataType → Data → AnyValue
 cell_at dtype.Int32 d = int_at cell.Int32 d
@@ -59,6 +62,7 @@ cell_at dtype.UInt64 d = nat_at cell.UInt64 d
 cell_at dtype.Boolean d = bool_at d
 cell_at dtype.String d = text_at d
 cell_at dtype.Binary d = bytes_at d
+cell_at dtype.Int128 d = decimal_at d
 
 null_at : (t : DataType) → cell_at t null ≡ cell.Null
 null_at dtype.Int32 = refl
@@ -68,19 +72,20 @@ null_at dtype.UInt64 = refl
 null_at dtype.Boolean = refl
 null_at dtype.String = refl
 null_at dtype.Binary = refl
+null_at dtype.Int128 = refl
 
 cell_back : (t : DataType) (c : AnyValue) → FitsType t c → cell_at t (cell_spelling c) ≡ c
 cell_back t cell.Null h = null_at t
-cell_back dtype.Int32 (cell.Int32 (pos n)) h = refl
-cell_back dtype.Int32 (cell.Int32 (negsuc n)) h = refl
-cell_back dtype.Int64 (cell.Int64 (pos n)) h = refl
-cell_back dtype.Int64 (cell.Int64 (negsuc n)) h = refl
-cell_back dtype.UInt32 (cell.UInt32 n) h = refl
-cell_back dtype.UInt64 (cell.UInt64 n) h = refl
-cell_back dtype.Boolean (cell.Boolean b) h = refl
-cell_back dtype.String (cell.String s) h = refl
-cell_back dtype.Binary (cell.Binary b) h = ap decoded (decode_of-encode_lower b h)
-cell_back t c h = absurd h
+cell_back t (cell.Int32 (pos n)) h = ap (λ (u : DataType). cell_at u (cell_spelling (cell.Int32 (pos n)))) h.0
+cell_back t (cell.Int32 (negsuc n)) h = ap (λ (u : DataType). cell_at u (cell_spelling (cell.Int32 (negsuc n)))) h.0
+cell_back t (cell.Int64 (pos n)) h = ap (λ (u : DataType). cell_at u (cell_spelling (cell.Int64 (pos n)))) h.0
+cell_back t (cell.Int64 (negsuc n)) h = ap (λ (u : DataType). cell_at u (cell_spelling (cell.Int64 (negsuc n)))) h.0
+cell_back t (cell.UInt32 n) h = ap (λ (u : DataType). cell_at u (cell_spelling (cell.UInt32 n))) h.0
+cell_back t (cell.UInt64 n) h = ap (λ (u : DataType). cell_at u (cell_spelling (cell.UInt64 n))) h.0
+cell_back t (cell.Boolean b) h = ap (λ (u : DataType). cell_at u (cell_spelling (cell.Boolean b))) h
+cell_back t (cell.String s) h = ap (λ (u : DataType). cell_at u (cell_spelling (cell.String s))) h
+cell_back t (cell.Binary b) h = ap (λ (u : DataType). cell_at u (cell_spelling (cell.Binary b))) h.0 ∙ ap decoded (decode_of-encode_lower b h.1)
+cell_back t (cell.Int128 z) h = ap (λ (u : DataType). cell_at u (cell_spelling (cell.Int128 z))) h.0 ∙ ap cell.Int128 (value_of_decimal z h.1).1
 
 pub one_cell : (t : DataType) (c d : AnyValue) → FitsType t c → FitsType t d → cell_spelling c ≡ cell_spelling d → c ≡ d
 one_cell t c d h k e = sym (cell_back t c h) ∙ ap (cell_at t) e ∙ cell_back t d k
@@ -88,7 +93,7 @@ one_cell t c d h k e = sym (cell_back t c h) ∙ ap (cell_at t) e ∙ cell_back 
 one_literal : (t u : DataType) (c d : AnyValue) → FitsType t c → FitsType u d → type_spelling t ≡ type_spelling u → cell_spelling c ≡ cell_spelling d → (t ≡ u) × (c ≡ d)
 one_literal t u c d h k e f = let same = one_type t u e in (same, one_cell u c d (subst (λ (x : DataType). FitsType x c) same h) k f)
 
--- ---- expressions
+-- ---- formulas
 
 abbrev name_of : Data → List ℕ
 name_of (object (member k d ms)) = k
@@ -105,35 +110,21 @@ name_number s =
 abbrev form_number : Data → ℕ
 form_number d = name_number (name_of d)
 
-pub one_expr : (a b : Expr) → ExprFits a → ExprFits b → expr_spelling a ≡ expr_spelling b → Alike a b
-one_expr (Col m) (Col n) h k e = cc
-one_expr (Lit t c) (Lit u d) h k e = one_literal t u c d h k (cc) (cc)
-one_expr (Add' p a q b) (Add' r c s d) h k e = (one_expr a c h.0 k.0 (cc), one_expr b d h.1 k.1 (cc))
-one_expr (Sub' p a q b) (Sub' r c s d) h k e = (one_expr a c h.0 k.0 (cc), one_expr b d h.1 k.1 (cc))
-one_expr (Mul' p a q b) (Mul' r c s d) h k e = (one_expr a c h.0 k.0 (cc), one_expr b d h.1 k.1 (cc))
-one_expr (Eq' p a q b) (Eq' r c s d) h k e = (one_expr a c h.0 k.0 (cc), one_expr b d h.1 k.1 (cc))
-one_expr (NotEq' p a q b) (NotEq' r c s d) h k e = (one_expr a c h.0 k.0 (cc), one_expr b d h.1 k.1 (cc))
-one_expr (Lt' p a q b) (Lt' r c s d) h k e = (one_expr a c h.0 k.0 (cc), one_expr b d h.1 k.1 (cc))
-one_expr (LtEq' p a q b) (LtEq' r c s d) h k e = (one_expr a c h.0 k.0 (cc), one_expr b d h.1 k.1 (cc))
-one_expr (Gt' p a q b) (Gt' r c s d) h k e = (one_expr a c h.0 k.0 (cc), one_expr b d h.1 k.1 (cc))
-one_expr (GtEq' p a q b) (GtEq' r c s d) h k e = (one_expr a c h.0 k.0 (cc), one_expr b d h.1 k.1 (cc))
-one_expr (And' p a q b) (And' r c s d) h k e = (one_expr a c h.0 k.0 (cc), one_expr b d h.1 k.1 (cc))
-one_expr (Or' p a q b) (Or' r c s d) h k e = (one_expr a c h.0 k.0 (cc), one_expr b d h.1 k.1 (cc))
-one_expr (Not' p a) (Not' q b) h k e = one_expr a b h k (cc)
-one_expr (IsNull' p a) (IsNull' q b) h k e = one_expr a b h k (cc)
-one_expr (IsNotNull' p a) (IsNotNull' q b) h k e = one_expr a b h k (cc)
-one_expr _ _ h k e = absurd (omega (arith, ap form_number e))
-
--- expressions with no part that are alike are the same
-pub flat_expr : (a b : Expr) → IsFlat b → Alike a b → a ≡ b
-flat_expr (Col m) (Col n) h e = ap Col e
-flat_expr (Lit t c) (Lit u d) h e = cc
-flat_expr _ (Col n) h e = absurd e
-flat_expr _ (Lit u d) h e = absurd e
-flat_expr _ _ h e = absurd h
-
-pub flat_exprs : (xs ys : List Expr) → AllByRecursion IsFlat ys → EachAlike Alike xs ys → xs ≡ ys
-flat_exprs [] [] h e = refl
-flat_exprs [] (_ ∷ _) h e = absurd e
-flat_exprs (_ ∷ _) [] h e = absurd e
-flat_exprs (x ∷ xs) (y ∷ ys) h e = let first = flat_expr x y h.0 e.0 in let rest = flat_exprs xs ys h.1 e.1 in cc
+pub one_formula : (a b : Formula) → FormulaFits a → FormulaFits b → formula_spelling a ≡ formula_spelling b → a ≡ b
+one_formula (Column m) (Column n) h k e = cc
+one_formula (Literal t c) (Literal u d) h k e = let same = one_literal t u c d h k (cc) (cc) in ap₂ Literal same.0 same.1
+one_formula (Add a b) (Add c d) h k e = ap₂ Add (one_formula a c h.0 k.0 (cc)) (one_formula b d h.1 k.1 (cc))
+one_formula (Sub a b) (Sub c d) h k e = ap₂ Sub (one_formula a c h.0 k.0 (cc)) (one_formula b d h.1 k.1 (cc))
+one_formula (Mul a b) (Mul c d) h k e = ap₂ Mul (one_formula a c h.0 k.0 (cc)) (one_formula b d h.1 k.1 (cc))
+one_formula (Eq a b) (Eq c d) h k e = ap₂ Eq (one_formula a c h.0 k.0 (cc)) (one_formula b d h.1 k.1 (cc))
+one_formula (NotEq a b) (NotEq c d) h k e = ap₂ NotEq (one_formula a c h.0 k.0 (cc)) (one_formula b d h.1 k.1 (cc))
+one_formula (Lt a b) (Lt c d) h k e = ap₂ Lt (one_formula a c h.0 k.0 (cc)) (one_formula b d h.1 k.1 (cc))
+one_formula (LtEq a b) (LtEq c d) h k e = ap₂ LtEq (one_formula a c h.0 k.0 (cc)) (one_formula b d h.1 k.1 (cc))
+one_formula (Gt a b) (Gt c d) h k e = ap₂ Gt (one_formula a c h.0 k.0 (cc)) (one_formula b d h.1 k.1 (cc))
+one_formula (GtEq a b) (GtEq c d) h k e = ap₂ GtEq (one_formula a c h.0 k.0 (cc)) (one_formula b d h.1 k.1 (cc))
+one_formula (And a b) (And c d) h k e = ap₂ And (one_formula a c h.0 k.0 (cc)) (one_formula b d h.1 k.1 (cc))
+one_formula (Or a b) (Or c d) h k e = ap₂ Or (one_formula a c h.0 k.0 (cc)) (one_formula b d h.1 k.1 (cc))
+one_formula (Not a) (Not b) h k e = ap Not (one_formula a b h k (cc))
+one_formula (IsNull a) (IsNull b) h k e = ap IsNull (one_formula a b h k (cc))
+one_formula (IsNotNull a) (IsNotNull b) h k e = ap IsNotNull (one_formula a b h k (cc))
+one_formula _ _ h k e = absurd (omega (arith, ap form_number e))
