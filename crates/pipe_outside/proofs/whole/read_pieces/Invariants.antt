@@ -1,0 +1,12 @@
+use Rattle.std.proofs.Common.{◌≤◌, ◌-◌, vec_len}
+use Rattle.pipe_outside.specs.Whole.{ReadAndCounted}
+use Rattle.pipe_outside.proofs.whole.read_pieces.Given as goal
+
+abbrev pub invariant-loop-input : goal.invariant-loop-input
+invariant-loop-input g l = record {
+  reading : ReadAndCounted l.text.items (g.R.JobReader.left l.initial.input) (g.R.JobReader.left l.input) (g.R.JobReader.taken l.initial.input) (g.R.JobReader.taken l.input);
+  faults : g.R.JobReader.faults l.initial.input ≤ g.R.JobReader.faults l.input;
+}
+
+abbrev pub decreases-loop-input : goal.decreases-loop-input
+decreases-loop-input g l = 33554433 - vec_len l.text
