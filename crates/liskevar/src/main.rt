@@ -19,6 +19,14 @@ fn words_of(rt: &(impl Env + Alloc<A = Global>)) -> io::Result<Vec<Text>> {
     Ok(words)
 }
 
+/// Why the words weren't taken: one of them is no text, and so no command, or there is want of memory.
+fn refusal_of(error: &io::Error) -> Refusal {
+    match error.kind() {
+        io::ErrorKind::InvalidData => Refusal::BadWords,
+        _ => Refusal::Memory,
+    }
+}
+
 /// Notes a refusal, and gives its status.
 fn refused(notes: &mut impl Write, refusal: Refusal) -> ExitCode {
     let _ = notes.write_all(refusal.line().as_bytes());
@@ -27,8 +35,9 @@ fn refused(notes: &mut impl Write, refusal: Refusal) -> ExitCode {
 
 fn main(rt: HostRuntime) -> ExitCode {
     let alloc = rt.alloc();
-    let Ok(words) = words_of(&rt) else {
-        return refused(&mut rt.stderr(), Refusal::Memory);
+    let words = match words_of(&rt) {
+        Ok(words) => words,
+        Err(error) => return refused(&mut rt.stderr(), refusal_of(&error)),
     };
     let mut input = SystemReader::new(&rt, rt.stdin());
     let mut out = StreamWriter::new(rt.stdout());

@@ -2,7 +2,7 @@
 use Rattle.std.proofs.Common.{rules, Result, Ok, Err, ◌≡◌, ℕ, List, [], ◌∷◌, ◌++◌, map, ap, subst, sym, ◌∙◌}
 use Rattle.std.specs.Prelude.{⊤, IfErr}
 use Rattle.std.specs.Result.{IsErrAnd}
-use Rattle.std.specs.List.{AllByRecursion, flat_map}
+use Rattle.std.specs.List.{flat_map}
 use Rattle.std.proofs.lemmas.Option.{same_Some}
 use Rattle.serde_json.specs.Data.{Data}
 use Rattle.pipe_frame.specs.Frame.{Table}
@@ -10,15 +10,12 @@ use Rattle.pipe_frame.specs.Rows.{Same}
 use Rattle.pipe_frame.proofs.Weights.{SameBag-map, SameBag-from_rows, SameLines-from_bag}
 use Rattle.pipe_plan.specs.PlanRows.{rows_of}
 use Rattle.pipe_plan.specs.Schemas.{schema_of}
-use Rattle.pipe_plan.specs.declared.ir.IR.{IR}
-use Rattle.pipe_job.specs.Alike.{NodeIsFlat}
-use Rattle.pipe_job.specs.JobSpelling.{Spells}
+use Rattle.pipe_job.specs.JobSpelling.{Spells, Task}
 use Rattle.pipe_job.specs.Line.{head_line, row_line, lines}
-use Rattle.pipe_job.specs.Reading.{Reading, ReadsJob, ReadsNoJob}
-use Rattle.pipe_job.specs.declared.jobs.Job.{Job}
+use Rattle.pipe_job.specs.Reading.{Reading, ReadsJob, ReadsNothing}
 use Rattle.pipe_job.proofs.Cut.{lines-frame}
-use Rattle.pipe_job.proofs.OneJob.{one_flat_job}
-use Rattle.pipe_cli.specs.Answer.{Answered, FirstJob, NotFirstJob, NotJson, IsFirstJob}
+use Rattle.pipe_job.proofs.OneJob.{one_job}
+use Rattle.pipe_cli.specs.Answer.{Answered, FirstJob, NotFirstJob, IsFirstJob}
 use Rattle.pipe_cli.specs.Causes.{Causes, RunCauses}
 use Rattle.pipe_cli.specs.declared.status.Refusal.{Refusal}
 use Rattle.pipe_cli.specs.declared.status.Refusal.TheVariants as refusal
@@ -28,10 +25,10 @@ one_reading : (bytes : List ℕ) (v w : Data) → Reading bytes v → Reading by
 one_reading bytes v w r s = same_Some _ _ (sym r.reads ∙ s.reads)
 
 -- what is read is JSON
-pub json_job : (bytes : List ℕ) → NotJson bytes → FirstJob bytes → ⊥
+pub json_job : (bytes : List ℕ) → ReadsNothing bytes → FirstJob bytes → ⊥
 json_job bytes n j = n.none j.read.value j.read.reading
 
-pub json_other : (bytes : List ℕ) → NotJson bytes → NotFirstJob bytes → ⊥
+pub json_other : (bytes : List ℕ) → ReadsNothing bytes → NotFirstJob bytes → ⊥
 json_other bytes n j = n.none j.value j.reading
 
 -- what is no first job is none
@@ -43,24 +40,23 @@ other_job bytes n j =
 pub answered_job : (bytes text : List ℕ) → Answered bytes text → FirstJob bytes
 answered_job bytes text a = record { job = a.job; read = a.read; first = a.first }
 
--- a value that spells no job spells no first one
-pub no_first : (bytes : List ℕ) → ReadsNoJob bytes → NotFirstJob bytes
-no_first bytes n = record { value = n.value; reading = n.reading; none = λ job s first. n.none job s }
+-- what the value that was read spells
+pub job_read : (bytes : List ℕ) (value : Data) (job : Task) → Reading bytes value → Spells value job → ReadsJob bytes job
+job_read bytes value job reading spelled = record { value = value; reading = reading; spelled = spelled }
 
--- the expressions of a first job have no part
-flat_first : (job : Job) → IsFirstJob job → AllByRecursion NodeIsFlat job.arena.nodes
-flat_first job f = subst (λ (nodes : List IR). AllByRecursion NodeIsFlat nodes) (sym f.is_first.nodes) (tt, (tt, (((tt, tt), (tt, tt)), tt)))
+pub no_job_read : (bytes : List ℕ) (value : Data) → Reading bytes value → ((job : Task) → Spells value job → ⊥) → NotFirstJob bytes
+no_job_read bytes value reading none = record { value = value; reading = reading; none = λ job s first. none job s }
 
 -- where the job that was read is no first one, the value spells no other that is
-pub other_first : (bytes : List ℕ) (job : Job) → ReadsJob bytes job → (IsFirstJob job → ⊥) → NotFirstJob bytes
+pub other_first : (bytes : List ℕ) (job : Task) → ReadsJob bytes job → (IsFirstJob job → ⊥) → NotFirstJob bytes
 other_first bytes job r none = record {
   value = r.value;
   reading = r.reading;
-  none = λ other s first. none (subst (λ (j : Job). IsFirstJob j) (sym (one_flat_job r.value job other r.spelled s (flat_first other first))) first);
+  none = λ other s first. none (subst (λ (j : Task). IsFirstJob j) (sym (one_job r.value job other r.spelled s)) first);
 }
 
 -- the text of a frame that has the plan's schema and rows is the answer
-pub answered : (bytes text : List ℕ) (job : Job) (frame : Table) → ReadsJob bytes job → IsFirstJob job → frame.schema ≡ schema_of job.arena job.root → Same frame.rows (rows_of job.arena job.root) → text ≡ head_line frame.schema ++ flat_map row_line frame.rows → Answered bytes text
+pub answered : (bytes text : List ℕ) (job : Task) (frame : Table) → ReadsJob bytes job → IsFirstJob job → frame.schema ≡ schema_of job.plan job.root → Same frame.rows (rows_of job.plan job.root) → text ≡ head_line frame.schema ++ flat_map row_line frame.rows → Answered bytes text
 answered bytes text job frame read first schema same e = record {
   job = job;
   read = read;
@@ -71,7 +67,7 @@ answered bytes text job frame read first schema same e = record {
 }
 
 -- a refusal of the run of the job that was read is one of the bytes
-pub run_caused : (refusal : Refusal) (bytes : List ℕ) (job : Job) → ReadsJob bytes job → RunCauses refusal (IsFirstJob job) → Causes refusal bytes
+pub run_caused : (refusal : Refusal) (bytes : List ℕ) (job : Task) → ReadsJob bytes job → RunCauses refusal (IsFirstJob job) → Causes refusal bytes
 run_caused refusal.Unbuilt bytes job r none = other_first bytes job r none
 run_caused refusal.Memory bytes job r none = none
 run_caused refusal.BadWords bytes job r none = none
@@ -81,6 +77,6 @@ run_caused refusal.NotJson bytes job r none = absurd none
 run_caused refusal.WriteFault bytes job r none = none
 
 -- the same where the refusal is passed on
-pub run_caused_err : {T : Type 0} (r : Result T Refusal) (e : Refusal) (bytes : List ℕ) (job : Job) → ReadsJob bytes job → RunCauses e (IsFirstJob job) → IsErrAnd r (λ f. f ≡ e) → IfErr r (λ f. Causes f bytes)
+pub run_caused_err : {T : Type 0} (r : Result T Refusal) (e : Refusal) (bytes : List ℕ) (job : Task) → ReadsJob bytes job → RunCauses e (IsFirstJob job) → IsErrAnd r (λ f. f ≡ e) → IfErr r (λ f. Causes f bytes)
 run_caused_err (Ok x) e bytes job read cause k = absurd k
 run_caused_err (Err f) e bytes job read cause k = rw k (run_caused e bytes job read cause)

@@ -2,25 +2,20 @@
 use Rattle.std.specs.Prelude.{ℕ, ◌≡◌, List, ◌∷◌, map}
 use Rattle.serde_json.specs.Data.{Data}
 use Rattle.pipe_frame.specs.Rows.{SameLines}
-use Rattle.pipe_plan.specs.First.{IsFirst}
+use Rattle.pipe_exec.specs.First.{IsFirst}
 use Rattle.pipe_plan.specs.PlanRows.{rows_of}
 use Rattle.pipe_plan.specs.Schemas.{schema_of}
-use Rattle.pipe_job.specs.JobSpelling.{Spells}
+use Rattle.pipe_job.specs.JobSpelling.{Spells, Task}
 use Rattle.pipe_job.specs.Line.{head_line, row_line, lines}
 use Rattle.pipe_job.specs.Reading.{Reading, ReadsJob}
-use Rattle.pipe_job.specs.declared.jobs.Job.{Job}
 
 -- a job that can be run so far
-abbrev pub IsFirstJob : Job → Type 0
-IsFirstJob job = IsFirst job.arena job.root job.config
-
--- no value is read
-pub record NotJson (bytes : List ℕ) : Type 0 where
-  pub none : (value : Data) → Reading bytes value → ⊥
+abbrev pub IsFirstJob : Task → Type 0
+IsFirstJob job = IsFirst job.plan job.root job.config
 
 -- the value that is read spells a first job
 pub record FirstJob (bytes : List ℕ) : Type 0 where
-  pub job : Job
+  pub job : Task
   pub read : ReadsJob bytes job
   pub first : IsFirstJob job
 
@@ -28,13 +23,13 @@ pub record FirstJob (bytes : List ℕ) : Type 0 where
 pub record NotFirstJob (bytes : List ℕ) : Type 0 where
   pub value : Data
   pub reading : Reading bytes value
-  pub none : (job : Job) → Spells value job → IsFirstJob job → ⊥
+  pub none : (job : Task) → Spells value job → IsFirstJob job → ⊥
 
 -- the bytes spell a first job; the first line of the text is its plan's schema, and the other lines are those of the plan's rows, each as often
 pub record Answered (bytes text : List ℕ) : Type 0 where
-  pub job : Job
+  pub job : Task
   pub read : ReadsJob bytes job
   pub first : IsFirstJob job
   pub row_lines : List (List ℕ)
-  pub cut : lines text ≡ head_line (schema_of job.arena job.root) ∷ row_lines
-  pub same : SameLines row_lines (map row_line (rows_of job.arena job.root))
+  pub cut : lines text ≡ head_line (schema_of job.plan job.root) ∷ row_lines
+  pub same : SameLines row_lines (map row_line (rows_of job.plan job.root))

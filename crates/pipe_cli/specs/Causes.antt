@@ -1,12 +1,13 @@
 -- Why bytes have no answer.
 use Rattle.std.specs.Prelude.{ℕ, List}
-use Rattle.pipe_cli.specs.Answer.{NotFirstJob, NotJson}
+use Rattle.pipe_cli.specs.Answer.{NotFirstJob}
+use Rattle.pipe_job.specs.Reading.{ReadsNothing}
 use Rattle.pipe_cli.specs.declared.status.Refusal.{Refusal}
 use Rattle.pipe_cli.specs.declared.status.Refusal.TheVariants as refusal
 
 -- what a refusal says of the bytes; those of reading and writing say that it doesn't come
 abbrev pub Causes : Refusal → List ℕ → Type 0
-Causes refusal.NotJson bytes = NotJson bytes
+Causes refusal.NotJson bytes = ReadsNothing bytes
 Causes refusal.Unbuilt bytes = NotFirstJob bytes
 Causes refusal.Memory bytes = Unit {0}
 Causes refusal.BadWords bytes = ⊥
@@ -18,4 +19,8 @@ Causes refusal.WriteFault bytes = ⊥
 abbrev pub RunCauses : Refusal → Type 0 → Type 0
 RunCauses refusal.Unbuilt first = first → ⊥
 RunCauses refusal.Memory first = Unit {0}
-RunCauses _ first = ⊥
+RunCauses refusal.BadWords first = ⊥
+RunCauses refusal.ReadFault first = ⊥
+RunCauses refusal.TooLong first = ⊥
+RunCauses refusal.NotJson first = ⊥
+RunCauses refusal.WriteFault first = ⊥

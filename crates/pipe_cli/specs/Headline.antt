@@ -1,8 +1,9 @@
 -- What a run of the program says of its input and its output.
 use Rattle.std.specs.Prelude.{ℕ, ◌≡◌, ◌<◌, ◌≤◌, List, [], length, Option, Some, IfSome, IsSome}
-use Rattle.pipe_cli.specs.Answer.{Answered, FirstJob, NotFirstJob, NotJson}
-use Rattle.pipe_cli.specs.Outside.{RisesAbove, Writes, WritesFront}
-use Rattle.pipe_cli.specs.Words.{command}
+use Rattle.pipe_cli.specs.Answer.{Answered, FirstJob, NotFirstJob}
+use Rattle.pipe_job.specs.Reading.{ReadsNothing}
+use Rattle.pipe_outside.specs.Outside.{RisesAbove, Writes, WritesFront}
+use Rattle.pipe_cli.specs.Words.{request}
 
 -- how many bytes a job has at most
 abbrev pub limit : ℕ
@@ -46,17 +47,17 @@ pub record TooLong (left : Option (List ℕ)) (taken taken_now : ℕ) : Type 0 w
 -- the input is short enough, and no value is read of it
 pub record NotJsonOn (input : List ℕ) : Type 0 where
   pub short : length input ≤ limit
-  pub cause : NotJson input
+  pub cause : ReadsNothing input
 
 -- the input is short enough, and the value that is read of it spells no first job
 pub record UnbuiltOn (input : List ℕ) : Type 0 where
   pub short : length input ≤ limit
   pub cause : NotFirstJob input
 
--- good words, and an input within the limit that spells a first job
-pub record IsGood (words : List (List ℕ)) (left : Option (List ℕ)) : Type 0 where
-  pub known : IsSome (command words)
+-- a job is asked for, its bytes are told and within the limit, and they spell a first job
+pub record IsGood (words : List (List ℕ)) (job_bytes : Option (List ℕ)) : Type 0 where
+  pub known : IsSome (request words)
   pub input : List ℕ
-  pub told : left ≡ Some input
+  pub told : job_bytes ≡ Some input
   pub short : length input ≤ limit
   pub job : FirstJob input

@@ -1,13 +1,7 @@
--- what a reader and a writer do
-pub mod Outside
--- texts that are read and written whole
-pub mod Whole
--- readers and writers in memory
-pub mod Memory
--- what a writer in memory tells while there is room
-pub mod Told
 -- commands
 pub mod Words
+-- texts that are told where no job is asked for
+pub mod Told
 -- statuses and their lines
 pub mod Status
 -- the answer to a job

@@ -1,16 +1,25 @@
--- What a writer in memory tells while there is room.
-use Rattle.std.specs.Prelude.{ℕ, List, ◌++◌, ◌+◌, length, nat_le, Option, Some, None, if◌then◌else◌}
+-- What is written where no job is asked for.
+use Rattle.std.specs.Prelude.{ℕ, List, Option, Some, None, ⊤}
+use Rattle.pipe_outside.specs.Outside.{Writes, WritesFront}
+use Rattle.pipe_cli.specs.Words.{Request, Run, Help, Version, help_text, version_text}
 
--- how many bytes are told at most, and what was written, while it is told
-pub record Told : Type 0 where
-  pub room : ℕ
-  pub told : Option (List ℕ)
+-- the text that was asked for was written
+abbrev pub Told : Option Request → Option (List ℕ) → Option (List ℕ) → Type 0
+Told (Some (Run name)) written now = ⊤
+Told (Some Help) written now = Writes help_text written now
+Told (Some Version) written now = Writes version_text written now
+Told None written now = ⊤
 
--- one more piece, for which there is room or not
-abbrev pub joined : ℕ → Option (List ℕ) → List ℕ → Option (List ℕ)
-joined room None piece = None
-joined room (Some told) piece = if nat_le (length told + length piece) room then Some (told ++ piece) else None
+-- a front of it was written
+abbrev pub ToldInPart : Option Request → Option (List ℕ) → Option (List ℕ) → Type 0
+ToldInPart (Some (Run name)) written now = ⊤
+ToldInPart (Some Help) written now = WritesFront help_text written now
+ToldInPart (Some Version) written now = WritesFront version_text written now
+ToldInPart None written now = ⊤
 
--- after one more piece
-abbrev pub told_after : Told → List ℕ → Told
-told_after t piece = record { room = t.room; told = joined t.room t.told piece }
+-- no job is asked for
+abbrev pub IsText : Option Request → Type 0
+IsText (Some (Run name)) = ⊥
+IsText (Some Help) = ⊤
+IsText (Some Version) = ⊤
+IsText None = ⊥

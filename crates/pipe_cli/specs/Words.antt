@@ -1,10 +1,55 @@
 -- Commands.
 use Rattle.std.specs.Prelude.{ℕ, List, [], ◌∷◌, codes, Option, Some, None, if◌then◌else◌}
+use Rattle.std.specs.Option.{option_copied}
 use Rattle.std.specs.Str.{bytes_eq}
 use Rattle.pipe_cli.specs.declared.words.Command.{Command}
-use Rattle.pipe_cli.specs.declared.words.Command.TheVariants.{Run}
+use Rattle.pipe_cli.specs.declared.words.Command.TheVariants as command
 
--- the command that words are, by exact words
-abbrev pub command : List (List ℕ) → Option Command
-command (word ∷ []) = if bytes_eq word (codes "run") then Some Run else None
-command _ = None
+-- what is asked for: that a job is run, on standard input or under a name, or that a text is told
+pub data Request : Type 0 where
+  Run : (name : Option (List ℕ)) → Request
+  Help : Request
+  Version : Request
+
+-- the request that a command of the code is
+abbrev pub request_of : Command → Request
+request_of (command.Run name) = Run (option_copied name)
+request_of command.Help = Help
+request_of command.Version = Version
+
+-- the request of one word
+abbrev pub word_request : List ℕ → Option Request
+word_request word =
+    if bytes_eq word (codes "run") then Some (Run None)
+    else if bytes_eq word (codes "--help") then Some Help
+    else if bytes_eq word (codes "--version") then Some Version
+    else None
+
+-- the request of a word and a name
+abbrev pub named_request : List ℕ → List ℕ → Option Request
+named_request word name = if bytes_eq word (codes "run") then Some (Run (Some name)) else None
+
+-- the request of words, by exact words
+abbrev pub request : List (List ℕ) → Option Request
+request [] = None
+request (word ∷ []) = word_request word
+request (word ∷ name ∷ []) = named_request word name
+request (word ∷ name ∷ more ∷ words) = None
+
+-- what stands on standard input, or under a name
+abbrev pub bytes_at : Option (List ℕ) → Option (List ℕ) → (List ℕ → Option (List ℕ)) → Option (List ℕ)
+bytes_at None left named = left
+bytes_at (Some name) left named = named name
+
+-- the bytes of the job that is asked for, where they are told
+abbrev pub job_bytes : Option Request → Option (List ℕ) → (List ℕ → Option (List ℕ)) → Option (List ℕ)
+job_bytes (Some (Run name)) left named = bytes_at name left named
+job_bytes (Some Help) left named = None
+job_bytes (Some Version) left named = None
+job_bytes None left named = None
+
+abbrev pub help_text : List ℕ
+help_text = codes "liskevar: runs jobs on tables and writes their rows.\n\nliskevar run        runs the job on standard input\nliskevar run FILE   runs the job in a file\nliskevar --help     writes this text\nliskevar --version  writes the name and the version\n\nA job is a JSON object; docs/FORMATS.md gives its form. Its rows are\nwritten to standard output, one JSON array a line, after a line of the\ncolumn names. A refusal is a line on standard error and a status:\n\n 0  done\n 1  the words are no command\n 2  reading failed\n 3  the job has more than 33,554,432 bytes\n 4  the job is not JSON\n 9  writing failed\n10  out of memory\n11  the job is of no form that can be run so far\n"
+
+abbrev pub version_text : List ℕ
+version_text = codes "liskevar 0.1.0\n"

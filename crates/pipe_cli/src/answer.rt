@@ -2,9 +2,12 @@
 
 ghost use Rattle.std.specs.Prelude.{◌≡◌, ◌++◌, IfOk, IfErr, OnOk};
 ghost use Rattle.std.specs.List.{flat_map};
+ghost use Rattle.serde_json.specs.View.{view};
 ghost use Rattle.pipe_frame.specs.Rows.{Same};
 ghost use Rattle.pipe_job.specs.Line.{head_line, row_line};
-ghost use Rattle.pipe_job.specs.Reading.{ReadsJob};
+ghost use Rattle.pipe_job.specs.JobSpelling.{task_of};
+ghost use Rattle.pipe_job.specs.Reading.{Reading, ReadsJob};
+ghost use Rattle.pipe_plan.specs.Plan.{plan_of};
 ghost use Rattle.pipe_plan.specs.PlanRows.{rows_of};
 ghost use Rattle.pipe_plan.specs.Schemas.{schema_of};
 ghost use Rattle.pipe_cli.specs.Answer.{Answered, IsFirstJob};
@@ -13,29 +16,42 @@ ghost use Rattle.pipe_cli.specs.Causes.{Causes, RunCauses};
 use crate::status::Refusal;
 use pipe_exec::{first_join, run_plan};
 use pipe_frame::{DataFrame, NeverStop, OpenGate};
-use pipe_job::{Job, JobError, push_head_line, push_rows, read_job};
+use pipe_job::{Job, JobError, job_of, push_head_line, push_rows, read_value};
+use serde_json::Value;
 use std::alloc::{AllocError, Global};
 
-/// The job that the bytes spell.
-#[tactic(auto, using(crate::proofs::AnswerLemmas::no_first))]
-fn job_in(alloc: Global, bytes: &[u8]) -> Result<Job, Refusal>
-    ensures ok { IfOk result (ReadsJob bytes.now) }
-    ensures err { IfErr result (λ refusal. Causes refusal bytes.now) }
+/// The value that the bytes read as. The bytes are dropped then: they take as much memory as a job may.
+fn value_in(alloc: Global, bytes: Vec<u8>) -> Result<Value, Refusal>
+    ensures ok { IfOk result (λ value. Reading bytes.items (view value)) }
+    ensures err { IfErr result (λ refusal. Causes refusal bytes.items) }
 {
-    match read_job(alloc, bytes) {
-        Ok(job) => Ok(job),
+    match read_value(alloc, bytes.as_slice()) {
+        Ok(value) => Ok(value),
         Err(JobError::BadText) => Err(Refusal::NotJson),
-        Err(JobError::BadJob) => Err(Refusal::Unbuilt),
-        Err(JobError::Memory) => Err(Refusal::Memory),
+        Err(_) => Err(Refusal::Memory),
+    }
+}
+
+/// The job that the bytes spell.
+#[tactic(auto, using(crate::proofs::AnswerLemmas::job_read, crate::proofs::AnswerLemmas::no_job_read))]
+fn job_in(alloc: Global, bytes: Vec<u8>) -> Result<Job, Refusal>
+    ensures ok { IfOk result (λ job. ReadsJob bytes.items (task_of job)) }
+    ensures err { IfErr result (λ refusal. Causes refusal bytes.items) }
+{
+    let value = value_in(alloc, bytes)?;
+    match job_of(alloc, &value) {
+        Ok(Some(job)) => Ok(job),
+        Ok(None) => Err(Refusal::Unbuilt),
+        Err(_) => Err(Refusal::Memory),
     }
 }
 
 /// The rows of a job, `Unbuilt` exactly where it is no first job.
 fn frame_of(alloc: Global, job: &Job) -> Result<DataFrame, Refusal>
-    ensures first { OnOk result (IsFirstJob job.now) }
-    ensures schema { IfOk result (λ frame. frame.schema ≡ schema_of job.now.arena job.now.root) }
-    ensures rows { IfOk result (λ frame. Same frame.rows (rows_of job.now.arena job.now.root)) }
-    ensures err { IfErr result (λ refusal. RunCauses refusal (IsFirstJob job.now)) }
+    ensures first { OnOk result (IsFirstJob (task_of job.now)) }
+    ensures schema { IfOk result (λ frame. frame.schema ≡ schema_of (plan_of job.now.arena) job.now.root) }
+    ensures rows { IfOk result (λ frame. Same frame.rows (rows_of (plan_of job.now.arena) job.now.root)) }
+    ensures err { IfErr result (λ refusal. RunCauses refusal (IsFirstJob (task_of job.now))) }
 {
     let Some(join) = first_join(alloc, &job.arena, job.root, &job.config)? else {
         return Err(Refusal::Unbuilt);
@@ -66,9 +82,9 @@ fn text_of(alloc: Global, frame: &DataFrame) -> Result<Vec<u8>, AllocError>
 }
 
 /// The text of the rows of the job that the bytes are.
-pub fn answer(alloc: Global, bytes: &[u8]) -> Result<Vec<u8>, Refusal>
-    ensures ok { IfOk result (λ text. Answered bytes.now text.items) }
-    ensures err { IfErr result (λ refusal. Causes refusal bytes.now) }
+pub fn answer(alloc: Global, bytes: Vec<u8>) -> Result<Vec<u8>, Refusal>
+    ensures ok { IfOk result (λ text. Answered bytes.items text.items) }
+    ensures err { IfErr result (λ refusal. Causes refusal bytes.items) }
 {
     let job = job_in(alloc, bytes)?;
     let frame = frame_of(alloc, &job)?;

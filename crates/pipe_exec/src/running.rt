@@ -3,10 +3,11 @@
 ghost use Rattle.std.specs.Prelude.{◌≡◌, IfOk, IfErr};
 ghost use Rattle.pipe_frame.specs.Rows.{Same};
 ghost use Rattle.pipe_join.specs.Probed.{settings_of, probed_rows};
-ghost use Rattle.pipe_plan.specs.First.{IsFirst};
+ghost use Rattle.pipe_exec.specs.First.{IsFirst};
+ghost use Rattle.pipe_plan.specs.Plan.{plan_of};
 ghost use Rattle.pipe_plan.specs.PlanRows.{rows_of};
 ghost use Rattle.pipe_plan.specs.Schemas.{schema_of};
-ghost use Rattle.pipe_exec.specs.FirstRun.{IsRunOf};
+ghost use Rattle.pipe_exec.specs.FirstRun.{IsRun};
 
 use crate::answer::RunAnswer;
 use crate::joining::{FirstJoin, first_join};
@@ -26,9 +27,9 @@ fn run_join<H: KeyHasher>(
     config: &PipeConfig,
     hasher: H,
 ) -> Result<DataFrame, AllocError>
-    requires { IsRunOf arena.now root config.now join.left.now join.right.now join.spec }
-    ensures schema { IfOk result (λ frame. frame.schema ≡ schema_of arena.now root) }
-    ensures rows { IfOk result (λ frame. Same frame.rows (rows_of arena.now root)) }
+    requires { IsRun (plan_of arena.now) root config.now join }
+    ensures schema { IfOk result (λ frame. frame.schema ≡ schema_of (plan_of arena.now) root) }
+    ensures rows { IfOk result (λ frame. Same frame.rows (rows_of (plan_of arena.now) root)) }
 {
     let FirstJoin { left, right, spec } = join;
     let table = build_side(alloc, left, spec.left_on, config.chunk_rows, hasher)?;
@@ -48,9 +49,9 @@ pub fn run_plan_with<H: KeyHasher, C: StopCheck, G: Gate + Sync>(
     _stop: &mut C,
     _gate: &G,
 ) -> Result<RunAnswer, PipeError>
-    requires { IsFirst arena.now root config.now }
-    ensures schema { IfOk result (λ answer. answer.frame.schema ≡ schema_of arena.now root) }
-    ensures rows { IfOk result (λ answer. Same answer.frame.rows (rows_of arena.now root)) }
+    requires { IsFirst (plan_of arena.now) root config.now }
+    ensures schema { IfOk result (λ answer. answer.frame.schema ≡ schema_of (plan_of arena.now) root) }
+    ensures rows { IfOk result (λ answer. Same answer.frame.rows (rows_of (plan_of arena.now) root)) }
     ensures memory { IfErr result (λ error. error ≡ PipeError.Memory) }
 {
     let Some(join) = first_join(alloc, arena, root, config)? else {
@@ -69,9 +70,9 @@ pub fn run_plan<C: StopCheck, G: Gate + Sync>(
     stop: &mut C,
     gate: &G,
 ) -> Result<RunAnswer, PipeError>
-    requires { IsFirst arena.now root config.now }
-    ensures schema { IfOk result (λ answer. answer.frame.schema ≡ schema_of arena.now root) }
-    ensures rows { IfOk result (λ answer. Same answer.frame.rows (rows_of arena.now root)) }
+    requires { IsFirst (plan_of arena.now) root config.now }
+    ensures schema { IfOk result (λ answer. answer.frame.schema ≡ schema_of (plan_of arena.now) root) }
+    ensures rows { IfOk result (λ answer. Same answer.frame.rows (rows_of (plan_of arena.now) root)) }
     ensures memory { IfErr result (λ error. error ≡ PipeError.Memory) }
 {
     run_plan_with(alloc, arena, root, config, Fnv, stop, gate)
