@@ -1,0 +1,2 @@
+-- frames of one column of values of fixed width, and stackers that hold them
+pub mod Numbers
