@@ -2,13 +2,13 @@
 
 ghost use Rattle.std.specs.Prelude.{◌<◌, ◌^◌, length};
 
-use crate::plan::Plan;
 use pipe_frame::{AnyValue, Field, Row};
 use pipe_plain::{plan_fault, rows, schema};
 use pipe_plan::{Arena, IR, PipeError, swap_join_order};
 use std::alloc::{AllocError, Global};
+use worked_builders::{BuiltPlan, WrittenPlan, plan_of};
 
-/// A cell in JSON, binary ones in hexadecimal digits.
+/// A cell in JSON: numbers of 128 bits as texts, bytes in hexadecimal digits.
 fn cell_text(alloc: Global, cell: &AnyValue) -> Result<String, AllocError> {
     match cell {
         AnyValue::Null => String::from_str(alloc, "null"),
@@ -16,6 +16,7 @@ fn cell_text(alloc: Global, cell: &AnyValue) -> Result<String, AllocError> {
         AnyValue::Int64(x) => format!(in alloc; "{x}"),
         AnyValue::UInt32(x) => format!(in alloc; "{x}"),
         AnyValue::UInt64(x) => format!(in alloc; "{x}"),
+        AnyValue::Int128(x) => format!(in alloc; "\"{x}\""),
         AnyValue::Boolean(x) => format!(in alloc; "{x}"),
         AnyValue::String(x) => format!(in alloc; "\"{}\"", x.as_str()),
         AnyValue::Binary(x) => {
@@ -135,12 +136,35 @@ fn plan_text(alloc: Global, arena: &Arena, root: u32) -> Result<String, AllocErr
 }
 
 /// Appends what a plan shows, and its answer.
-pub(crate) fn tell(answers: &mut String, plan: Plan) -> Result<(), AllocError> {
+pub(crate) fn tell_built(
+    alloc: Global,
+    answers: &mut String,
+    shows: &str,
+    plan: &BuiltPlan,
+) -> Result<(), AllocError> {
     answers.push_str("# ")?;
-    answers.push_str(plan.shows)?;
+    answers.push_str(shows)?;
     answers.push_str("\n")?;
     if plan.arena.nodes.len() < 4294967296 {
-        answers.push_str(plan_text(plan.alloc, &plan.arena, plan.root)?.as_str())?;
+        answers.push_str(plan_text(alloc, &plan.arena, plan.root)?.as_str())?;
+    }
+    Ok(())
+}
+
+/// Builds a plan, and appends what it shows and its answer.
+fn tell(alloc: Global, answers: &mut String, plan: &WrittenPlan) -> Result<(), AllocError> {
+    let built = plan_of(alloc, plan.nodes)?;
+    tell_built(alloc, answers, plan.shows, &built)
+}
+
+/// Appends what some plans show, and their answers.
+pub(crate) fn tell_plans(
+    alloc: Global,
+    answers: &mut String,
+    plans: &[WrittenPlan],
+) -> Result<(), AllocError> {
+    for plan in plans {
+        tell(alloc, answers, plan)?;
     }
     Ok(())
 }

@@ -1,58 +1,96 @@
 //! Sums, differences and products at each width: they wrap.
 
-use crate::columns::INT;
-use crate::formula::Formula::{self, Add, Mul, Sub};
-use crate::formula::Term::{Col, Int};
-use crate::plan::Plan;
+use crate::answers::tell_plans;
 use pipe_frame::DataType;
 use std::alloc::{AllocError, Global};
+use worked_builders::Operand::{Col, Int, Value};
+use worked_builders::WrittenExpr::{Add, Mul, Sub};
+use worked_builders::WrittenNode::{HStack, Scan, Select};
+use worked_builders::{WrittenExpr, WrittenPlan};
+use worked_columns::INT;
 
-const EACH_OPERATOR: &[(&str, Formula)] = &[
+const EACH_OPERATOR: &[(&str, WrittenExpr)] = &[
     ("add", Add(Col("a"), Col("b"))),
     ("sub", Sub(Col("a"), Col("b"))),
     ("mul", Mul(Col("a"), Col("b"))),
 ];
 
-pub(crate) fn sum_past_the_greatest_value(alloc: Global) -> Result<Plan, AllocError> {
-    let mut plan = Plan::new(alloc, "sum past the greatest value");
-    plan.scan(&[("k", INT, &["9223372036854775807"])])?;
-    plan.add_columns(0, &[("n", Add(Col("k"), Int(1)))])?;
-    Ok(plan)
-}
+const PLANS: &[WrittenPlan] = &[
+    WrittenPlan {
+        shows: "sum past the greatest value",
+        nodes: &[
+            Scan(&[("k", INT, &["9223372036854775807"])]),
+            HStack(0, &[("n", Add(Col("k"), Int(1)))]),
+        ],
+    },
+    WrittenPlan {
+        shows: "arithmetic of Int32",
+        nodes: &[
+            Scan(&[
+                ("a", DataType::Int32, &["2147483647"]),
+                ("b", DataType::Int32, &["2"]),
+            ]),
+            Select(0, EACH_OPERATOR),
+        ],
+    },
+    WrittenPlan {
+        shows: "arithmetic of Int64",
+        nodes: &[
+            Scan(&[("a", INT, &["9223372036854775807"]), ("b", INT, &["1"])]),
+            Select(0, EACH_OPERATOR),
+        ],
+    },
+    WrittenPlan {
+        shows: "arithmetic of UInt32",
+        nodes: &[
+            Scan(&[
+                ("a", DataType::UInt32, &["4294967295", "1"]),
+                ("b", DataType::UInt32, &["2", "2"]),
+            ]),
+            Select(0, EACH_OPERATOR),
+        ],
+    },
+    WrittenPlan {
+        shows: "arithmetic of UInt64",
+        nodes: &[
+            Scan(&[
+                ("a", DataType::UInt64, &["1"]),
+                ("b", DataType::UInt64, &["2"]),
+            ]),
+            Select(0, EACH_OPERATOR),
+        ],
+    },
+    WrittenPlan {
+        shows: "arithmetic of Int128",
+        nodes: &[
+            Scan(&[
+                (
+                    "a",
+                    DataType::Int128,
+                    &[
+                        "170141183460469231731687303715884105727",
+                        "18446744073709551616",
+                    ],
+                ),
+                ("b", DataType::Int128, &["2", "18446744073709551616"]),
+            ]),
+            Select(0, EACH_OPERATOR),
+        ],
+    },
+    WrittenPlan {
+        shows: "sum past the greatest value of 128 bits",
+        nodes: &[
+            Scan(&[(
+                "k",
+                DataType::Int128,
+                &["170141183460469231731687303715884105727"],
+            )]),
+            HStack(0, &[("n", Add(Col("k"), Value(DataType::Int128, "1")))]),
+        ],
+    },
+];
 
-pub(crate) fn of_int32(alloc: Global) -> Result<Plan, AllocError> {
-    let mut plan = Plan::new(alloc, "arithmetic of Int32");
-    plan.scan(&[
-        ("a", DataType::Int32, &["2147483647"]),
-        ("b", DataType::Int32, &["2"]),
-    ])?;
-    plan.select(0, EACH_OPERATOR)?;
-    Ok(plan)
-}
-
-pub(crate) fn of_int64(alloc: Global) -> Result<Plan, AllocError> {
-    let mut plan = Plan::new(alloc, "arithmetic of Int64");
-    plan.scan(&[("a", INT, &["9223372036854775807"]), ("b", INT, &["1"])])?;
-    plan.select(0, EACH_OPERATOR)?;
-    Ok(plan)
-}
-
-pub(crate) fn of_uint32(alloc: Global) -> Result<Plan, AllocError> {
-    let mut plan = Plan::new(alloc, "arithmetic of UInt32");
-    plan.scan(&[
-        ("a", DataType::UInt32, &["4294967295", "1"]),
-        ("b", DataType::UInt32, &["2", "2"]),
-    ])?;
-    plan.select(0, EACH_OPERATOR)?;
-    Ok(plan)
-}
-
-pub(crate) fn of_uint64(alloc: Global) -> Result<Plan, AllocError> {
-    let mut plan = Plan::new(alloc, "arithmetic of UInt64");
-    plan.scan(&[
-        ("a", DataType::UInt64, &["1"]),
-        ("b", DataType::UInt64, &["2"]),
-    ])?;
-    plan.select(0, EACH_OPERATOR)?;
-    Ok(plan)
+/// Appends what these plans show, and their answers.
+pub(crate) fn tell_all(alloc: Global, answers: &mut String) -> Result<(), AllocError> {
+    tell_plans(alloc, answers, PLANS)
 }

@@ -1,35 +1,64 @@
 //! Unpivots and renames.
 
-use crate::columns::{Column, INT};
-use crate::plan::Plan;
-use crate::words::ascending;
+use crate::answers::tell_plans;
 use std::alloc::{AllocError, Global};
+use worked_builders::WrittenNode::{Rename, Scan, Sort, Unpivot};
+use worked_builders::{BY_K, WrittenPlan, WrittenSort};
+use worked_columns::{INT, WrittenColumn};
 
-const ID_A_B: &[Column] = &[
+const ID_A_B: &[WrittenColumn] = &[
     ("id", INT, &["1", "2"]),
     ("a", INT, &["5", "-"]),
     ("b", INT, &["7", "8"]),
 ];
 
-pub(crate) fn unpivot_row_by_row(alloc: Global) -> Result<Plan, AllocError> {
-    let mut plan = Plan::new(alloc, "unpivot, row by row");
-    plan.scan(ID_A_B)?;
-    plan.unpivot(0, &["a", "b"], &["id"])?;
-    plan.sort(1, ascending("id"))?;
-    Ok(plan)
-}
+const PLANS: &[WrittenPlan] = &[
+    WrittenPlan {
+        shows: "unpivot, row by row",
+        nodes: &[
+            Scan(ID_A_B),
+            Unpivot {
+                input: 0,
+                on: &["a", "b"],
+                index: &["id"],
+            },
+            Sort(
+                1,
+                WrittenSort {
+                    by: &["id"],
+                    ..BY_K
+                },
+            ),
+        ],
+    },
+    WrittenPlan {
+        shows: "unpivot with an index that is unpivoted too",
+        nodes: &[
+            Scan(ID_A_B),
+            Unpivot {
+                input: 0,
+                on: &["a", "b"],
+                index: &["a"],
+            },
+            Sort(
+                1,
+                WrittenSort {
+                    by: &["variable"],
+                    ..BY_K
+                },
+            ),
+        ],
+    },
+    WrittenPlan {
+        shows: "rename that swaps two names",
+        nodes: &[
+            Scan(&[("a", INT, &["1", "-"]), ("b", INT, &["2", "3"])]),
+            Rename(0, &[("a", "b"), ("b", "a")]),
+        ],
+    },
+];
 
-pub(crate) fn unpivot_of_the_index_too(alloc: Global) -> Result<Plan, AllocError> {
-    let mut plan = Plan::new(alloc, "unpivot with an index that is unpivoted too");
-    plan.scan(ID_A_B)?;
-    plan.unpivot(0, &["a", "b"], &["a"])?;
-    plan.sort(1, ascending("variable"))?;
-    Ok(plan)
-}
-
-pub(crate) fn rename_that_swaps_two_names(alloc: Global) -> Result<Plan, AllocError> {
-    let mut plan = Plan::new(alloc, "rename that swaps two names");
-    plan.scan(&[("a", INT, &["1", "-"]), ("b", INT, &["2", "3"])])?;
-    plan.rename(0, &[("a", "b"), ("b", "a")])?;
-    Ok(plan)
+/// Appends what these plans show, and their answers.
+pub(crate) fn tell_all(alloc: Global, answers: &mut String) -> Result<(), AllocError> {
+    tell_plans(alloc, answers, PLANS)
 }

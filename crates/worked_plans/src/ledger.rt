@@ -1,15 +1,16 @@
 //! Invoices with their payments.
 
-use crate::columns::{Column, INT, TEXT};
-use crate::formula::Formula::{self, Gt, Just};
-use crate::formula::Term::{Col, Int};
-use crate::plan::Plan;
-use crate::words::{INNER_ON_K, Join, descending};
+use crate::answers::tell_plans;
 use pipe_expr::JoinType;
 use pipe_frame::DataType;
 use std::alloc::{AllocError, Global};
+use worked_builders::Operand::{Col, Int};
+use worked_builders::WrittenExpr::{Gt, Just};
+use worked_builders::WrittenNode::{Filter, Join, Rename, Scan, Sort};
+use worked_builders::{BY_K, INNER_ON_K, WrittenExpr, WrittenJoin, WrittenPlan, WrittenSort};
+use worked_columns::{INT, TEXT, WrittenColumn};
 
-const INVOICES: &[Column] = &[
+const INVOICES: &[WrittenColumn] = &[
     (
         "id",
         TEXT,
@@ -38,7 +39,7 @@ const INVOICES: &[Column] = &[
     ),
 ];
 
-const PAYMENTS: &[Column] = &[
+const PAYMENTS: &[WrittenColumn] = &[
     (
         "id",
         TEXT,
@@ -65,22 +66,36 @@ const PAYMENTS: &[Column] = &[
     ),
 ];
 
-const ID_AND_PART: &[Formula] = &[Just(Col("id")), Just(Col("part"))];
+const ID_AND_PART: &[WrittenExpr] = &[Just(Col("id")), Just(Col("part"))];
 
-const LEFT_ON_ID_AND_PART: Join = Join {
+const LEFT_ON_ID_AND_PART: WrittenJoin = WrittenJoin {
     left_on: ID_AND_PART,
     right_on: ID_AND_PART,
     how: JoinType::Left,
     ..INNER_ON_K
 };
 
-pub(crate) fn invoices_with_their_payments(alloc: Global) -> Result<Plan, AllocError> {
-    let mut plan = Plan::new(alloc, "ledger");
-    plan.scan(INVOICES)?;
-    plan.scan(PAYMENTS)?;
-    plan.join(0, 1, LEFT_ON_ID_AND_PART)?;
-    plan.filter(2, Gt(Col("amount"), Int(50)))?;
-    plan.rename(3, &[("ref_right", "payment_ref")])?;
-    plan.sort(4, descending("amount").with_nulls_last())?;
-    Ok(plan)
+const PLANS: &[WrittenPlan] = &[WrittenPlan {
+    shows: "ledger",
+    nodes: &[
+        Scan(INVOICES),
+        Scan(PAYMENTS),
+        Join(0, 1, LEFT_ON_ID_AND_PART),
+        Filter(2, Gt(Col("amount"), Int(50))),
+        Rename(3, &[("ref_right", "payment_ref")]),
+        Sort(
+            4,
+            WrittenSort {
+                by: &["amount"],
+                descending: &[true],
+                nulls_last: &[true],
+                ..BY_K
+            },
+        ),
+    ],
+}];
+
+/// Appends what these plans show, and their answers.
+pub(crate) fn tell_all(alloc: Global, answers: &mut String) -> Result<(), AllocError> {
+    tell_plans(alloc, answers, PLANS)
 }

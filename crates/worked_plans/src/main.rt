@@ -3,21 +3,24 @@
 
 mod answers;
 mod arithmetic;
-mod columns;
+mod bad_joins;
+mod bad_nodes;
+mod bad_sorts;
 mod cross_and_left;
+mod duplicate_names;
 mod faults;
-mod formula;
 mod full_joins;
 mod functions;
 mod inner_joins;
 mod ledger;
-mod plan;
 mod projections;
+mod semi_and_anti;
 mod sides;
 mod sorts;
 mod table;
 mod truth;
-mod words;
+mod type_mismatches;
+mod unknown_columns;
 
 use std::io;
 

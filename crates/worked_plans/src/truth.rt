@@ -1,14 +1,15 @@
 //! Truth at each pair of values.
 
-use crate::columns::{Column, INT};
-use crate::formula::Formula::{self, And, IsNotNull, IsNull, Not, Or};
-use crate::formula::Term::Col;
-use crate::plan::Plan;
-use crate::words::ascending;
+use crate::answers::tell_plans;
 use pipe_frame::DataType;
 use std::alloc::{AllocError, Global};
+use worked_builders::Operand::Col;
+use worked_builders::WrittenExpr::{And, IsNotNull, IsNull, Not, Or};
+use worked_builders::WrittenNode::{HStack, Scan, Sort};
+use worked_builders::{BY_K, WrittenExpr, WrittenPlan, WrittenSort};
+use worked_columns::{INT, WrittenColumn};
 
-const PAIRS: &[Column] = &[
+const PAIRS: &[WrittenColumn] = &[
     ("row", INT, &["1", "2", "3", "4", "5", "6", "7", "8", "9"]),
     (
         "a",
@@ -26,7 +27,7 @@ const PAIRS: &[Column] = &[
     ),
 ];
 
-const EACH_OPERATOR: &[(&str, Formula)] = &[
+const EACH_OPERATOR: &[(&str, WrittenExpr)] = &[
     ("and", And(Col("a"), Col("b"))),
     ("or", Or(Col("a"), Col("b"))),
     ("not", Not(Col("a"))),
@@ -34,10 +35,22 @@ const EACH_OPERATOR: &[(&str, Formula)] = &[
     ("there", IsNotNull(Col("a"))),
 ];
 
-pub(crate) fn at_each_pair_of_values(alloc: Global) -> Result<Plan, AllocError> {
-    let mut plan = Plan::new(alloc, "truth at each pair of values");
-    plan.scan(PAIRS)?;
-    plan.add_columns(0, EACH_OPERATOR)?;
-    plan.sort(1, ascending("row"))?;
-    Ok(plan)
+const PLANS: &[WrittenPlan] = &[WrittenPlan {
+    shows: "truth at each pair of values",
+    nodes: &[
+        Scan(PAIRS),
+        HStack(0, EACH_OPERATOR),
+        Sort(
+            1,
+            WrittenSort {
+                by: &["row"],
+                ..BY_K
+            },
+        ),
+    ],
+}];
+
+/// Appends what these plans show, and their answers.
+pub(crate) fn tell_all(alloc: Global, answers: &mut String) -> Result<(), AllocError> {
+    tell_plans(alloc, answers, PLANS)
 }

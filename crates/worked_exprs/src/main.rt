@@ -1,0 +1,22 @@
+//! Works expressions out: prints what each shows, and the column, the type or the copy that it gives.
+#![tactic(auto)]
+
+mod arithmetic;
+mod comparisons;
+mod constants;
+mod copies;
+mod nested;
+mod null_tests;
+mod pairs;
+mod table;
+mod told;
+mod topic;
+mod truth;
+mod types;
+
+use std::io;
+
+fn main(rt: HostRuntime) -> io::Result<()> {
+    let answers = table::answers(rt.alloc())?;
+    print!(rt; "{answers}")
+}

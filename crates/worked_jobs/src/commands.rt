@@ -1,0 +1,27 @@
+//! Commands beside `run` on standard input.
+
+use crate::held::named;
+use crate::job_text::PAIRS;
+use crate::runs::{Ended, reader, run_words};
+use pipe_cli::MemReader;
+use pipe_frame::{Bytes, List};
+use std::alloc::{AllocError, Global};
+
+/// The words with row a's job in a file, and nothing on standard input.
+pub(crate) fn with_a_file(alloc: Global, words: &[&str]) -> Result<Ended, AllocError> {
+    let text = PAIRS.text(alloc)?;
+    let mut files = List::new(alloc);
+    files.push(named(alloc, "job.json", text.as_str())?)?;
+    let mut input = MemReader::new(Bytes::new(alloc), files, 400, List::new(alloc));
+    run_words(alloc, words, &mut input, None)
+}
+
+/// The words with no file, one write of which may fail.
+pub(crate) fn alone(
+    alloc: Global,
+    words: &[&str],
+    failing: Option<u64>,
+) -> Result<Ended, AllocError> {
+    let mut input = reader(alloc, "", None)?;
+    run_words(alloc, words, &mut input, failing)
+}

@@ -1,0 +1,29 @@
+//! Works jobs out: prints what each case shows, and what the reader of jobs or the program gives for it.
+#![tactic(auto)]
+
+mod commands;
+mod faults;
+mod first_jobs;
+mod frames;
+mod held;
+mod job_text;
+mod length;
+mod lines;
+mod nodes;
+mod parts;
+mod prefixes;
+mod reading;
+mod refused;
+mod runs;
+mod streams;
+mod table;
+
+use std::io;
+
+fn main(rt: HostRuntime) -> io::Result<()> {
+    let answers = table::answers(rt.alloc())?;
+    print!(rt; "{answers}")?;
+    let mut input = streams::input(&rt, rt.stdin());
+    let answers = streams::answers(rt.alloc(), &mut input)?;
+    print!(rt; "{answers}")
+}

@@ -1,0 +1,151 @@
+//! Runs of the program over memory, and how they are told.
+
+ghost use Rattle.std.specs.Prelude.{◌<◌};
+
+use pipe_cli::{JobReader, MemReader, MemWriter, RowWriter, run_program};
+use pipe_frame::{Bytes, List, NeverStop, OpenGate, Text};
+use std::alloc::{AllocError, Global};
+
+/// How a run ended: its status, what it wrote, and what it noted.
+#[derive(Drop)]
+pub(crate) struct Ended {
+    pub(crate) status: u8,
+    pub(crate) out: MemWriter,
+    pub(crate) notes: MemWriter,
+}
+
+fn words_of(alloc: Global, words: &[&str]) -> Result<Vec<Text>, AllocError> {
+    let mut texts = Vec::new(alloc);
+    for word in words {
+        texts.push(Text::from_str(alloc, word)?)?;
+    }
+    Ok(texts)
+}
+
+/// A list of no number or one.
+pub(crate) fn at_most_one(alloc: Global, number: Option<u64>) -> Result<List<u64>, AllocError> {
+    let mut numbers = List::new(alloc);
+    if let Some(number) = number {
+        numbers.push(number)?;
+    }
+    Ok(numbers)
+}
+
+/// A reader of a text that takes at most 400 bytes a read, of which one may fail.
+pub(crate) fn reader(
+    alloc: Global,
+    text: &str,
+    failing: Option<u64>,
+) -> Result<MemReader, AllocError> {
+    let standard = Bytes::from_slice(alloc, text.as_bytes())?;
+    let failing = at_most_one(alloc, failing)?;
+    Ok(MemReader::new(standard, List::new(alloc), 400, failing))
+}
+
+/// Runs the program by these words. It writes in pieces of 5 bytes, of which one may fail.
+pub(crate) fn run_words<R: JobReader>(
+    alloc: Global,
+    words: &[&str],
+    input: &mut R,
+    failing: Option<u64>,
+) -> Result<Ended, AllocError> {
+    let words = words_of(alloc, words)?;
+    let mut out = MemWriter::new(alloc, 5, at_most_one(alloc, failing)?);
+    let mut notes = MemWriter::new(alloc, 1000, List::new(alloc));
+    let status = run_program(
+        alloc,
+        words.as_slice(),
+        input,
+        &mut out,
+        &mut notes,
+        &mut NeverStop::new(),
+        &OpenGate,
+    );
+    Ok(Ended { status, out, notes })
+}
+
+/// Runs the command `run` with no fault of the output.
+pub(crate) fn run<R: JobReader>(alloc: Global, input: &mut R) -> Result<Ended, AllocError> {
+    run_words(alloc, &["run"], input, None)
+}
+
+/// Runs the job of a text.
+pub(crate) fn run_text(alloc: Global, text: &str) -> Result<Ended, AllocError> {
+    let mut input = reader(alloc, text, None)?;
+    run(alloc, &mut input)
+}
+
+/// The first line of a text, and the others in the order of their bytes, since a join's rows have no order.
+fn sorted_lines(alloc: Global, text: &str) -> Result<String, AllocError> {
+    let mut sorted = String::new(alloc);
+    let mut rows = Vec::new(alloc);
+    for (place, line) in text.lines().enumerate() {
+        if place == 0 {
+            sorted.push_str(line)?;
+            sorted.push_str("\n")?;
+        } else {
+            rows.push(line)?;
+        }
+    }
+    rows.sort()?;
+    for row in &rows {
+        sorted.push_str(row)?;
+        sorted.push_str("\n")?;
+    }
+    Ok(sorted)
+}
+
+/// What some bytes say, where they are UTF-8.
+pub(crate) fn shown(bytes: &[u8]) -> &str {
+    str::from_utf8(bytes).unwrap_or("not UTF-8\n")
+}
+
+/// Appends what a case shows.
+pub(crate) fn tell(answers: &mut String, shows: &str) -> Result<(), AllocError> {
+    answers.push_str("# ")?;
+    answers.push_str(shows)?;
+    answers.push_str("\n")
+}
+
+/// Appends what a case shows, and how its run ended.
+pub(crate) fn tell_run(
+    alloc: Global,
+    answers: &mut String,
+    shows: &str,
+    ended: Ended,
+) -> Result<(), AllocError> {
+    tell(answers, shows)?;
+    answers.push_str(format!(in alloc; "status {}\n", ended.status)?.as_str())?;
+    answers.push_str(sorted_lines(alloc, shown(ended.out.bytes()))?.as_str())?;
+    answers.push_str(shown(ended.notes.bytes()))
+}
+
+/// Appends what a case shows, its status, how many bytes it wrote, and its note: which front of the rows that is
+/// depends on their order.
+pub(crate) fn tell_length(
+    alloc: Global,
+    answers: &mut String,
+    shows: &str,
+    ended: Ended,
+) -> Result<(), AllocError> {
+    tell(answers, shows)?;
+    let written = ended.out.bytes().len();
+    answers.push_str(format!(in alloc;
+        "status {}, {written} bytes written\n",
+        ended.status
+    )?.as_str())?;
+    answers.push_str(shown(ended.notes.bytes()))
+}
+
+/// Appends what a case shows, its status, and what it wrote, line for line.
+pub(crate) fn tell_text(
+    alloc: Global,
+    answers: &mut String,
+    shows: &str,
+    ended: Ended,
+) -> Result<(), AllocError> {
+    tell(answers, shows)?;
+    answers.push_str(format!(in alloc; "status {}\n", ended.status)?.as_str())?;
+    answers.push_str(shown(ended.out.bytes()))?;
+    answers.push_str(shown(ended.notes.bytes()))
+}
