@@ -1,0 +1,10 @@
+pub mod OffsetLemmas
+pub mod Neighbours
+pub mod Filtered
+pub mod MadeColumns
+pub mod Projected
+pub mod StackedNames
+pub mod Extended
+pub mod NamedFields
+pub mod Covered
+pub mod SharedValues

@@ -1,0 +1,42 @@
+//! Chunks in the order of a schema.
+
+ghost use Rattle.std.specs.Prelude.{◌≡◌, IfOk, OnOk, OnErr};
+ghost use Rattle.pipe_frame.specs.Schema.{names_of};
+ghost use Rattle.pipe_ops.specs.Each.{HasFields, reprojected};
+
+use pipe_frame::{DataChunk, Field, FrameError, List, Schema, Text, TryClone};
+use std::alloc::{AllocError, Global};
+
+/// The names of some fields.
+fn copied_names(alloc: Global, fields: &[Field]) -> Result<List<Text>, AllocError>
+    ensures { IfOk result (λ names. names ≡ names_of fields.now) }
+{
+    let mut names = List::new(alloc);
+    for field in fields {
+        names.push(field.name.try_clone()?)?;
+    }
+    Ok(names)
+}
+
+/// Brings the columns of a chunk into the order of a schema, each of whose fields the chunk has, and drops those
+/// that the schema lacks (polars-pipe's `reproject_chunk`, which also keeps the positions).
+pub fn reproject_chunk(
+    alloc: Global,
+    chunk: &mut DataChunk,
+    schema: &Schema,
+) -> Result<(), AllocError>
+    requires { HasFields chunk.old.frame.schema schema.now }
+    ensures ok { OnOk result (chunk.new ≡ record chunk.old { frame = reprojected schema.now chunk.old.frame }) }
+    ensures err { OnErr result (chunk.new ≡ chunk.old) }
+{
+    let names = copied_names(alloc, schema.fields())?;
+    let _ = chunk.frame.get_columns();
+    match chunk.frame.select(names.as_slice()) {
+        Ok(frame) => {
+            chunk.frame = frame;
+            Ok(())
+        }
+        Err(FrameError::Memory) => Err(AllocError),
+        Err(_) => unreachable!(),
+    }
+}
