@@ -1,10 +1,10 @@
 -- What pieces cover.
-use Rattle.std.proofs.Common.{◌≡◌, ℕ, zero, suc, ◌+◌, ◌*◌, ◌/◌, ◌<◌, ◌≤◌, List, [], ◌∷◌, ◌++◌, length, take, drop, refl, ap, subst, sym, ◌∙◌, arith, drop-drop}
+use Rattle.std.proofs.Common.{◌≡◌, ℕ, ◌+◌, ◌/◌, ◌<◌, ◌≤◌, List, [], ◌∷◌, ◌++◌, length, take, drop, ap, subst, sym, ◌∙◌, arith, drop-drop}
 use Rattle.std.specs.List.{flat_map}
 use Rattle.std.proofs.Math.Nat.{le-div_iff_mul-le}
 use Rattle.std.proofs.Math.Seq.{drop-length}
 use Rattle.std.proofs.lemmas.List.{take-append-drop}
-use Rattle.pipe_ops.specs.Offsets.{split_pieces, joined, joined_pieces, Covers, piece_of}
+use Rattle.pipe_ops.specs.Offsets.{split_pieces, joined_pieces, Covers, piece_of}
 use Rattle.pipe_ops.proofs.OffsetLemmas.{covers-split}
 
 pub split-covers : (rows n : ℕ) → 1 ≤ n → n ≤ rows → Covers 0 (split_pieces rows n) rows

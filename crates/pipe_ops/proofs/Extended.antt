@@ -1,13 +1,12 @@
 -- The columns of a chunk with those of expressions are the extension of the rows.
-use Rattle.std.proofs.Common.{◌≡◌, ℕ, zero, suc, ◌+◌, ◌<◌, List, [], ◌∷◌, ◌++◌, Option, Some, None, length, map, get_or, refl, ap, subst, sym, ◌∙◌, arith, inl, inr, length-append}
+use Rattle.std.proofs.Common.{◌≡◌, ℕ, suc, ◌+◌, ◌<◌, List, [], ◌∷◌, ◌++◌, Option, Some, None, length, map, get_or, refl, ap, subst, sym, ◌∙◌, arith, inl, inr, length-append}
 use Rattle.std.specs.Prelude.{◌⊎◌}
-use Rattle.std.specs.List.{flat_map}
 use Rattle.std.proofs.lemmas.List.{length-map, map-append}
 use Rattle.std.proofs.lemmas.List.Concat.{flat_map_single}
 use Rattle.pipe_frame.specs.Rows.{Row, Same}
 use Rattle.pipe_frame.specs.Series.{Cells}
 use Rattle.pipe_frame.specs.Schema.{IsSchema, place_of}
-use Rattle.pipe_frame.specs.Frame.{Table, AllOfHeight, field_of, cell_of_row, table_of, height_of, column_of, columns_from, columns_of}
+use Rattle.pipe_frame.specs.Frame.{Table, AllOfHeight, field_of, cell_of_row, table_of, height_of, columns_from, columns_of}
 use Rattle.pipe_frame.specs.declared.any_value.AnyValue.{AnyValue}
 use Rattle.pipe_frame.specs.declared.field.Field.{Field}
 use Rattle.pipe_frame.proofs.NamePlaces.{some_field, place_of-name}
@@ -109,16 +108,16 @@ module _ (exprs : List NamedFormula) (frame : Table) where
   pub stacked-table : (columns : List Cells) → columns ≡ map (stacked_column exprs frame) (columns_of frame) ++ map (column_of_expr frame) (new_exprs frame.schema exprs) → IsSchema frame.schema → IsSchema (hstack_fields frame.schema exprs) → AreTable columns (stacked exprs frame)
   stacked-table columns made_so good distinct =
       let some = some-part good in
-      let height = made-height made field_in value_in frame.rows fields-are cells-are parts some in
-      let table = made-table made field_in value_in frame.rows fields-are cells-are parts some in
+      let height = made-height [] made field_in value_in frame.rows fields-are cells-are parts some in
+      let table = made-table [] made field_in value_in frame.rows fields-are cells-are parts some in
       let fields = apart field_in in
       let whole : table_of (map made parts) (height_of (map made parts)) ≡ stacked exprs frame =
       table
       ∙ ap (λ s. record { schema = s; rows = map (λ row. map (value_in row) parts) frame.rows }) fields
       ∙ ap (λ r. record { schema = hstack_fields frame.schema exprs; rows = r }) (map_same (λ row. map (value_in row) parts) (hstack_row frame.schema exprs) frame.rows (λ row. apart (value_in row))) in
       let are : AreTable (map made parts) (stacked exprs frame) = record {
-        good = subst IsSchema (sym (made-fields made field_in value_in frame.rows fields-are cells-are parts ∙ fields)) distinct;
-        even = subst (λ n. AllOfHeight n (map made parts)) (sym height) (made-even made field_in value_in frame.rows fields-are cells-are parts);
+        good = subst IsSchema (sym (made-fields [] made field_in value_in frame.rows fields-are cells-are parts ∙ fields)) distinct;
+        even = subst (λ n. AllOfHeight n (map made parts)) (sym height) (made-even [] made field_in value_in frame.rows fields-are cells-are parts);
         whole = whole;
       } in
       subst (λ (cs : List Cells). AreTable cs (stacked exprs frame)) (sym (made_so ∙ columns-made good)) are

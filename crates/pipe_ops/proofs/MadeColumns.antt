@@ -1,13 +1,11 @@
 -- Columns that were made for one schema are a frame, seen row by row.
-use Rattle.std.proofs.Common.{◌≡◌, ℕ, zero, suc, ◌+◌, ◌<◌, Bool, true, false, cond, List, [], ◌∷◌, ◌++◌, Option, Some, None, length, map, get_or, refl, ap, subst, sym, ◌∙◌, arith, ◌==◌}
-use Rattle.std.specs.List.{range_with_len}
+use Rattle.std.proofs.Common.{◌≡◌, ℕ, zero, suc, ◌<◌, true, List, [], ◌∷◌, None, length, map, get_or, refl, ap, sym, ◌∙◌, arith, ◌==◌}
 use Rattle.std.proofs.lemmas.Bool.Decides.{Decides-eqb}
 use Rattle.std.proofs.lemmas.List.{length-map, get_or-map}
 use Rattle.std.proofs.lemmas.List.FromFn.{fill_by_all}
-use Rattle.pipe_frame.specs.Rows.{Row}
 use Rattle.pipe_frame.specs.Series.{Cells, cell_at}
-use Rattle.pipe_frame.specs.Schema.{IsSchema, names_of, names_fault}
-use Rattle.pipe_frame.specs.Frame.{Table, AllOfHeight, field_of, cell_in, row_at, column_rows, table_of, height_of, other_height, frame_fault, else_fault, differing}
+use Rattle.pipe_frame.specs.Schema.{IsSchema}
+use Rattle.pipe_frame.specs.Frame.{AllOfHeight, field_of, cell_in, row_at, column_rows, table_of, height_of, other_height, frame_fault, else_fault, differing}
 use Rattle.pipe_frame.specs.declared.any_value.AnyValue.{AnyValue}
 use Rattle.pipe_frame.specs.declared.any_value.AnyValue.TheVariants as cell
 use Rattle.pipe_frame.specs.declared.field.Field.{Field}
@@ -27,8 +25,8 @@ no_fault columns good even =
     ap (λ e. else_fault e (differing (height_of columns) (other_height (height_of columns) columns))) good
     ∙ ap (differing (height_of columns)) (none-other (height_of columns) columns even)
 
--- columns that have, for each of some things, its field and the values of it at some rows
-module _ {A : Type 0} (made : A → Cells) (field : A → Field) (value : Row → A → AnyValue) (rows : List Row)
+-- columns that have, for each of some things, its field and the values of it at some rows, of whatever kind
+module _ {A X : Type 0} (none : X) (made : A → Cells) (field : A → Field) (value : X → A → AnyValue) (rows : List X)
     (fields : (x : A) → field_of (made x) ≡ field x) (cells : (x : A) → (made x).cells ≡ map (λ row. value row x) rows) where
   made-length : (x : A) → length (made x).cells ≡ length rows
   made-length x = ap length (cells x) ∙ length-map rows (λ row. value row x)
@@ -45,16 +43,16 @@ module _ {A : Type 0} (made : A → Cells) (field : A → Field) (value : Row �
   pub made-fields : (xs : List A) → map field_of (map made xs) ≡ map field xs
   made-fields xs = map_map field_of made xs ∙ map_same (λ x. field_of (made x)) field xs fields
 
-  made-row : (xs : List A) (k : ℕ) → k < length rows → row_at (map made xs) k ≡ map (value (get_or rows k [])) xs
+  made-row : (xs : List A) (k : ℕ) → k < length rows → row_at (map made xs) k ≡ map (value (get_or rows k none)) xs
   made-row xs k lt =
       map_map (cell_in k) made xs
-      ∙ map_same (λ x. cell_in k (made x)) (value (get_or rows k [])) xs
-      (λ x. ap (λ l. cell_at l k) (cells x) ∙ get_or-map (λ row. value row x) rows k [] cell.Null lt)
+      ∙ map_same (λ x. cell_in k (made x)) (value (get_or rows k none)) xs
+      (λ x. ap (λ l. cell_at l k) (cells x) ∙ get_or-map (λ row. value row x) rows k none cell.Null lt)
 
   pub made-rows : (xs : List A) → column_rows (map made xs) (length rows) ≡ map (λ row. map (value row) xs) rows
   made-rows xs =
       sym (fill_by_all (row_at (map made xs)) (map (λ row. map (value row) xs) rows) (length rows) [] (length-map rows _)
-      (λ k lt. get_or-map (λ row. map (value row) xs) rows k [] [] lt ∙ sym (made-row xs k lt)))
+      (λ k lt. get_or-map (λ row. map (value row) xs) rows k none [] lt ∙ sym (made-row xs k lt)))
 
   -- the frame of the columns
   pub made-table : (xs : List A) → 0 < length xs → table_of (map made xs) (height_of (map made xs)) ≡ record { schema = map field xs; rows = map (λ row. map (value row) xs) rows }

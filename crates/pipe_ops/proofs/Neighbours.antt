@@ -1,7 +1,7 @@
 -- Neighbouring pieces: how many rows two of them have, and what joining them two by two covers.
-use Rattle.std.proofs.Common.{◌≡◌, ℕ, zero, suc, ◌+◌, ◌*◌, ◌^◌, ◌<◌, List, [], ◌∷◌, ◌++◌, length, take, drop, get_or, refl, ap, sym, ◌∙◌, arith, subst, add-one}
+use Rattle.std.proofs.Common.{◌≡◌, ℕ, zero, suc, ◌+◌, ◌^◌, ◌<◌, List, [], ◌∷◌, length, drop, get_or, ap, sym, ◌∙◌, arith, subst}
 use Rattle.std.proofs.Math.Seq.{drop-cons}
-use Rattle.pipe_ops.specs.Offsets.{joined, joined_pieces, Covers, Adjoin}
+use Rattle.pipe_ops.specs.Offsets.{Adjoin}
 
 adjoin-tail : (p : ℕ × ℕ) (ps : List (ℕ × ℕ)) → Adjoin (p ∷ ps) → Adjoin ps
 adjoin-tail p [] h = tt

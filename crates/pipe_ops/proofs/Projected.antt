@@ -1,6 +1,5 @@
 -- The columns of expressions are the projection of the rows.
-use Rattle.std.proofs.Common.{◌≡◌, ℕ, ◌+◌, ◌<◌, ◌≤◌, List, [], ◌∷◌, length, map, take, refl, ap, subst, sym, ◌∙◌, arith}
-use Rattle.std.specs.List.{flat_map}
+use Rattle.std.proofs.Common.{◌≡◌, ℕ, ◌<◌, ◌≤◌, List, [], length, map, take, refl, ap, subst, sym, ◌∙◌, arith}
 use Rattle.std.specs.declared.sync.Arc.{Arc}
 use Rattle.std.proofs.lemmas.List.{length-map, take_all}
 use Rattle.std.proofs.lemmas.List.Concat.{flat_map_single}
@@ -8,8 +7,6 @@ use Rattle.pipe_frame.specs.Rows.{Row, Same}
 use Rattle.pipe_frame.specs.Series.{Cells}
 use Rattle.pipe_frame.specs.Schema.{IsSchema}
 use Rattle.pipe_frame.specs.Frame.{Table, AllOfHeight, field_of, table_of, height_of}
-use Rattle.pipe_frame.specs.declared.any_value.AnyValue.{AnyValue}
-use Rattle.pipe_frame.specs.declared.field.Field.{Field}
 use Rattle.pipe_frame.proofs.NamePlaces.{some_field}
 use Rattle.pipe_frame.proofs.Tables.{map_map, map_same}
 use Rattle.pipe_expr.specs.Projections.{expr_field, expr_cell, select_fields, select_row}
@@ -38,12 +35,12 @@ module _ {P A : Type 0} (expr_of : P → NamedFormula) (frame : Table) where
       let exprs = exprs_in expr_of shared in
       let some : 0 < length shared = (let n = some_field (select_fields frame.schema exprs) good in omega (arith, length-map exprs (expr_field frame.schema), length-map shared (expr_in expr_of))) in
       let fields : map (λ a. expr_field frame.schema (expr_in expr_of a)) shared ≡ select_fields frame.schema exprs = sym (map_map (expr_field frame.schema) (expr_in expr_of) shared) in
-      let height = made-height (column_over expr_of frame) (λ a. expr_field frame.schema (expr_in expr_of a)) (λ row a. expr_cell frame.schema row (expr_in expr_of a)) frame.rows (λ a. refl) (λ a. refl) shared some in
-      let table = made-table (column_over expr_of frame) (λ a. expr_field frame.schema (expr_in expr_of a)) (λ row a. expr_cell frame.schema row (expr_in expr_of a)) frame.rows (λ a. refl) (λ a. refl) shared some in
+      let height = made-height [] (column_over expr_of frame) (λ a. expr_field frame.schema (expr_in expr_of a)) (λ row a. expr_cell frame.schema row (expr_in expr_of a)) frame.rows (λ a. refl) (λ a. refl) shared some in
+      let table = made-table [] (column_over expr_of frame) (λ a. expr_field frame.schema (expr_in expr_of a)) (λ row a. expr_cell frame.schema row (expr_in expr_of a)) frame.rows (λ a. refl) (λ a. refl) shared some in
       let each : (row : Row) → map (λ a. expr_cell frame.schema row (expr_in expr_of a)) shared ≡ select_row frame.schema exprs row = λ row. sym (map_map (expr_cell frame.schema row) (expr_in expr_of) shared) in
       record {
-        good = subst IsSchema (sym (made-fields (column_over expr_of frame) (λ a. expr_field frame.schema (expr_in expr_of a)) (λ row a. expr_cell frame.schema row (expr_in expr_of a)) frame.rows (λ a. refl) (λ a. refl) shared ∙ fields)) good;
-        even = subst (λ n. AllOfHeight n (map (column_over expr_of frame) shared)) (sym height) (made-even (column_over expr_of frame) (λ a. expr_field frame.schema (expr_in expr_of a)) (λ row a. expr_cell frame.schema row (expr_in expr_of a)) frame.rows (λ a. refl) (λ a. refl) shared);
+        good = subst IsSchema (sym (made-fields [] (column_over expr_of frame) (λ a. expr_field frame.schema (expr_in expr_of a)) (λ row a. expr_cell frame.schema row (expr_in expr_of a)) frame.rows (λ a. refl) (λ a. refl) shared ∙ fields)) good;
+        even = subst (λ n. AllOfHeight n (map (column_over expr_of frame) shared)) (sym height) (made-even [] (column_over expr_of frame) (λ a. expr_field frame.schema (expr_in expr_of a)) (λ row a. expr_cell frame.schema row (expr_in expr_of a)) frame.rows (λ a. refl) (λ a. refl) shared);
         whole = table
             ∙ ap (λ s. record { schema = s; rows = map (λ row. map (λ a. expr_cell frame.schema row (expr_in expr_of a)) shared) frame.rows }) fields
             ∙ ap (λ r. record { schema = select_fields frame.schema exprs; rows = r }) (map_same (λ row. map (λ a. expr_cell frame.schema row (expr_in expr_of a)) shared) (select_row frame.schema exprs) frame.rows each);

@@ -1,5 +1,5 @@
 -- Pieces of a chunk: where each begins and how many rows it has.
-use Rattle.std.specs.Prelude.{◌≡◌, ℕ, zero, suc, ◌+◌, ◌-◌, ◌/◌, ◌^◌, ◌<◌, List, [], ◌∷◌, ◌++◌, take, drop}
+use Rattle.std.specs.Prelude.{◌≡◌, ℕ, zero, suc, ◌+◌, ◌-◌, ◌/◌, ◌^◌, ◌<◌, List, [], ◌∷◌, take, drop}
 use Rattle.std.specs.List.{flat_map}
 
 -- so many pieces of one size from a place on; the last goes up to the end

@@ -9,7 +9,7 @@ use std::alloc::{AllocError, Global};
 
 /// The frame of columns of one height with distinct names.
 #[tactic(auto, using(crate::proofs::MadeColumns::no_fault))]
-pub(crate) fn frame_of(alloc: Global, columns: Vec<Series>) -> Result<DataFrame, AllocError>
+pub fn frame_of(alloc: Global, columns: Vec<Series>) -> Result<DataFrame, AllocError>
     requires fields { IsSchema (map field_of columns.items) }
     requires even { AllOfHeight (height_of columns.items) columns.items }
     ensures { IfOk result (λ frame. frame ≡ table_of columns.items (height_of columns.items)) }

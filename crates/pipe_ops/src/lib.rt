@@ -25,6 +25,7 @@ mod stacked;
 pub use chunk_size::determine_chunk_size;
 pub use context::PExecutionContext;
 pub use filter::FilterOperator;
+pub use frames::frame_of;
 pub use hstack::HstackOperator;
 pub use offset_laws::{covered_rows_are_all, joined_pieces_cover, split_pieces_cover};
 pub use offsets::{combine_offsets, split_offsets};

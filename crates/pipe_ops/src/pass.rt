@@ -78,7 +78,9 @@ impl Operator for Pass {
         false
     }
 
-    fn split(&self, alloc: Global, thread_no: usize) -> Result<Pass, AllocError> {
+    fn split(&self, alloc: Global, thread_no: usize) -> Result<Pass, AllocError>
+        ensures { result ≡ Ok self.now }
+    {
         Ok(*self)
     }
 

@@ -1,4 +1,4 @@
-use Rattle.std.proofs.Common.{rules, ◌≡◌, ◌+◌, ◌*◌, length, arith, get_or}
+use Rattle.std.proofs.Common.{◌*◌, arith}
 use Rattle.pipe_ops.proofs.Neighbours.{neighbours-fit}
 use Rattle.pipe_ops.proofs.offsets.combine_offsets.Goals as goal
 

@@ -1,4 +1,4 @@
-use Rattle.std.proofs.Common.{◌≡◌, ◌+◌, ◌*◌, ◌++◌, take, drop, length}
+use Rattle.std.proofs.Common.{◌≡◌, ◌*◌, ◌++◌, take, drop, length}
 use Rattle.pipe_ops.specs.Offsets.{joined_pieces}
 use Rattle.pipe_ops.proofs.offsets.combine_offsets.Given as goal
 

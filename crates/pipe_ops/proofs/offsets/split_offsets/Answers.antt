@@ -1,5 +1,5 @@
-use Rattle.std.proofs.Common.{rules, ◌≡◌, ◌+◌, ◌*◌, ◌/◌, ◌∙◌, subst, sym, arith}
-use Rattle.pipe_ops.specs.Offsets.{split_pieces, Covers}
+use Rattle.std.proofs.Common.{◌≡◌, ◌/◌, ◌∙◌, arith}
+use Rattle.pipe_ops.specs.Offsets.{split_pieces}
 use Rattle.pipe_ops.proofs.OffsetLemmas.{made-more, made-last, covers-split}
 use Rattle.pipe_ops.proofs.offsets.split_offsets.Goals as goal
 

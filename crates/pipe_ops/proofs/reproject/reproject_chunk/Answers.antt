@@ -1,5 +1,4 @@
-use Rattle.std.proofs.Common.{◌≡◌, ap}
-use Rattle.pipe_ops.specs.Each.{reprojected}
+use Rattle.std.proofs.Common.{ap}
 use Rattle.pipe_ops.proofs.NamedFields.{reprojected_by}
 use Rattle.pipe_ops.proofs.reproject.reproject_chunk.Goals as goal
 

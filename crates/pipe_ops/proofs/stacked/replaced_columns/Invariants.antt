@@ -1,5 +1,4 @@
 use Rattle.std.proofs.Common.{◌≡◌, map, take}
-use Rattle.pipe_frame.specs.Frame.{columns_of}
 use Rattle.pipe_ops.specs.Exprs.{exprs_in, stacked_column}
 use Rattle.pipe_ops.proofs.stacked.replaced_columns.Given as goal
 

@@ -1,4 +1,4 @@
-use Rattle.std.proofs.Common.{◌≡◌, ap, ◌∙◌}
+use Rattle.std.proofs.Common.{ap, ◌∙◌}
 use Rattle.pipe_expr.specs.Physical.{expr_column}
 use Rattle.pipe_ops.proofs.Filtered.{filter_gives}
 use Rattle.pipe_ops.proofs.filter.FilterOperatorOperator.execute.Goals as goal

@@ -1,4 +1,4 @@
-use Rattle.std.proofs.Common.{◌≡◌, ap, ◌∙◌}
+use Rattle.std.proofs.Common.{ap, ◌∙◌}
 use Rattle.pipe_ops.specs.Exprs.{exprs_in}
 use Rattle.pipe_ops.proofs.Extended.{stacked_by, stacked_each}
 use Rattle.pipe_ops.proofs.hstack.HstackOperatorOperator.execute.Goals as goal

@@ -1,4 +1,4 @@
-use Rattle.std.proofs.Common.{◌≡◌, ap, ◌∙◌}
+use Rattle.std.proofs.Common.{ap, ◌∙◌}
 use Rattle.pipe_ops.specs.Exprs.{exprs_in}
 use Rattle.pipe_ops.proofs.Projected.{AreTable, projected, columns_made, projected_each}
 use Rattle.pipe_ops.proofs.projection.ProjectionOperatorOperator.execute.Goals as goal

@@ -1,4 +1,4 @@
-use Rattle.std.proofs.Common.{◌≡◌, ap, ◌∙◌}
+use Rattle.std.proofs.Common.{ap, ◌∙◌}
 use Rattle.pipe_ops.proofs.NamedFields.{selected_by, named_each}
 use Rattle.pipe_ops.proofs.simple_projection.SimpleProjectionOperatorOperator.execute.Goals as goal
 
