@@ -1,6 +1,6 @@
 -- Bytes have an answer or one cause, and not both.
-use Rattle.std.proofs.Common.{rules, Result, Ok, Err, ◌≡◌, ℕ, List, [], ◌∷◌, ◌++◌, map, ap, subst, sym, ◌∙◌}
-use Rattle.std.specs.Prelude.{⊤, IfErr}
+use Rattle.std.proofs.Common.{Result, Ok, Err, ◌≡◌, ℕ, List, ◌∷◌, ◌++◌, map, ap, subst, sym, ◌∙◌}
+use Rattle.std.specs.Prelude.{IfErr}
 use Rattle.std.specs.Result.{IsErrAnd}
 use Rattle.std.specs.List.{flat_map}
 use Rattle.std.proofs.lemmas.Option.{same_Some}
@@ -12,10 +12,10 @@ use Rattle.pipe_plan.specs.PlanRows.{rows_of}
 use Rattle.pipe_plan.specs.Schemas.{schema_of}
 use Rattle.pipe_job.specs.JobSpelling.{Spells, Task}
 use Rattle.pipe_job.specs.Line.{head_line, row_line, lines}
-use Rattle.pipe_job.specs.Reading.{Reading, ReadsJob, ReadsNothing}
+use Rattle.pipe_job.specs.Reading.{Reading, ReadsJob, ReadsNoJob, ReadsNothing}
 use Rattle.pipe_job.proofs.Cut.{lines-frame}
 use Rattle.pipe_job.proofs.OneJob.{one_job}
-use Rattle.pipe_cli.specs.Answer.{Answered, FirstJob, NotFirstJob, IsFirstJob}
+use Rattle.pipe_cli.specs.Answer.{Answered, FirstJob, IsFirstJob, OtherJob}
 use Rattle.pipe_cli.specs.Causes.{Causes, RunCauses}
 use Rattle.pipe_cli.specs.declared.status.Refusal.{Refusal}
 use Rattle.pipe_cli.specs.declared.status.Refusal.TheVariants as refusal
@@ -24,36 +24,35 @@ use Rattle.pipe_cli.specs.declared.status.Refusal.TheVariants as refusal
 one_reading : (bytes : List ℕ) (v w : Data) → Reading bytes v → Reading bytes w → v ≡ w
 one_reading bytes v w r s = same_Some _ _ (sym r.reads ∙ s.reads)
 
+-- and spell one job at most
+same_job : (bytes : List ℕ) (s t : Task) → ReadsJob bytes s → ReadsJob bytes t → s ≡ t
+same_job bytes s t r q = one_job q.value s t (subst (λ (v : Data). Spells v s) (one_reading bytes r.value q.value r.reading q.reading) r.spelled) q.spelled
+
 -- what is read is JSON
-pub json_job : (bytes : List ℕ) → ReadsNothing bytes → FirstJob bytes → ⊥
-json_job bytes n j = n.none j.read.value j.read.reading
+pub nothing_job : (bytes : List ℕ) (job : Task) → ReadsNothing bytes → ReadsJob bytes job → ⊥
+nothing_job bytes job n j = n.none j.value j.reading
 
-pub json_other : (bytes : List ℕ) → ReadsNothing bytes → NotFirstJob bytes → ⊥
-json_other bytes n j = n.none j.value j.reading
+pub nothing_none : (bytes : List ℕ) → ReadsNothing bytes → ReadsNoJob bytes → ⊥
+nothing_none bytes n j = n.none j.value j.reading
 
--- what is no first job is none
-pub other_job : (bytes : List ℕ) → NotFirstJob bytes → FirstJob bytes → ⊥
-other_job bytes n j =
-    n.none j.job (subst (λ (v : Data). Spells v j.job) (one_reading bytes j.read.value n.value j.read.reading n.reading) j.read.spelled) j.first
+-- what spells a job doesn't spell none
+pub none_job : (bytes : List ℕ) (job : Task) → ReadsNoJob bytes → ReadsJob bytes job → ⊥
+none_job bytes job n j = n.none job (subst (λ (v : Data). Spells v job) (one_reading bytes j.value n.value j.reading n.reading) j.spelled)
+
+-- what can't be run so far is no first job
+pub other_first : (bytes : List ℕ) → OtherJob bytes → FirstJob bytes → ⊥
+other_first bytes o f = o.other (subst (λ (job : Task). IsFirstJob job) (same_job bytes f.job o.job f.read o.read) f.first)
 
 -- what has an answer is a first job
-pub answered_job : (bytes text : List ℕ) → Answered bytes text → FirstJob bytes
-answered_job bytes text a = record { job = a.job; read = a.read; first = a.first }
+pub answered_first : (bytes text : List ℕ) → Answered bytes text → FirstJob bytes
+answered_first bytes text a = record { job = a.job; read = a.read; first = a.first }
 
 -- what the value that was read spells
 pub job_read : (bytes : List ℕ) (value : Data) (job : Task) → Reading bytes value → Spells value job → ReadsJob bytes job
 job_read bytes value job reading spelled = record { value = value; reading = reading; spelled = spelled }
 
-pub no_job_read : (bytes : List ℕ) (value : Data) → Reading bytes value → ((job : Task) → Spells value job → ⊥) → NotFirstJob bytes
-no_job_read bytes value reading none = record { value = value; reading = reading; none = λ job s first. none job s }
-
--- where the job that was read is no first one, the value spells no other that is
-pub other_first : (bytes : List ℕ) (job : Task) → ReadsJob bytes job → (IsFirstJob job → ⊥) → NotFirstJob bytes
-other_first bytes job r none = record {
-  value = r.value;
-  reading = r.reading;
-  none = λ other s first. none (subst (λ (j : Task). IsFirstJob j) (sym (one_job r.value job other r.spelled s)) first);
-}
+pub no_job_read : (bytes : List ℕ) (value : Data) → Reading bytes value → ((job : Task) → Spells value job → ⊥) → ReadsNoJob bytes
+no_job_read bytes value reading none = record { value = value; reading = reading; none = none }
 
 -- the text of a frame that has the plan's schema and rows is the answer
 pub answered : (bytes text : List ℕ) (job : Task) (frame : Table) → ReadsJob bytes job → IsFirstJob job → frame.schema ≡ schema_of job.plan job.root → Same frame.rows (rows_of job.plan job.root) → text ≡ head_line frame.schema ++ flat_map row_line frame.rows → Answered bytes text
@@ -68,12 +67,13 @@ answered bytes text job frame read first schema same e = record {
 
 -- a refusal of the run of the job that was read is one of the bytes
 pub run_caused : (refusal : Refusal) (bytes : List ℕ) (job : Task) → ReadsJob bytes job → RunCauses refusal (IsFirstJob job) → Causes refusal bytes
-run_caused refusal.Unbuilt bytes job r none = other_first bytes job r none
+run_caused refusal.Unbuilt bytes job r other = record { job = job; read = r; other = other }
 run_caused refusal.Memory bytes job r none = none
 run_caused refusal.BadWords bytes job r none = none
 run_caused refusal.ReadFault bytes job r none = none
 run_caused refusal.TooLong bytes job r none = none
 run_caused refusal.NotJson bytes job r none = absurd none
+run_caused refusal.NotJob bytes job r none = absurd none
 run_caused refusal.WriteFault bytes job r none = none
 
 -- the same where the refusal is passed on

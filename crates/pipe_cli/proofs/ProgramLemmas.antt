@@ -1,53 +1,133 @@
 -- From what a run says of its words, its input and its output to its status.
-use Rattle.std.proofs.Common.{◌≡◌, ◌<◌, ℕ, List, [], ◌∷◌, length, ◌≤◌, Option, Some, None, Result, Ok, Err, inl, inr, refl, subst, arith}
+use Rattle.std.proofs.Common.{◌≡◌, ℕ, List, [], length, ◌≤◌, Option, Some, None, Result, Ok, Err, inl, inr, subst, arith}
 use Rattle.std.proofs.Math.Seq.{take-length}
-use Rattle.std.specs.Prelude.{IfSome, IsSome, OnErr, OnOk}
+use Rattle.std.specs.Prelude.{IfSome, OnErr, OnOk}
 use Rattle.pipe_frame.specs.Counts.{Rises}
-use Rattle.pipe_cli.specs.Answer.{NotFirstJob}
-use Rattle.pipe_cli.specs.Headline.{IsGood, NotJsonOn, Ran, TooLong, UnbuiltOn, limit}
+use Rattle.pipe_outside.specs.Outside.{AtEnd, CountedAbove, InputSeen, OutputSeen, WriteFails, Writes, WritesFront}
+use Rattle.pipe_outside.specs.Whole.{IsAll}
+use Rattle.pipe_cli.specs.Answer.{Answered}
+use Rattle.pipe_cli.specs.Causes.{Causes}
+use Rattle.pipe_cli.specs.Headline.{IsAnswer, IsTooMany, IsWhole, Ran, RanInPart, limit}
 use Rattle.pipe_cli.specs.Noted.{Noted}
-use Rattle.pipe_outside.specs.Outside.{RisesAbove, Writes, WritesFront}
-use Rattle.pipe_cli.specs.Refused.{OfReading, OfText, OfWords, OfWriting}
-use Rattle.pipe_cli.specs.Status.{OneOf, status_of}
+use Rattle.pipe_cli.specs.Refused.{NotJobOn, NotJsonOn, OfReading, OfText, OfWriting, UnbuiltOn}
 use Rattle.pipe_cli.specs.declared.status.Refusal.{Refusal}
 use Rattle.pipe_cli.specs.declared.status.Refusal.TheVariants as refusal
-use Rattle.pipe_cli.specs.Words.{Request}
-use Rattle.pipe_cli.proofs.AnswerLemmas.{answered_job, json_job, json_other, other_job}
 
-all_is_front : (text : List ℕ) (first now : Option (List ℕ)) → Writes text first now → WritesFront text first now
+all_is_front : (text : List ℕ) (first now : OutputSeen) → Writes text first now → WritesFront text first now
 all_is_front text first now h = (length text, rw (take-length text) h)
 
 -- a line that was handed to a writer is noted
-pub noted : {E : Type 0} (line text : List ℕ) (first now : Option (List ℕ)) (a b : ℕ) (answer : Result (Unit {0}) E) → text ≡ line → OnOk answer (Writes text first now) → OnErr answer (WritesFront text first now) → OnErr answer (Rises a b) → Noted line first now a b
-noted line text first now a b (Ok _) e ok err cause =
+pub noted : {E : Type 0} (line text : List ℕ) (first now : OutputSeen) (answer : Result (Unit {0}) E) → text ≡ line → OnOk answer (Writes text first now) → OnErr answer (WritesFront text first now) → OnErr answer (WriteFails first now) → Noted line first now
+noted line text first now (Ok _) e ok err cause =
     let P : List ℕ → Type 0 = λ s. Writes s first now in
     let h : Writes line first now = subst P e ok in
     record { front = all_is_front line first now h; whole = inl h }
-noted line text first now a b (Err _) e ok err cause =
+noted line text first now (Err _) e ok err cause =
     let P : List ℕ → Type 0 = λ s. WritesFront s first now in
     record { front = subst P e err; whole = inr cause }
 
--- ---- the job under a name
+-- ---- the bytes that are told
 
--- what was left after a name was opened is what stands under it
-pub bytes_named : (told left : Option (List ℕ)) (bytes : List ℕ) → IfSome told (λ all. left ≡ Some all) → IfSome left (λ all. bytes ≡ all) → IfSome told (λ all. bytes ≡ all)
-bytes_named None left bytes h k = tt
-bytes_named (Some all) left bytes h k =
-    let P : Option (List ℕ) → Type 0 = λ o. IfSome o (λ x. bytes ≡ x) in
+-- a text that is all that was left was read to its end
+whole_told : (text : List ℕ) (left : Option (List ℕ)) (now : InputSeen) → IfSome left (λ bytes. text ≡ bytes) → IfSome left (λ _. now.left ≡ Some []) → length text ≤ limit → IsWhole left now
+whole_told text None now same end short = tt
+whole_told text (Some bytes) now same end short = record { end = end; short = subst (λ (s : List ℕ). length s ≤ limit) same short }
+
+pub whole_read : (text : List ℕ) (input now : InputSeen) → IsAll text input → AtEnd input now → length text ≤ limit → IsWhole input.left now
+whole_read text input now same end short = whole_told text input.left now same end short
+
+-- what is said of the bytes that were read is said of those that are told
+pub answer_told : (bytes text : List ℕ) (told : Option (List ℕ)) → IfSome told (λ all. bytes ≡ all) → Answered bytes text → IsAnswer text told
+answer_told bytes text None same a = tt
+answer_told bytes text (Some all) same a = subst (λ (s : List ℕ). Answered s text) same a
+
+pub text_told : (r : Refusal) (bytes : List ℕ) (told : Option (List ℕ)) → IfSome told (λ all. bytes ≡ all) → length bytes ≤ limit → Causes r bytes → OfText r told
+text_told refusal.NotJson bytes None same short cause = tt
+text_told refusal.NotJson bytes (Some all) same short cause = subst (λ (s : List ℕ). NotJsonOn s) same (record { short = short; cause = cause })
+text_told refusal.NotJob bytes None same short cause = tt
+text_told refusal.NotJob bytes (Some all) same short cause = subst (λ (s : List ℕ). NotJobOn s) same (record { short = short; cause = cause })
+text_told refusal.Unbuilt bytes None same short cause = tt
+text_told refusal.Unbuilt bytes (Some all) same short cause = subst (λ (s : List ℕ). UnbuiltOn s) same (record { short = short; cause = cause })
+text_told refusal.BadWords bytes told same short cause = tt
+text_told refusal.ReadFault bytes told same short cause = tt
+text_told refusal.TooLong bytes told same short cause = tt
+text_told refusal.WriteFault bytes told same short cause = tt
+text_told refusal.Memory bytes told same short cause = tt
+
+-- the answer that was written
+ran_with : (text : List ℕ) (told : Option (List ℕ)) (out now : OutputSeen) → IsAnswer text told → Writes text out now → Ran told out now
+ran_with text None out now a w = tt
+ran_with text (Some bytes) out now a w = record { text = text; answered = a; wrote = w }
+
+pub ran_told : (text : List ℕ) (input : InputSeen) (out now : OutputSeen) → IsAnswer text input.left → Writes text out now → Ran input.left out now
+ran_told text input out now a w = ran_with text input.left out now a w
+
+part_with : (text : List ℕ) (told : Option (List ℕ)) (rest : InputSeen) (out now : OutputSeen) → IsAnswer text told → IsWhole told rest → WritesFront text out now → RanInPart told out now
+part_with text None rest out now a whole w = tt
+part_with text (Some bytes) rest out now a whole w = record { short = whole.short; text = text; answered = a; wrote = w }
+
+pub part_told : (text : List ℕ) (input rest : InputSeen) (out now : OutputSeen) → IsAnswer text input.left → IsWhole input.left rest → WritesFront text out now → RanInPart input.left out now
+part_told text input rest out now a whole w = part_with text input.left rest out now a whole w
+
+-- ---- the job under a name: what is left once it was opened is what was told of it
+
+pub whole_named : (told : Option (List ℕ)) (mid now : InputSeen) → IfSome told (λ all. mid.left ≡ Some all) → IsWhole mid.left now → IsWhole told now
+whole_named None mid now h k = tt
+whole_named (Some all) mid now h k =
+    let P : Option (List ℕ) → Type 0 = λ o. IsWhole o now in
     let told : P (Some all) = subst P h k in
     told
 
-pub end_named : (told left now : Option (List ℕ)) → IfSome told (λ all. left ≡ Some all) → IfSome left (λ _. now ≡ Some []) → IfSome told (λ _. now ≡ Some [])
-end_named None left now h k = tt
-end_named (Some all) left now h k =
-    let P : Option (List ℕ) → Type 0 = λ o. IfSome o (λ _. now ≡ Some []) in
+pub ran_named : (told : Option (List ℕ)) (mid : InputSeen) (out now : OutputSeen) → IfSome told (λ all. mid.left ≡ Some all) → Ran mid.left out now → Ran told out now
+ran_named None mid out now h k = tt
+ran_named (Some all) mid out now h k =
+    let P : Option (List ℕ) → Type 0 = λ o. Ran o out now in
     let told : P (Some all) = subst P h k in
     told
 
-long_named : (told left : Option (List ℕ)) → IfSome told (λ all. left ≡ Some all) → IfSome left (λ all. limit < length all) → IfSome told (λ all. limit < length all)
-long_named None left h k = tt
-long_named (Some all) left h k =
-    let P : Option (List ℕ) → Type 0 = λ o. IfSome o (λ x. limit < length x) in
+part_named : (told : Option (List ℕ)) (mid : InputSeen) (out now : OutputSeen) → IfSome told (λ all. mid.left ≡ Some all) → RanInPart mid.left out now → RanInPart told out now
+part_named None mid out now h k = tt
+part_named (Some all) mid out now h k =
+    let P : Option (List ℕ) → Type 0 = λ o. RanInPart o out now in
+    let told : P (Some all) = subst P h k in
+    told
+
+pub writing_named : (r : Refusal) (told : Option (List ℕ)) (mid : InputSeen) (out now : OutputSeen) → IfSome told (λ all. mid.left ≡ Some all) → OfWriting r (RanInPart mid.left out now) out now → OfWriting r (RanInPart told out now) out now
+writing_named refusal.WriteFault told mid out now h k = (k.0, part_named told mid out now h k.1)
+writing_named refusal.BadWords told mid out now h k = k
+writing_named refusal.ReadFault told mid out now h k = k
+writing_named refusal.TooLong told mid out now h k = k
+writing_named refusal.NotJson told mid out now h k = k
+writing_named refusal.NotJob told mid out now h k = k
+writing_named refusal.Unbuilt told mid out now h k = k
+writing_named refusal.Memory told mid out now h k = k
+
+pub text_named : (r : Refusal) (told : Option (List ℕ)) (mid : InputSeen) → IfSome told (λ all. mid.left ≡ Some all) → OfText r mid.left → OfText r told
+text_named refusal.NotJson None mid h k = tt
+text_named refusal.NotJson (Some all) mid h k =
+    let P : Option (List ℕ) → Type 0 = λ o. OfText refusal.NotJson o in
+    let told : P (Some all) = subst P h k in
+    told
+text_named refusal.NotJob None mid h k = tt
+text_named refusal.NotJob (Some all) mid h k =
+    let P : Option (List ℕ) → Type 0 = λ o. OfText refusal.NotJob o in
+    let told : P (Some all) = subst P h k in
+    told
+text_named refusal.Unbuilt None mid h k = tt
+text_named refusal.Unbuilt (Some all) mid h k =
+    let P : Option (List ℕ) → Type 0 = λ o. OfText refusal.Unbuilt o in
+    let told : P (Some all) = subst P h k in
+    told
+text_named refusal.BadWords told mid h k = tt
+text_named refusal.ReadFault told mid h k = tt
+text_named refusal.TooLong told mid h k = tt
+text_named refusal.WriteFault told mid h k = tt
+text_named refusal.Memory told mid h k = tt
+
+long_named : (told : Option (List ℕ)) (mid : InputSeen) → IfSome told (λ all. mid.left ≡ Some all) → IfSome mid.left IsTooMany → IfSome told IsTooMany
+long_named None mid h k = tt
+long_named (Some all) mid h k =
+    let P : Option (List ℕ) → Type 0 = λ o. IfSome o IsTooMany in
     let told : P (Some all) = subst P h k in
     told
 
@@ -55,79 +135,16 @@ rises_from : (a b c : ℕ) → a ≤ b → Rises b c → Rises a c
 rises_from a b c h (inl k) = inl (omega arith)
 rises_from a b c h (inr k) = inr k
 
-above_from : (n a b c : ℕ) → a ≤ b → RisesAbove n b c → RisesAbove n a c
-above_from n a b c h (inl k) = inl (omega arith)
-above_from n a b c h (inr k) = inr k
+above_from : (n : ℕ) (input mid now : InputSeen) → input.taken ≤ mid.taken → CountedAbove n mid now → CountedAbove n input now
+above_from n input mid now h (inl k) = inl (omega arith)
+above_from n input mid now h (inr k) = inr k
 
-pub reading_named : (e : Refusal) (told left : Option (List ℕ)) (t u v a b c : ℕ) → IfSome told (λ all. left ≡ Some all) → t ≤ u → a ≤ b → OfReading e left u v b c → OfReading e told t v a c
-reading_named refusal.ReadFault told left t u v a b c h taken faults r = rises_from a b c faults r
-reading_named refusal.TooLong told left t u v a b c h taken faults r = record { told = long_named told left h r.told; counted = above_from limit t u v taken r.counted }
-reading_named refusal.BadWords told left t u v a b c h taken faults r = tt
-reading_named refusal.NotJson told left t u v a b c h taken faults r = tt
-reading_named refusal.Unbuilt told left t u v a b c h taken faults r = tt
-reading_named refusal.WriteFault told left t u v a b c h taken faults r = tt
-reading_named refusal.Memory told left t u v a b c h taken faults r = tt
-
--- ---- statuses
-
--- the statuses of what is done before the text is looked at
-abbrev before_text : List ℕ
-before_text = 1 ∷ 2 ∷ 3 ∷ 10 ∷ []
-
--- the statuses of what is done before the run
-abbrev before_run : List ℕ
-before_run = 1 ∷ 2 ∷ 3 ∷ 10 ∷ 11 ∷ []
-
--- an input that is too long isn't run
-pub long_ran : (left rest written now : Option (List ℕ)) → Ran left rest written now → IfSome left (λ input. limit < length input → OneOf before_text 0)
-long_ran None rest written now h = tt
-long_ran (Some input) rest written now h = λ (k : limit < length input). absurd (omega (arith, h.short))
-
--- and ends before its text is looked at
-pub long_status : (e : Refusal) (left written now : Option (List ℕ)) (a b : ℕ) → OfText e left → OfWriting e left written now a b → IfSome left (λ input. limit < length input → OneOf before_text (status_of e))
-long_status e None written now a b h k = tt
-long_status refusal.BadWords (Some input) written now a b h k = λ _. inl refl
-long_status refusal.ReadFault (Some input) written now a b h k = λ _. inr (inl refl)
-long_status refusal.TooLong (Some input) written now a b h k = λ _. inr (inr (inl refl))
-long_status refusal.NotJson (Some input) written now a b h k = λ (l : limit < length input). absurd (omega (arith, h.short))
-long_status refusal.Unbuilt (Some input) written now a b h k = λ (l : limit < length input). absurd (omega (arith, h.short))
-long_status refusal.WriteFault (Some input) written now a b h k = λ (l : limit < length input). absurd (omega (arith, k.1.short))
-long_status refusal.Memory (Some input) written now a b h k = λ _. inr (inr (inr (inl refl)))
-
--- an input that is no first job isn't run
-pub other_ran : (left rest written now : Option (List ℕ)) → Ran left rest written now → IfSome left (λ input. NotFirstJob input → OneOf before_run 0)
-other_ran None rest written now h = tt
-other_ran (Some input) rest written now h = λ n. absurd (other_job input n (answered_job input h.text h.answered))
-
--- and ends with 11, where it isn't too long and nothing failed before
-pub other_status : (e : Refusal) (left written now : Option (List ℕ)) (a b : ℕ) → OfText e left → OfWriting e left written now a b → IfSome left (λ input. NotFirstJob input → OneOf before_run (status_of e))
-other_status e None written now a b h k = tt
-other_status refusal.BadWords (Some input) written now a b h k = λ _. inl refl
-other_status refusal.ReadFault (Some input) written now a b h k = λ _. inr (inl refl)
-other_status refusal.TooLong (Some input) written now a b h k = λ _. inr (inr (inl refl))
-other_status refusal.NotJson (Some input) written now a b h k = λ n. absurd (json_other input h.cause n)
-other_status refusal.Unbuilt (Some input) written now a b h k = λ _. inr (inr (inr (inr (inl refl))))
-other_status refusal.WriteFault (Some input) written now a b h k = λ n. absurd (other_job input n (answered_job input k.1.text k.1.answered))
-other_status refusal.Memory (Some input) written now a b h k = λ _. inr (inr (inr (inl refl)))
-
--- good words, and an input that is a first job, end with 0 or 10 where no fault came
-pub good_status : (e : Refusal) (words : List (List ℕ)) (left written now : Option (List ℕ)) (t u a b x y : ℕ) → OfWords e words → OfReading e left t u a b → OfText e left → OfWriting e left written now x y → IsGood words left → (Rises a b → ⊥) → (Rises x y → ⊥) → OneOf (0 ∷ 10 ∷ []) (status_of e)
-good_status refusal.BadWords words left written now t u a b x y w r h k good nr nw =
-    let P : Option Request → Type 0 = λ o. IsSome o in
-    let none : IsSome {T = Request} None = subst P w good.known in
-    cc
-good_status refusal.ReadFault words left written now t u a b x y w r h k good nr nw = absurd (nr r)
-good_status refusal.TooLong words left written now t u a b x y w r h k good nr nw =
-    let P : Option (List ℕ) → Type 0 = λ o. IfSome o (λ input. limit < length input) in
-    let long : limit < length good.input = subst P good.told r.told in
-    absurd (omega (arith, good.short))
-good_status refusal.NotJson words left written now t u a b x y w r h k good nr nw =
-    let P : Option (List ℕ) → Type 0 = λ o. IfSome o NotJsonOn in
-    let on : NotJsonOn good.input = subst P good.told h in
-    absurd (json_job good.input on.cause good.job)
-good_status refusal.Unbuilt words left written now t u a b x y w r h k good nr nw =
-    let P : Option (List ℕ) → Type 0 = λ o. IfSome o UnbuiltOn in
-    let on : UnbuiltOn good.input = subst P good.told h in
-    absurd (other_job good.input on.cause good.job)
-good_status refusal.WriteFault words left written now t u a b x y w r h k good nr nw = absurd (nw k.0)
-good_status refusal.Memory words left written now t u a b x y w r h k good nr nw = inr (inl refl)
+pub reading_named : (r : Refusal) (told : Option (List ℕ)) (input mid now : InputSeen) → IfSome told (λ all. mid.left ≡ Some all) → input.taken ≤ mid.taken → input.faults ≤ mid.faults → OfReading r mid.left mid now → OfReading r told input now
+reading_named refusal.ReadFault told input mid now h taken faults k = rises_from input.faults mid.faults now.faults faults k
+reading_named refusal.TooLong told input mid now h taken faults k = record { many = long_named told mid h k.many; counted = above_from limit input mid now taken k.counted }
+reading_named refusal.BadWords told input mid now h taken faults k = tt
+reading_named refusal.NotJson told input mid now h taken faults k = tt
+reading_named refusal.NotJob told input mid now h taken faults k = tt
+reading_named refusal.Unbuilt told input mid now h taken faults k = tt
+reading_named refusal.WriteFault told input mid now h taken faults k = tt
+reading_named refusal.Memory told input mid now h taken faults k = tt

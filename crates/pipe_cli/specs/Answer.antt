@@ -1,13 +1,12 @@
 -- The answer to a job: the line of its plan's column names, and the lines of its plan's rows.
 use Rattle.std.specs.Prelude.{ℕ, ◌≡◌, List, ◌∷◌, map}
-use Rattle.serde_json.specs.Data.{Data}
 use Rattle.pipe_frame.specs.Rows.{SameLines}
 use Rattle.pipe_exec.specs.First.{IsFirst}
 use Rattle.pipe_plan.specs.PlanRows.{rows_of}
 use Rattle.pipe_plan.specs.Schemas.{schema_of}
-use Rattle.pipe_job.specs.JobSpelling.{Spells, Task}
+use Rattle.pipe_job.specs.JobSpelling.{Task}
 use Rattle.pipe_job.specs.Line.{head_line, row_line, lines}
-use Rattle.pipe_job.specs.Reading.{Reading, ReadsJob}
+use Rattle.pipe_job.specs.Reading.{ReadsJob}
 
 -- a job that can be run so far
 abbrev pub IsFirstJob : Task → Type 0
@@ -19,11 +18,11 @@ pub record FirstJob (bytes : List ℕ) : Type 0 where
   pub read : ReadsJob bytes job
   pub first : IsFirstJob job
 
--- the value that is read spells no first job
-pub record NotFirstJob (bytes : List ℕ) : Type 0 where
-  pub value : Data
-  pub reading : Reading bytes value
-  pub none : (job : Task) → Spells value job → IsFirstJob job → ⊥
+-- the value that is read spells a job that can't be run so far
+pub record OtherJob (bytes : List ℕ) : Type 0 where
+  pub job : Task
+  pub read : ReadsJob bytes job
+  pub other : IsFirstJob job → ⊥
 
 -- the bytes spell a first job; the first line of the text is its plan's schema, and the other lines are those of the plan's rows, each as often
 pub record Answered (bytes text : List ℕ) : Type 0 where

@@ -1,63 +1,81 @@
 -- What a run of the program says of its input and its output.
-use Rattle.std.specs.Prelude.{ℕ, ◌≡◌, ◌<◌, ◌≤◌, List, [], length, Option, Some, IfSome, IsSome}
-use Rattle.pipe_cli.specs.Answer.{Answered, FirstJob, NotFirstJob}
-use Rattle.pipe_job.specs.Reading.{ReadsNothing}
-use Rattle.pipe_outside.specs.Outside.{RisesAbove, Writes, WritesFront}
-use Rattle.pipe_cli.specs.Words.{request}
+use Rattle.std.specs.Prelude.{ℕ, ◌≡◌, ◌<◌, ◌≤◌, List, [], length, Option, Some, None, IfSome}
+use Rattle.pipe_outside.specs.Outside.{CountedAbove, InputSeen, OutputSeen, Writes, WritesFront}
+use Rattle.pipe_cli.specs.Answer.{Answered, FirstJob}
+use Rattle.pipe_cli.specs.Words.{Request, Run, Help, Version, bytes_at, help_text, job_bytes, request, version_text}
 
 -- how many bytes a job has at most
 abbrev pub limit : ℕ
 limit = 33554432
 
--- the input was read to its end and isn't too long, and this text is the answer to it
-pub record ReadOn (input : List ℕ) (rest : Option (List ℕ)) (text : List ℕ) : Type 0 where
-  pub read : rest ≡ Some []
-  pub short : length input ≤ limit
-  pub answered : Answered input text
+-- bytes that are more than a job may have
+abbrev pub IsTooMany : List ℕ → Type 0
+IsTooMany bytes = limit < length bytes
 
--- the input was read to its end, it isn't too long, and its answer was written
-pub record RanOn (input : List ℕ) (rest written now : Option (List ℕ)) : Type 0 where
-  pub read : rest ≡ Some []
-  pub short : length input ≤ limit
+-- bytes were read to their end, and a job may have so many
+pub record ReadOn (bytes : List ℕ) (now : InputSeen) : Type 0 where
+  pub end : now.left ≡ Some []
+  pub short : length bytes ≤ limit
+
+abbrev pub IsWhole : Option (List ℕ) → InputSeen → Type 0
+IsWhole told now = IfSome told (λ bytes. ReadOn bytes now)
+
+-- the job that words ask for was read to its end, and isn't too long
+abbrev pub WasRead : List (List ℕ) → InputSeen → InputSeen → Type 0
+WasRead words input now = IsWhole (job_bytes words input) now
+
+-- a text is the answer to the bytes of a job, where they are told
+abbrev pub IsAnswer : List ℕ → Option (List ℕ) → Type 0
+IsAnswer text told = IfSome told (λ bytes. Answered bytes text)
+
+-- the answer to bytes was written
+pub record RanOn (bytes : List ℕ) (out now : OutputSeen) : Type 0 where
   pub text : List ℕ
-  pub answered : Answered input text
-  pub wrote : Writes text written now
+  pub answered : Answered bytes text
+  pub wrote : Writes text out now
 
-abbrev pub IsAnswer : List ℕ → Option (List ℕ) → Option (List ℕ) → Type 0
-IsAnswer text left rest = IfSome left (λ input. ReadOn input rest text)
+abbrev pub Ran : Option (List ℕ) → OutputSeen → OutputSeen → Type 0
+Ran told out now = IfSome told (λ bytes. RanOn bytes out now)
 
-abbrev pub Ran : Option (List ℕ) → Option (List ℕ) → Option (List ℕ) → Option (List ℕ) → Type 0
-Ran left rest written now = IfSome left (λ input. RanOn input rest written now)
-
--- the same, but only a front of the answer was written
-pub record RanInPartOn (input : List ℕ) (written now : Option (List ℕ)) : Type 0 where
-  pub short : length input ≤ limit
+-- a front of the answer was written, to bytes of which a job may have so many
+pub record RanInPartOn (bytes : List ℕ) (out now : OutputSeen) : Type 0 where
+  pub short : length bytes ≤ limit
   pub text : List ℕ
-  pub answered : Answered input text
-  pub wrote : WritesFront text written now
+  pub answered : Answered bytes text
+  pub wrote : WritesFront text out now
 
-abbrev pub RanInPart : Option (List ℕ) → Option (List ℕ) → Option (List ℕ) → Type 0
-RanInPart left written now = IfSome left (λ input. RanInPartOn input written now)
+abbrev pub RanInPart : Option (List ℕ) → OutputSeen → OutputSeen → Type 0
+RanInPart told out now = IfSome told (λ bytes. RanInPartOn bytes out now)
+
+-- what was asked for was written: the answer to the job, or a text
+abbrev pub WroteFor : Option Request → InputSeen → OutputSeen → OutputSeen → Type 0
+WroteFor (Some (Run name)) input out now = Ran (bytes_at name input) out now
+WroteFor (Some Help) input out now = Writes help_text out now
+WroteFor (Some Version) input out now = Writes version_text out now
+WroteFor None input out now = ⊥
+
+abbrev pub Wrote : List (List ℕ) → InputSeen → OutputSeen → OutputSeen → Type 0
+Wrote words input out now = WroteFor (request words) input out now
+
+-- a front of it was written
+abbrev pub WroteFrontFor : Option Request → InputSeen → OutputSeen → OutputSeen → Type 0
+WroteFrontFor (Some (Run name)) input out now = RanInPart (bytes_at name input) out now
+WroteFrontFor (Some Help) input out now = WritesFront help_text out now
+WroteFrontFor (Some Version) input out now = WritesFront version_text out now
+WroteFrontFor None input out now = ⊥
+
+abbrev pub WroteFront : List (List ℕ) → InputSeen → OutputSeen → OutputSeen → Type 0
+WroteFront words input out now = WroteFrontFor (request words) input out now
 
 -- there are more bytes than a job may have, and more than that were taken
-pub record TooLong (left : Option (List ℕ)) (taken taken_now : ℕ) : Type 0 where
-  pub told : IfSome left (λ input. limit < length input)
-  pub counted : RisesAbove limit taken taken_now
+pub record IsLongOn (told : Option (List ℕ)) (input now : InputSeen) : Type 0 where
+  pub many : IfSome told IsTooMany
+  pub counted : CountedAbove limit input now
 
--- the input is short enough, and no value is read of it
-pub record NotJsonOn (input : List ℕ) : Type 0 where
-  pub short : length input ≤ limit
-  pub cause : ReadsNothing input
+abbrev pub IsTooLong : List (List ℕ) → InputSeen → InputSeen → Type 0
+IsTooLong words input now = IsLongOn (job_bytes words input) input now
 
--- the input is short enough, and the value that is read of it spells no first job
-pub record UnbuiltOn (input : List ℕ) : Type 0 where
-  pub short : length input ≤ limit
-  pub cause : NotFirstJob input
-
--- a job is asked for, its bytes are told and within the limit, and they spell a first job
-pub record IsGood (words : List (List ℕ)) (job_bytes : Option (List ℕ)) : Type 0 where
-  pub known : IsSome (request words)
-  pub input : List ℕ
-  pub told : job_bytes ≡ Some input
-  pub short : length input ≤ limit
-  pub job : FirstJob input
+-- bytes within the limit that spell a first job
+pub record GoodJob (bytes : List ℕ) : Type 0 where
+  pub short : length bytes ≤ limit
+  pub job : FirstJob bytes

@@ -1,7 +1,5 @@
 -- commands
 pub mod Words
--- texts that are told where no job is asked for
-pub mod Told
 -- statuses and their lines
 pub mod Status
 -- the answer to a job

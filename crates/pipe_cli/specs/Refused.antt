@@ -1,8 +1,10 @@
 -- Why a run ends with a refusal.
-use Rattle.std.specs.Prelude.{ℕ, ◌≡◌, List, Option, None, IfSome, IsSome}
-use Rattle.pipe_frame.specs.Counts.{Rises}
-use Rattle.pipe_cli.specs.Headline.{NotJsonOn, RanInPart, TooLong, UnbuiltOn}
-use Rattle.pipe_cli.specs.Words.{request}
+use Rattle.std.specs.Prelude.{ℕ, ◌≡◌, ◌≤◌, List, length, Option, None, IfSome, IsSome}
+use Rattle.pipe_job.specs.Reading.{ReadsNoJob, ReadsNothing}
+use Rattle.pipe_outside.specs.Outside.{InputSeen, OutputSeen, ReadFails, WriteFails}
+use Rattle.pipe_cli.specs.Answer.{OtherJob}
+use Rattle.pipe_cli.specs.Headline.{IsLongOn, RanInPart, WroteFront, limit}
+use Rattle.pipe_cli.specs.Words.{job_bytes, request}
 use Rattle.pipe_cli.specs.declared.status.Refusal.{Refusal}
 use Rattle.pipe_cli.specs.declared.status.Refusal.TheVariants as refusal
 
@@ -12,36 +14,74 @@ OfWords refusal.BadWords words = request words ≡ None
 OfWords refusal.ReadFault words = IsSome (request words)
 OfWords refusal.TooLong words = IsSome (request words)
 OfWords refusal.NotJson words = IsSome (request words)
+OfWords refusal.NotJob words = IsSome (request words)
 OfWords refusal.Unbuilt words = IsSome (request words)
 OfWords refusal.WriteFault words = IsSome (request words)
 OfWords refusal.Memory words = IsSome (request words)
 
 -- what a refusal says of reading
-abbrev pub OfReading : Refusal → Option (List ℕ) → ℕ → ℕ → ℕ → ℕ → Type 0
-OfReading refusal.ReadFault left taken taken_now faults faults_now = Rises faults faults_now
-OfReading refusal.TooLong left taken taken_now faults faults_now = TooLong left taken taken_now
-OfReading refusal.BadWords left taken taken_now faults faults_now = Unit {0}
-OfReading refusal.NotJson left taken taken_now faults faults_now = Unit {0}
-OfReading refusal.Unbuilt left taken taken_now faults faults_now = Unit {0}
-OfReading refusal.WriteFault left taken taken_now faults faults_now = Unit {0}
-OfReading refusal.Memory left taken taken_now faults faults_now = Unit {0}
+abbrev pub OfReading : Refusal → Option (List ℕ) → InputSeen → InputSeen → Type 0
+OfReading refusal.ReadFault told input now = ReadFails input now
+OfReading refusal.TooLong told input now = IsLongOn told input now
+OfReading refusal.BadWords told input now = Unit {0}
+OfReading refusal.NotJson told input now = Unit {0}
+OfReading refusal.NotJob told input now = Unit {0}
+OfReading refusal.Unbuilt told input now = Unit {0}
+OfReading refusal.WriteFault told input now = Unit {0}
+OfReading refusal.Memory told input now = Unit {0}
+
+-- a job may have so many bytes, and no value is read of them
+pub record NotJsonOn (bytes : List ℕ) : Type 0 where
+  pub short : length bytes ≤ limit
+  pub cause : ReadsNothing bytes
+
+-- a job may have so many bytes, and the value that is read of them spells none
+pub record NotJobOn (bytes : List ℕ) : Type 0 where
+  pub short : length bytes ≤ limit
+  pub cause : ReadsNoJob bytes
+
+-- a job may have so many bytes, and the value that is read of them spells one that can't be run so far
+pub record UnbuiltOn (bytes : List ℕ) : Type 0 where
+  pub short : length bytes ≤ limit
+  pub cause : OtherJob bytes
 
 -- what a refusal says of the text of the job
 abbrev pub OfText : Refusal → Option (List ℕ) → Type 0
-OfText refusal.NotJson left = IfSome left NotJsonOn
-OfText refusal.Unbuilt left = IfSome left UnbuiltOn
-OfText refusal.BadWords left = Unit {0}
-OfText refusal.ReadFault left = Unit {0}
-OfText refusal.TooLong left = Unit {0}
-OfText refusal.WriteFault left = Unit {0}
-OfText refusal.Memory left = Unit {0}
+OfText refusal.NotJson told = IfSome told NotJsonOn
+OfText refusal.NotJob told = IfSome told NotJobOn
+OfText refusal.Unbuilt told = IfSome told UnbuiltOn
+OfText refusal.BadWords told = Unit {0}
+OfText refusal.ReadFault told = Unit {0}
+OfText refusal.TooLong told = Unit {0}
+OfText refusal.WriteFault told = Unit {0}
+OfText refusal.Memory told = Unit {0}
 
--- what a refusal says of the output
-abbrev pub OfWriting : Refusal → Option (List ℕ) → Option (List ℕ) → Option (List ℕ) → ℕ → ℕ → Type 0
-OfWriting refusal.WriteFault left written now faults faults_now = Rises faults faults_now × RanInPart left written now
-OfWriting refusal.BadWords left written now faults faults_now = now ≡ written
-OfWriting refusal.ReadFault left written now faults faults_now = now ≡ written
-OfWriting refusal.TooLong left written now faults faults_now = now ≡ written
-OfWriting refusal.NotJson left written now faults faults_now = now ≡ written
-OfWriting refusal.Unbuilt left written now faults faults_now = now ≡ written
-OfWriting refusal.Memory left written now faults faults_now = now ≡ written
+-- what a refusal says of the output, of which some front may be written
+abbrev pub OfWriting : Refusal → Type 0 → OutputSeen → OutputSeen → Type 0
+OfWriting refusal.WriteFault front out now = WriteFails out now × front
+OfWriting refusal.BadWords front out now = now.written ≡ out.written
+OfWriting refusal.ReadFault front out now = now.written ≡ out.written
+OfWriting refusal.TooLong front out now = now.written ≡ out.written
+OfWriting refusal.NotJson front out now = now.written ≡ out.written
+OfWriting refusal.NotJob front out now = now.written ≡ out.written
+OfWriting refusal.Unbuilt front out now = now.written ≡ out.written
+OfWriting refusal.Memory front out now = now.written ≡ out.written
+
+-- ---- the same of the job that is left
+
+abbrev pub ReadingLeft : Refusal → InputSeen → InputSeen → Type 0
+ReadingLeft r input now = OfReading r input.left input now
+
+abbrev pub WritingLeft : Refusal → InputSeen → OutputSeen → OutputSeen → Type 0
+WritingLeft r input out now = OfWriting r (RanInPart input.left out now) out now
+
+-- ---- the same of the job that words ask for
+
+abbrev pub ReadingOf : Refusal → List (List ℕ) → InputSeen → InputSeen → Type 0
+ReadingOf r words input now = OfReading r (job_bytes words input) input now
+
+abbrev pub TextOf : Refusal → List (List ℕ) → InputSeen → Type 0
+TextOf r words input = OfText r (job_bytes words input)
+
+abbrev pub WritingOf : Refusal → List (List ℕ) → InputSeen → OutputSeen → OutputSeen → Type 0
+WritingOf r words input out now = OfWriting r (WroteFront words input out now) out now

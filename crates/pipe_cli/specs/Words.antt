@@ -1,7 +1,8 @@
 -- Commands.
-use Rattle.std.specs.Prelude.{ℕ, List, [], ◌∷◌, codes, Option, Some, None, if◌then◌else◌}
+use Rattle.std.specs.Prelude.{ℕ, ◌≡◌, List, [], ◌∷◌, codes, Option, Some, None, IfSome, IsSomeAnd, ⊤, if◌then◌else◌}
 use Rattle.std.specs.Option.{option_copied}
 use Rattle.std.specs.Str.{bytes_eq}
+use Rattle.pipe_outside.specs.Outside.{InputSeen}
 use Rattle.pipe_cli.specs.declared.words.Command.{Command}
 use Rattle.pipe_cli.specs.declared.words.Command.TheVariants as command
 
@@ -37,19 +38,42 @@ request (word ∷ name ∷ []) = named_request word name
 request (word ∷ name ∷ more ∷ words) = None
 
 -- what stands on standard input, or under a name
-abbrev pub bytes_at : Option (List ℕ) → Option (List ℕ) → (List ℕ → Option (List ℕ)) → Option (List ℕ)
-bytes_at None left named = left
-bytes_at (Some name) left named = named name
+abbrev pub bytes_at : Option (List ℕ) → InputSeen → Option (List ℕ)
+bytes_at None input = input.left
+bytes_at (Some name) input = input.named name
+
+-- what stands there is what is left now, where it is told
+abbrev pub Opened : Option (List ℕ) → InputSeen → InputSeen → Type 0
+Opened name input now = IfSome (bytes_at name input) (λ bytes. now.left ≡ Some bytes)
 
 -- the bytes of the job that is asked for, where they are told
-abbrev pub job_bytes : Option Request → Option (List ℕ) → (List ℕ → Option (List ℕ)) → Option (List ℕ)
-job_bytes (Some (Run name)) left named = bytes_at name left named
-job_bytes (Some Help) left named = None
-job_bytes (Some Version) left named = None
-job_bytes None left named = None
+abbrev pub job_asked : Option Request → InputSeen → Option (List ℕ)
+job_asked (Some (Run name)) input = bytes_at name input
+job_asked (Some Help) input = None
+job_asked (Some Version) input = None
+job_asked None input = None
+
+-- the bytes of the job that words ask for, where they are told
+abbrev pub job_bytes : List (List ℕ) → InputSeen → Option (List ℕ)
+job_bytes words input = job_asked (request words) input
+
+-- a fact of the bytes of the job that words ask for, where they are told
+abbrev pub IfJob : List (List ℕ) → InputSeen → (List ℕ → Type 0) → Type 0
+IfJob words input fact = IfSome (job_bytes words input) fact
+
+-- words ask for a job whose bytes are told, and of which this is a fact
+abbrev pub IsJob : List (List ℕ) → InputSeen → (List ℕ → Type 0) → Type 0
+IsJob words input fact = IsSomeAnd (job_bytes words input) fact
+
+-- no job is asked for, but a text
+abbrev pub IsText : Option Request → Type 0
+IsText (Some (Run name)) = ⊥
+IsText (Some Help) = ⊤
+IsText (Some Version) = ⊤
+IsText None = ⊥
 
 abbrev pub help_text : List ℕ
-help_text = codes "liskevar: runs jobs on tables and writes their rows.\n\nliskevar run        runs the job on standard input\nliskevar run FILE   runs the job in a file\nliskevar --help     writes this text\nliskevar --version  writes the name and the version\n\nA job is a JSON object; docs/FORMATS.md gives its form. Its rows are\nwritten to standard output, one JSON array a line, after a line of the\ncolumn names. A refusal is a line on standard error and a status:\n\n 0  done\n 1  the words are no command\n 2  reading failed\n 3  the job has more than 33,554,432 bytes\n 4  the job is not JSON\n 9  writing failed\n10  out of memory\n11  the job is of no form that can be run so far\n"
+help_text = codes "liskevar: runs jobs on tables and writes their rows.\n\nliskevar run        runs the job on standard input\nliskevar run FILE   runs the job in a file\nliskevar --help     writes this text\nliskevar --version  writes the name and the version\n\nA job is a JSON object; docs/FORMATS.md gives its form. Its rows are\nwritten to standard output, one JSON array a line, after a line of the\ncolumn names. A refusal is a line on standard error and a status:\n\n 0  done\n 1  the words are no command\n 2  reading failed\n 3  the job has more than 33,554,432 bytes\n 4  the text is not JSON\n 5  the value is no job\n 9  writing failed\n10  out of memory\n11  the job is of no form that can be run so far\n"
 
 abbrev pub version_text : List ℕ
 version_text = codes "liskevar 0.1.0\n"

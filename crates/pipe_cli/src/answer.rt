@@ -41,7 +41,7 @@ fn job_in(alloc: Global, bytes: Vec<u8>) -> Result<Job, Refusal>
     let value = value_in(alloc, bytes)?;
     match job_of(alloc, &value) {
         Ok(Some(job)) => Ok(job),
-        Ok(None) => Err(Refusal::Unbuilt),
+        Ok(None) => Err(Refusal::NotJob),
         Err(_) => Err(Refusal::Memory),
     }
 }

@@ -16,7 +16,9 @@ pub enum Refusal {
     TooLong,
     /// The input is not JSON.
     NotJson,
-    /// The input is no job of the form that is built so far.
+    /// The input spells no job.
+    NotJob,
+    /// The job is of no form that is built so far.
     Unbuilt,
     /// A call on the output failed.
     WriteFault,
@@ -45,6 +47,7 @@ impl Refusal {
             Refusal::ReadFault => 2,
             Refusal::TooLong => 3,
             Refusal::NotJson => 4,
+            Refusal::NotJob => 5,
             Refusal::WriteFault => 9,
             Refusal::Memory => 10,
             Refusal::Unbuilt => 11,
@@ -60,6 +63,7 @@ impl Refusal {
             Refusal::ReadFault => "error 2: read fault\n",
             Refusal::TooLong => "error 3: job too long\n",
             Refusal::NotJson => "error 4: not JSON\n",
+            Refusal::NotJob => "error 5: not a job\n",
             Refusal::WriteFault => "error 9: write fault\n",
             Refusal::Memory => "error 10: out of memory\n",
             Refusal::Unbuilt => "error 11: unbuilt\n",

@@ -36,7 +36,7 @@ pub fn command_of(words: &[Text]) -> Option<Command<'_>>
 pub(crate) fn help() -> &'static str
     ensures { result.now ≡ help_text }
 {
-    "liskevar: runs jobs on tables and writes their rows.\n\nliskevar run        runs the job on standard input\nliskevar run FILE   runs the job in a file\nliskevar --help     writes this text\nliskevar --version  writes the name and the version\n\nA job is a JSON object; docs/FORMATS.md gives its form. Its rows are\nwritten to standard output, one JSON array a line, after a line of the\ncolumn names. A refusal is a line on standard error and a status:\n\n 0  done\n 1  the words are no command\n 2  reading failed\n 3  the job has more than 33,554,432 bytes\n 4  the job is not JSON\n 9  writing failed\n10  out of memory\n11  the job is of no form that can be run so far\n"
+    "liskevar: runs jobs on tables and writes their rows.\n\nliskevar run        runs the job on standard input\nliskevar run FILE   runs the job in a file\nliskevar --help     writes this text\nliskevar --version  writes the name and the version\n\nA job is a JSON object; docs/FORMATS.md gives its form. Its rows are\nwritten to standard output, one JSON array a line, after a line of the\ncolumn names. A refusal is a line on standard error and a status:\n\n 0  done\n 1  the words are no command\n 2  reading failed\n 3  the job has more than 33,554,432 bytes\n 4  the text is not JSON\n 5  the value is no job\n 9  writing failed\n10  out of memory\n11  the job is of no form that can be run so far\n"
 }
 
 /// The text that `--version` writes.

@@ -1,8 +1,9 @@
 -- Readers and writers in memory.
-use Rattle.std.specs.Prelude.{ℕ, ◌+◌, ◌==◌, min, Bool, List, [], ◌∷◌, slice_index_or, Option, Some, None, if◌then◌else◌}
+use Rattle.std.specs.Prelude.{ℕ, ◌+◌, ◌==◌, min, Bool, List, [], ◌∷◌, slice_index_or, unwrap_or, Option, Some, None, if◌then◌else◌}
 use Rattle.std.specs.List.{list_any}
 use Rattle.std.specs.Str.{bytes_eq}
 use Rattle.pipe_frame.specs.Counts.{last_count}
+use Rattle.pipe_outside.specs.Outside.{InputSeen, OutputSeen}
 use Rattle.pipe_outside.specs.declared.shelf.NamedBytes.{NamedBytes}
 
 -- the bytes of the first file of this name
@@ -43,6 +44,14 @@ pub record ScriptedReader : Type 0 where
   pub taken : ℕ
   pub faults : ℕ
 
+-- what is known of such a reader
+abbrev pub scripted_input : ScriptedReader → InputSeen
+scripted_input r = record { left = Some r.left; named = bytes_named r.files; taken = r.taken; faults = r.faults }
+
+-- what is known of a reader that never fails: a name that no file has stands for no byte
+abbrev pub sure_input : List ℕ → List NamedBytes → ℕ → InputSeen
+sure_input left files taken = record { left = Some left; named = λ name. Some (unwrap_or (bytes_named files name) []); taken = taken; faults = 0 }
+
 -- a writer alike
 pub record ScriptedWriter : Type 0 where
   pub written : List ℕ
@@ -52,3 +61,7 @@ pub record ScriptedWriter : Type 0 where
   -- how many calls were made, how many failed
   pub made : ℕ
   pub faults : ℕ
+
+-- what is known of such a writer
+abbrev pub scripted_output : ScriptedWriter → OutputSeen
+scripted_output w = record { written = Some w.written; faults = w.faults }

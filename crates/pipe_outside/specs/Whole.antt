@@ -1,22 +1,30 @@
 -- Texts that are read and written whole.
-use Rattle.std.specs.Prelude.{ℕ, ◌<◌, List, length, Option}
-use Rattle.pipe_frame.specs.Counts.{Counts}
-use Rattle.pipe_outside.specs.Outside.{HasRead, Writes}
+use Rattle.std.specs.Prelude.{ℕ, ◌≡◌, ◌<◌, List, length, Option, IfSome}
+use Rattle.pipe_outside.specs.Outside.{Appends, Counted, HasRead, InputSeen, OutputSeen}
+
+-- this text is all that was left, where it is told
+abbrev pub IsAll : List ℕ → InputSeen → Type 0
+IsAll text input = IfSome input.left (λ bytes. text ≡ bytes)
+
+-- more than a limit was left, where it is told
+abbrev pub IsLong : ℕ → InputSeen → Type 0
+IsLong limit input = IfSome input.left (λ bytes. limit < length bytes)
+
+-- this text was taken from what was left
+abbrev pub Reads : List ℕ → InputSeen → InputSeen → Type 0
+Reads text input now = HasRead text input.left now.left
 
 -- this text was taken from what was left, and the bytes were counted
-pub record ReadAndCounted (text : List ℕ) (left now : Option (List ℕ)) (taken taken_now : ℕ) : Type 0 where
-  pub reads : HasRead text left now
-  pub counts : Counts (length text) taken taken_now
+pub record ReadAndCounted (text : List ℕ) (input now : InputSeen) : Type 0 where
+  pub reads : Reads text input now
+  pub counts : Counted (length text) input now
 
 -- what was read before, and then more, is what was read
-abbrev pub ReadsOn : List ℕ → List ℕ → Option (List ℕ) → Option (List ℕ) → Type 0
-ReadsOn before after left now = (first : Option (List ℕ)) → HasRead before first left → HasRead after first now
+abbrev pub ReadsOn : List ℕ → List ℕ → InputSeen → InputSeen → Type 0
+ReadsOn before after input now =
+    (first : Option (List ℕ)) → HasRead before first input.left → HasRead after first now.left
 
 -- what was written before, and then more, is what was written
-abbrev pub WritesOn : List ℕ → List ℕ → Option (List ℕ) → Option (List ℕ) → Type 0
-WritesOn before after written now = (first : Option (List ℕ)) → Writes before first written → Writes after first now
-
--- more than the limit was taken
-pub record IsTooLong (limit : ℕ) (text : List ℕ) (left now : Option (List ℕ)) (taken taken_now : ℕ) : Type 0 where
-  pub reading : ReadAndCounted text left now taken taken_now
-  pub long : limit < length text
+abbrev pub WritesOn : List ℕ → List ℕ → OutputSeen → OutputSeen → Type 0
+WritesOn before after out now =
+    (first : Option (List ℕ)) → Appends before first out.written → Appends after first now.written

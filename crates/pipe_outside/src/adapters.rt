@@ -1,7 +1,8 @@
 //! The trusted edge: readers and writers over the system's streams and files, which tell nothing of content.
 
-ghost use Rattle.std.specs.Prelude.{◌≡◌, ◌≤◌, None};
+ghost use Rattle.std.specs.Prelude.{◌≡◌, ◌≤◌};
 ghost use Rattle.pipe_frame.specs.Counts.{Rises};
+ghost use Rattle.pipe_outside.specs.Outside.{untold_input, untold_output};
 
 use crate::outside::{JobReader, ReadFailed, RowWriter, WriteFailed};
 use std::fs;
@@ -21,8 +22,8 @@ pub struct SystemReader<'a, F: Files, S> {
 impl<'a, F: Files, S: Read> SystemReader<'a, F, S> {
     /// A reader over this standard input and these files.
     pub fn new(files: &'a F, standard: S) -> SystemReader<'a, F, S>
-        ensures taken { ⟦<SystemReader<'a, F, S> as JobReader>⟧.taken result ≡ 0 }
-        ensures faults { ⟦<SystemReader<'a, F, S> as JobReader>⟧.faults result ≡ 0 }
+        ensures taken { (⟦<SystemReader<'a, F, S> as JobReader>⟧.seen result).taken ≡ 0 }
+        ensures faults { (⟦<SystemReader<'a, F, S> as JobReader>⟧.seen result).faults ≡ 0 }
     {
         SystemReader {
             files,
@@ -45,13 +46,7 @@ impl<'a, F: Files, S: Read> SystemReader<'a, F, S> {
 }
 
 impl<'a, F: Files, S: Read> JobReader for SystemReader<'a, F, S> {
-    ghost left = { λ _. None };
-
-    ghost named = { λ _ _. None };
-
-    ghost taken = { λ r. r.taken };
-
-    ghost faults = { λ r. r.failed };
+    ghost seen = { λ r. untold_input r.taken r.failed };
 
     /// A name that is no text, or that no file has which can be read, fails.
     fn open_named(&mut self, name: &[u8]) -> Result<(), ReadFailed> {
@@ -92,16 +87,14 @@ pub struct StreamWriter<S> {
 impl<S: Write> StreamWriter<S> {
     /// A writer over this stream.
     pub fn new(stream: S) -> StreamWriter<S>
-        ensures { ⟦<StreamWriter<S> as RowWriter>⟧.faults result ≡ 0 }
+        ensures { (⟦<StreamWriter<S> as RowWriter>⟧.seen result).faults ≡ 0 }
     {
         StreamWriter { stream, failed: 0 }
     }
 }
 
 impl<S: Write> RowWriter for StreamWriter<S> {
-    ghost written = { λ _. None };
-
-    ghost faults = { λ w. w.failed };
+    ghost seen = { λ w. untold_output w.failed };
 
     /// A stream that takes nothing of a piece fails.
     fn write(&mut self, piece: &[u8]) -> Result<usize, WriteFailed> {

@@ -3,7 +3,7 @@
 ghost use Rattle.std.specs.Prelude.{◌≡◌, ◌≤◌, ◌<◌, ◌||◌, Some, length, IfOk, IfSome, OnOk, OnErr, is_err, is_none};
 ghost use Rattle.pipe_frame.specs.Counts.{Counts, Rises};
 ghost use Rattle.pipe_outside.specs.Outside.{Took};
-ghost use Rattle.pipe_outside.specs.Memory.{bytes_named, call_number, is_listed};
+ghost use Rattle.pipe_outside.specs.Memory.{bytes_named, call_number, is_listed, scripted_input};
 
 use crate::calls::Calls;
 use crate::outside::{JobReader, ReadFailed};
@@ -51,13 +51,7 @@ impl MemReader {
 }
 
 impl JobReader for MemReader {
-    ghost left = { λ r. Some r.left };
-
-    ghost named = { λ r. bytes_named r.files };
-
-    ghost taken = { λ r. r.taken };
-
-    ghost faults = { λ r. r.faults };
+    ghost seen = { λ r. scripted_input r };
 
     fn open_named(&mut self, name: &[u8]) -> Result<(), ReadFailed>
         ensures number { self.new.made ≡ call_number self.old.made }

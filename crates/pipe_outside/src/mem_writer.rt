@@ -2,7 +2,7 @@
 
 ghost use Rattle.std.specs.Prelude.{◌≡◌, ◌≤◌, ◌<◌, ◌++◌, [], Some, take, length, IfOk, OnErr, IsTrue, is_err};
 ghost use Rattle.pipe_frame.specs.Counts.{Rises};
-ghost use Rattle.pipe_outside.specs.Memory.{call_number, is_listed};
+ghost use Rattle.pipe_outside.specs.Memory.{call_number, is_listed, scripted_output};
 
 use crate::calls::Calls;
 use crate::outside::{RowWriter, WriteFailed};
@@ -55,9 +55,7 @@ impl MemWriter {
 }
 
 impl RowWriter for MemWriter {
-    ghost written = { λ w. Some w.written };
-
-    ghost faults = { λ w. w.faults };
+    ghost seen = { λ w. scripted_output w };
 
     fn write(&mut self, piece: &[u8]) -> Result<usize, WriteFailed>
         requires { 0 < length piece.now }

@@ -1,7 +1,7 @@
 //! A reader in memory that never fails.
 
-ghost use Rattle.std.specs.Prelude.{◌≡◌, ℕ, List as Seq, [], Some, unwrap_or};
-ghost use Rattle.pipe_outside.specs.Memory.{bytes_named};
+ghost use Rattle.std.specs.Prelude.{◌≡◌};
+ghost use Rattle.pipe_outside.specs.Memory.{sure_input};
 ghost use Rattle.pipe_outside.specs.Shelves.{left_of};
 
 use crate::outside::{JobReader, ReadFailed};
@@ -18,10 +18,7 @@ pub struct SureReader {
 impl SureReader {
     /// A reader of standard input or one of these files. A name that no file has stands for no byte.
     pub fn new(standard: Bytes, files: List<NamedBytes>) -> SureReader
-        ensures left { ⟦<SureReader as JobReader>⟧.left result ≡ Some standard }
-        ensures named { (name : Seq ℕ) → ⟦<SureReader as JobReader>⟧.named result name ≡ Some (unwrap_or (bytes_named files name) []) }
-        ensures taken { ⟦<SureReader as JobReader>⟧.taken result ≡ 0 }
-        ensures faults { ⟦<SureReader as JobReader>⟧.faults result ≡ 0 }
+        ensures { ⟦<SureReader as JobReader>⟧.seen result ≡ sure_input standard files 0 }
     {
         SureReader {
             shelf: Shelf::new(standard, files),
@@ -31,13 +28,7 @@ impl SureReader {
 }
 
 impl JobReader for SureReader {
-    ghost left = { λ r. Some (left_of r.shelf) };
-
-    ghost named = { λ r name. Some (unwrap_or (bytes_named r.shelf.files name) []) };
-
-    ghost taken = { λ r. r.taken };
-
-    ghost faults = { λ _. 0 };
+    ghost seen = { λ r. sure_input (left_of r.shelf) r.shelf.files r.taken };
 
     fn open_named(&mut self, name: &[u8]) -> Result<(), ReadFailed> {
         if !self.shelf.open(name) {

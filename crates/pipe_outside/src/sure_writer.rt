@@ -2,7 +2,7 @@
 
 ghost use Rattle.std.specs.Prelude.{◌≡◌, ◌<◌, ◌+◌, [], length, Some, IfOk, option_map, nat_le};
 ghost use Rattle.pipe_outside.specs.Outside.{Writes};
-ghost use Rattle.pipe_outside.specs.Told.{told_after};
+ghost use Rattle.pipe_outside.specs.Told.{sure_output, told_after};
 
 use crate::outside::{RowWriter, WriteFailed};
 use std::alloc::{AllocError, Global};
@@ -60,16 +60,14 @@ impl SureWriter {
 }
 
 impl RowWriter for SureWriter {
-    ghost written = { λ w. w.told };
-
-    ghost faults = { λ _. 0 };
+    ghost seen = { λ w. sure_output w };
 
     /// A piece is taken whole. One that doesn't fit ends what is told.
     fn write(&mut self, piece: &[u8]) -> Result<usize, WriteFailed>
         requires { 0 < length piece.now }
         ensures sure { result ≡ Ok (length piece.now) }
         ensures told { self.new ≡ told_after self.old piece.now }
-        ensures writes { Writes piece.now self.old.told self.new.told }
+        ensures writes { Writes piece.now (sure_output self.old) (sure_output self.new) }
     {
         self.is_told = self.is_told
             && fits(self.room, self.bytes.len(), piece.len())

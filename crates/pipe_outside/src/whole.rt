@@ -1,9 +1,8 @@
 //! Whole texts: a job is read to its end, and a text is written whole.
 
-ghost use Rattle.std.specs.Prelude.{◌≡◌, ◌≤◌, ◌<◌, ◌+◌, ℕ, [], ◌++◌, List, Option, length, take, drop, IfOk, IfErr, IfSome, IsErrOf, OnOk, OnErr};
-ghost use Rattle.pipe_frame.specs.Counts.{Counts, Rises};
-ghost use Rattle.pipe_outside.specs.Whole.{IsTooLong, ReadsOn, WritesOn};
-ghost use Rattle.pipe_outside.specs.Outside.{AtEnd, HasRead, RisesAbove, Writes, WritesFront};
+ghost use Rattle.std.specs.Prelude.{◌≡◌, ◌≤◌, ◌<◌, ◌+◌, [], ◌++◌, length, take, drop, IfOk, IfErr, IsErrOf, OnOk, OnErr};
+ghost use Rattle.pipe_outside.specs.Whole.{IsAll, IsLong, Reads, ReadsOn, WritesOn};
+ghost use Rattle.pipe_outside.specs.Outside.{AtEnd, Counted, CountedAbove, ReadFails, WriteFails, Writes, WritesFront};
 
 use crate::outside::{JobReader, ReadFailed, RowWriter, WriteFailed};
 use std::alloc::Global;
@@ -45,12 +44,12 @@ fn read_piece<R: JobReader>(
 ) -> Result<usize, WholeError>
     requires { 0 < length buffer.old }
     ensures longer { IfOk result (λ n. length text.new.items ≡ length text.old.items + n) }
-    ensures read { IfOk result (λ n. ReadsOn text.old.items text.new.items (R.left input.old) (R.left input.new)) }
-    ensures end { IfOk result (λ n. n ≡ 0 → AtEnd (R.left input.old) (R.left input.new)) }
-    ensures counts { IfOk result (λ n. Counts n (R.taken input.old) (R.taken input.new)) }
-    ensures failed { IsErrOf result WholeError.Failed → Rises (R.faults input.old) (R.faults input.new) }
+    ensures read { IfOk result (λ n. ReadsOn text.old.items text.new.items (R.seen input.old) (R.seen input.new)) }
+    ensures end { IfOk result (λ n. n ≡ 0 → AtEnd (R.seen input.old) (R.seen input.new)) }
+    ensures counts { IfOk result (λ n. Counted n (R.seen input.old) (R.seen input.new)) }
+    ensures failed { IsErrOf result WholeError.Failed → ReadFails (R.seen input.old) (R.seen input.new) }
     ensures never_long { IsErrOf result WholeError.TooLong → ⊥ }
-    ensures faults { R.faults input.old ≤ R.faults input.new }
+    ensures faults { (R.seen input.old).faults ≤ (R.seen input.new).faults }
 {
     match input.read(buffer) {
         Ok(n) => match text.extend_from_slice(&buffer[..n]) {
@@ -62,7 +61,7 @@ fn read_piece<R: JobReader>(
 }
 
 /// Reads all that is left, in pieces as long as the buffer, unless there is too much.
-#[tactic(auto, using(crate::proofs::WholeLemmas::rises_later, crate::proofs::WholeLemmas::counts_more))]
+#[tactic(auto, using(crate::proofs::WholeLemmas::rises_later, crate::proofs::WholeLemmas::counts_more, crate::proofs::WholeLemmas::long_text, crate::proofs::WholeLemmas::many_taken))]
 fn read_pieces<R: JobReader>(
     input: &mut R,
     buffer: &mut [u8],
@@ -70,13 +69,14 @@ fn read_pieces<R: JobReader>(
 ) -> Result<(), WholeError>
     requires room { 0 < length buffer.old }
     requires empty { text.old.items ≡ [] }
-    ensures read { OnOk result (HasRead text.new.items (R.left input.old) (R.left input.new)) }
-    ensures end { OnOk result (AtEnd (R.left input.old) (R.left input.new)) }
+    ensures read { OnOk result (Reads text.new.items (R.seen input.old) (R.seen input.new)) }
+    ensures end { OnOk result (AtEnd (R.seen input.old) (R.seen input.new)) }
     ensures short { OnOk result (length text.new.items ≤ LIMIT) }
-    ensures counts { OnOk result (Counts (length text.new.items) (R.taken input.old) (R.taken input.new)) }
-    ensures long { IsErrOf result WholeError.TooLong → IsTooLong LIMIT text.new.items (R.left input.old) (R.left input.new) (R.taken input.old) (R.taken input.new) }
-    ensures failed { IsErrOf result WholeError.Failed → Rises (R.faults input.old) (R.faults input.new) }
-    ensures faults { R.faults input.old ≤ R.faults input.new }
+    ensures counts { OnOk result (Counted (length text.new.items) (R.seen input.old) (R.seen input.new)) }
+    ensures long { IsErrOf result WholeError.TooLong → IsLong LIMIT (R.seen input.old) }
+    ensures many { IsErrOf result WholeError.TooLong → CountedAbove LIMIT (R.seen input.old) (R.seen input.new) }
+    ensures failed { IsErrOf result WholeError.Failed → ReadFails (R.seen input.old) (R.seen input.new) }
+    ensures faults { (R.seen input.old).faults ≤ (R.seen input.new).faults }
 {
     while text.len() <= LIMIT {
         if read_piece(input, buffer, text)? == 0 {
@@ -89,19 +89,19 @@ fn read_pieces<R: JobReader>(
 /// Reads all that is left, unless there are more bytes than a job may have.
 ///
 /// Where a reader tells its bytes, too long is said exactly where there are too many.
-#[tactic(auto, using(crate::proofs::WholeLemmas::all_read, crate::proofs::WholeLemmas::long_text, crate::proofs::WholeLemmas::many_taken))]
+#[tactic(auto, using(crate::proofs::WholeLemmas::all_read))]
 pub fn read_whole<R: JobReader>(alloc: Global, input: &mut R) -> Result<Vec<u8>, WholeError>
     // What was read.
-    ensures whole { IfOk result (λ text. IfSome (R.left input.old) (λ bytes. text.items ≡ bytes)) }
-    ensures end { OnOk result (AtEnd (R.left input.old) (R.left input.new)) }
+    ensures whole { IfOk result (λ text. IsAll text.items (R.seen input.old)) }
+    ensures end { OnOk result (AtEnd (R.seen input.old) (R.seen input.new)) }
     ensures short { IfOk result (λ text. length text.items ≤ LIMIT) }
-    ensures counts { IfOk result (λ text. Counts (length text.items) (R.taken input.old) (R.taken input.new)) }
+    ensures counts { IfOk result (λ text. Counted (length text.items) (R.seen input.old) (R.seen input.new)) }
 
     // Why nothing was.
-    ensures failed { IsErrOf result WholeError.Failed → Rises (R.faults input.old) (R.faults input.new) }
-    ensures long { IsErrOf result WholeError.TooLong → IfSome (R.left input.old) (λ bytes. LIMIT < length bytes) }
-    ensures many { IsErrOf result WholeError.TooLong → RisesAbove LIMIT (R.taken input.old) (R.taken input.new) }
-    ensures faults { R.faults input.old ≤ R.faults input.new }
+    ensures failed { IsErrOf result WholeError.Failed → ReadFails (R.seen input.old) (R.seen input.new) }
+    ensures long { IsErrOf result WholeError.TooLong → IsLong LIMIT (R.seen input.old) }
+    ensures many { IsErrOf result WholeError.TooLong → CountedAbove LIMIT (R.seen input.old) (R.seen input.new) }
+    ensures faults { (R.seen input.old).faults ≤ (R.seen input.new).faults }
 {
     let mut buffer = buffer_of(alloc, PIECE)?;
     let mut text = Vec::new(alloc);
@@ -123,10 +123,10 @@ fn write_piece<W: RowWriter>(out: &mut W, text: &[u8], at: usize) -> Result<usiz
     requires { at < length text.now }
     ensures forward { IfOk result (λ end. at < end) }
     ensures within { IfOk result (λ end. end ≤ length text.now) }
-    ensures writes { IfOk result (λ end. WritesOn (take at text.now) (take end text.now) (W.written out.old) (W.written out.new)) }
-    ensures err { OnErr result (W.written out.new ≡ W.written out.old) }
-    ensures cause { OnErr result (Rises (W.faults out.old) (W.faults out.new)) }
-    ensures faults { W.faults out.old ≤ W.faults out.new }
+    ensures writes { IfOk result (λ end. WritesOn (take at text.now) (take end text.now) (W.seen out.old) (W.seen out.new)) }
+    ensures err { OnErr result ((W.seen out.new).written ≡ (W.seen out.old).written) }
+    ensures cause { OnErr result (WriteFails (W.seen out.old) (W.seen out.new)) }
+    ensures faults { (W.seen out.old).faults ≤ (W.seen out.new).faults }
 {
     let n = out.write(rest_of(text, at))?;
     Ok(at + n)
@@ -135,10 +135,10 @@ fn write_piece<W: RowWriter>(out: &mut W, text: &[u8], at: usize) -> Result<usiz
 /// Writes all of a text, and a front of it where a write fails. It takes no memory.
 #[tactic(auto, using(crate::proofs::WholeLemmas::front_written, crate::proofs::WholeLemmas::rises_later))]
 pub fn write_whole<W: RowWriter>(out: &mut W, text: &[u8]) -> Result<(), WriteFailed>
-    ensures ok { OnOk result (Writes text.now (W.written out.old) (W.written out.new)) }
-    ensures err { OnErr result (WritesFront text.now (W.written out.old) (W.written out.new)) }
-    ensures cause { OnErr result (Rises (W.faults out.old) (W.faults out.new)) }
-    ensures faults { W.faults out.old ≤ W.faults out.new }
+    ensures ok { OnOk result (Writes text.now (W.seen out.old) (W.seen out.new)) }
+    ensures err { OnErr result (WritesFront text.now (W.seen out.old) (W.seen out.new)) }
+    ensures cause { OnErr result (WriteFails (W.seen out.old) (W.seen out.new)) }
+    ensures faults { (W.seen out.old).faults ≤ (W.seen out.new).faults }
 {
     let mut at = 0;
     while at < text.len() {

@@ -4,8 +4,8 @@ use Rattle.pipe_outside.proofs.whole.read_pieces.Given as goal
 
 abbrev pub invariant-loop-input : goal.invariant-loop-input
 invariant-loop-input g l = record {
-  reading : ReadAndCounted l.text.items (g.R.JobReader.left l.initial.input) (g.R.JobReader.left l.input) (g.R.JobReader.taken l.initial.input) (g.R.JobReader.taken l.input);
-  faults : g.R.JobReader.faults l.initial.input ≤ g.R.JobReader.faults l.input;
+  reading : ReadAndCounted l.text.items (g.R.JobReader.seen l.initial.input) (g.R.JobReader.seen l.input);
+  faults : (g.R.JobReader.seen l.initial.input).faults ≤ (g.R.JobReader.seen l.input).faults;
 }
 
 abbrev pub decreases-loop-input : goal.decreases-loop-input
