@@ -1,0 +1,6 @@
+pub mod PrefixLaw
+pub mod EntryOrder
+pub mod RowBytes
+pub mod RowOrder
+pub mod SortedColumns
+pub mod SortedRows

@@ -1,0 +1,13 @@
+//! The sort of a pipeline: it keeps all rows, and ends as the one sorted list of them, or a part of it.
+#![tactic(auto)]
+
+mod columns;
+mod entries;
+mod key;
+mod prefix;
+mod sink;
+mod sorted;
+
+pub use key::{SortKey, SortSlice};
+pub use sink::SortSink;
+pub use sorted::sorted_frame;
