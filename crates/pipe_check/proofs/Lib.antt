@@ -1,0 +1,13 @@
+pub mod Unknown
+pub mod Pairs
+pub mod Walks
+pub mod Agree
+pub mod Found
+pub mod Nodes
+pub mod Marks
+pub mod Full
+pub mod Parts
+pub mod Kept
+pub mod WellFormed
+pub mod FirstFault
+pub mod Steps
