@@ -1,0 +1,5 @@
+pub mod CutLemmas
+pub mod UnionLemmas
+pub mod ReprojectLemmas
+pub mod LawLemmas
+pub mod OrderLemmas
