@@ -1,0 +1,9 @@
+pub mod Lists
+pub mod Names
+pub mod Numbering
+pub mod Climbs
+pub mod Takes
+pub mod Down
+pub mod Visits
+pub mod Sound
+pub mod Between

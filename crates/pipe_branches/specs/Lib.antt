@@ -1,0 +1,6 @@
+-- the branches of a plan
+pub mod Branches
+-- the texts of branches
+pub mod Texts
+-- what a path becomes above, while a plan is cut
+pub mod Climbing
