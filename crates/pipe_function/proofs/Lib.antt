@@ -1,0 +1,6 @@
+pub mod Flat
+pub mod Ranges
+pub mod UnpivotColumns
+pub mod RenamedColumns
+pub mod Turned
+pub mod ColumnsAt
