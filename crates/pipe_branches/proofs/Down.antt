@@ -112,7 +112,7 @@ turn_paths nodes below n inputs turn.Unite = union_paths (list_all (is_scan_at n
 turn_paths nodes below n inputs (turn.Sort i) = sorted_paths n false (below i)
 turn_paths nodes below n inputs (turn.Join built probed) = join_paths n (below built) (below probed)
 
-node-turn : (nodes : List Node) (below : ℕ → List Path) (n : ℕ) (x : Node) → node_paths nodes below n x ≡ turn_paths nodes below n (inputs_of x) (turn_at x)
+pub node-turn : (nodes : List Node) (below : ℕ → List Path) (n : ℕ) (x : Node) → node_paths nodes below n x ≡ turn_paths nodes below n (inputs_of x) (turn_at x)
 node-turn nodes below n (node.DataFrameScan frame columns) = refl
 node-turn nodes below n (node.Filter input predicate) = refl
 node-turn nodes below n (node.SimpleProjection input columns) = refl

@@ -28,7 +28,7 @@ untold : (b : Bool) (e : PipeError) → told b e ≡ None → b ≡ false
 untold true e h = cc
 untold false e h = refl
 
-first_false : (a b : Bool) → (a || b) ≡ false → a ≡ false
+pub first_false : (a b : Bool) → (a || b) ≡ false → a ≡ false
 first_false true b e = cc
 first_false false b e = refl
 
@@ -57,14 +57,14 @@ smaller plan root k none lt under =
 
 -- ---- members of lists of numbers
 
-or-true : (a : Bool) → (a || true) ≡ true
+pub or-true : (a : Bool) → (a || true) ≡ true
 or-true true = refl
 or-true false = refl
 
 abbrev pub member : ℕ → List ℕ → Bool
 member i xs = list_any (λ m. eqb m i) xs
 
-any-member : (p : ℕ → Bool) (xs : List ℕ) (i : ℕ) → member i xs ≡ true → p i ≡ true → list_any p xs ≡ true
+pub any-member : (p : ℕ → Bool) (xs : List ℕ) (i : ℕ) → member i xs ≡ true → p i ≡ true → list_any p xs ≡ true
 any-member p [] i h e = cc
 any-member p (x ∷ xs) i h e =
     let split : (b : Bool) → eqb x i ≡ b → (b || member i xs) ≡ true → (p x || list_any p xs) ≡ true = elim [
@@ -73,7 +73,7 @@ any-member p (x ∷ xs) i h e =
     ]
     in split (eqb x i) refl h
 
-none-member : (p : ℕ → Bool) (xs : List ℕ) (i : ℕ) → list_any p xs ≡ false → member i xs ≡ true → p i ≡ false
+pub none-member : (p : ℕ → Bool) (xs : List ℕ) (i : ℕ) → list_any p xs ≡ false → member i xs ≡ true → p i ≡ false
 none-member p xs i h m =
     let split : (b : Bool) → p i ≡ b → b ≡ false = elim [
       | true ↦ λ e. (let yes : list_any p xs ≡ true = any-member p xs i m e in cc)
@@ -98,10 +98,10 @@ all-members p (x ∷ xs) f =
 
 -- ---- under
 
-under-at : (nodes : List Node) (k n : ℕ) → k < length nodes → is_under nodes k n ≡ (eqb k n || list_any (walk false (reaches_at nodes n) k) (inputs_of (node_at nodes k)))
+pub under-at : (nodes : List Node) (k n : ℕ) → k < length nodes → is_under nodes k n ≡ (eqb k n || list_any (walk false (reaches_at nodes n) k) (inputs_of (node_at nodes k)))
 under-at nodes k n lt = walk-at false (reaches_at nodes n) (length nodes) k lt
 
-under-below : (nodes : List Node) (k i n : ℕ) → i < k → k < length nodes → walk false (reaches_at nodes n) k i ≡ is_under nodes i n
+pub under-below : (nodes : List Node) (k i n : ℕ) → i < k → k < length nodes → walk false (reaches_at nodes n) k i ≡ is_under nodes i n
 under-below nodes k i n lt there = walk-below false (reaches_at nodes n) k (length nodes) i lt (omega arith)
 
 pub under-self : (nodes : List Node) (k : ℕ) → k < length nodes → is_under nodes k k ≡ true
@@ -135,10 +135,10 @@ under-one nodes n i lt below m =
 
 -- ---- the way down
 
-le-false : (n i : ℕ) → nat_le n i ≡ false → i < n
+pub le-false : (n i : ℕ) → nat_le n i ≡ false → i < n
 le-false n i h = leb-false n i h
 
-down-under : (plan : Plan) (root b n : ℕ) → plan_fault plan root ≡ None → n < b → b ≤ length plan.nodes → is_under plan.nodes root n ≡ true → goes_down plan.nodes n ≡ true
+pub down-under : (plan : Plan) (root b n : ℕ) → plan_fault plan root ≡ None → n < b → b ≤ length plan.nodes → is_under plan.nodes root n ≡ true → goes_down plan.nodes n ≡ true
 down-under plan root zero n none lt le u = absurd (omega arith)
 down-under plan root (suc b) n none lt le u =
     let nodes = plan.nodes in

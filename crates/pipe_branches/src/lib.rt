@@ -3,6 +3,7 @@
 
 mod above;
 mod branch;
+mod checked;
 mod climbing;
 mod cutting;
 mod naming;
@@ -12,4 +13,4 @@ mod turn;
 mod words;
 
 pub use branch::{Branch, SinkAt, SinkNode};
-pub use plans::{cut_arena, explain_arena};
+pub use checked::{cut, explain};

@@ -14,7 +14,7 @@ use pipe_plan::Arena;
 use std::alloc::{AllocError, Global};
 
 /// The branches of a well-formed plan, in time linear in the arena and in what they hold.
-pub fn cut_arena(alloc: Global, arena: &Arena, root: u32) -> Result<List<Branch>, AllocError>
+pub(crate) fn cut_arena(alloc: Global, arena: &Arena, root: u32) -> Result<List<Branch>, AllocError>
     requires { IsWellFormed (plan_of arena.now) root }
     ensures { IfOk result (λ branches. branches ≡ branches_of_plan (plan_of arena.now) root) }
 {
@@ -22,7 +22,7 @@ pub fn cut_arena(alloc: Global, arena: &Arena, root: u32) -> Result<List<Branch>
 }
 
 /// The texts of the branches of a well-formed plan, one a branch, in time linear in the arena and in what they hold.
-pub fn explain_arena(alloc: Global, arena: &Arena, root: u32) -> Result<List<Text>, AllocError>
+pub(crate) fn explain_arena(alloc: Global, arena: &Arena, root: u32) -> Result<List<Text>, AllocError>
     requires { IsWellFormed (plan_of arena.now) root }
     ensures { IfOk result (λ texts. texts ≡ texts_of_plan (plan_of arena.now) root) }
 {
