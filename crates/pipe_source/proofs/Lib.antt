@@ -3,3 +3,4 @@ pub mod UnionLemmas
 pub mod ReprojectLemmas
 pub mod LawLemmas
 pub mod OrderLemmas
+pub mod EndingLemmas

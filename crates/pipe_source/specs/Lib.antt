@@ -12,3 +12,7 @@ pub mod Law
 pub mod Ordered
 -- an ordered sink ends alike, in whatever order rows came
 pub mod OrderedLaws
+-- the rows and the schema of a source, and what a sink around a sink ends as
+pub mod Endings
+-- a sink around a sink ends alike, in whatever order rows came
+pub mod EndingLaws

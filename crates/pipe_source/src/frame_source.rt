@@ -1,7 +1,8 @@
 //! A frame as a source.
 
 ghost use Rattle.std.specs.Prelude.{◌≡◌, ℕ, ◌+◌, ◌*◌, ◌^◌, ◌<◌, ◌≤◌, List, [], ◌∷◌, length, drop, IfOk};
-ghost use Rattle.pipe_ops.specs.Batches.{Left, cut, passed, IsAnswer, index_after};
+ghost use Rattle.pipe_ops.specs.Batches.{passed, IsAnswer, index_after};
+ghost use Rattle.pipe_source.specs.Supply.{front_of, left_at};
 
 use pipe_frame::{DataChunk, DataFrame};
 use pipe_ops::{Morsel, PExecutionContext, Source, SourceResult};
@@ -22,12 +23,13 @@ impl Drop for DataFrameSource {
 }
 
 impl Model for DataFrameSource {
-    ghost use Rattle.std.specs.Prelude.{length, drop, ◌≤◌};
+    ghost use Rattle.std.specs.Prelude.{length, ◌≤◌};
     ghost use Rattle.pipe_ops.specs.Batches.{Left};
+    ghost use Rattle.pipe_source.specs.Supply.{left_at};
 
     ghost Value = { Left };
 
-    ghost view = { λ s. record { from = s.at; schema = s.frame.schema; rows = drop s.at s.frame.rows } };
+    ghost view = { λ s. left_at s.at s.frame };
 
     ghost invariant = { λ s. s.at ≤ length s.frame.rows };
 }
@@ -44,7 +46,7 @@ fn chunks_from(
     requires size { 0 < size }
     requires index { index + many < 2 ^ 64 }
     requires from { from ≤ length frame.now.rows }
-    ensures { IfOk result (λ chunks. chunks.items ≡ cut many size index 0 from frame.now.schema (drop from frame.now.rows)) }
+    ensures { IfOk result (λ chunks. chunks.items ≡ front_of many size index (left_at from frame.now)) }
 {
     let mut chunks = Vec::new(alloc);
     let mut at = from;
@@ -82,7 +84,7 @@ impl DataFrameSource {
     ) -> Result<Vec<Morsel>, AllocError>
         requires size { 0 < size }
         requires index { index + many < 2 ^ 64 }
-        ensures { IfOk result (λ chunks. chunks.items ≡ cut many size index 0 self.now.from self.now.schema self.now.rows) }
+        ensures { IfOk result (λ chunks. chunks.items ≡ front_of many size index self.now) }
     {
         Ok(chunks_from(alloc, &self.frame, self.at, many, size, index)?)
     }
