@@ -7,3 +7,6 @@ pub mod Down
 pub mod Visits
 pub mod Sound
 pub mod Between
+pub mod Numbered
+pub mod Covers
+pub mod Ends

@@ -4,3 +4,5 @@ pub mod Branches
 pub mod Texts
 -- what a path becomes above, while a plan is cut
 pub mod Climbing
+-- what whoever runs the branches needs of them
+pub mod Laws

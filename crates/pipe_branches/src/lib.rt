@@ -6,6 +6,7 @@ mod branch;
 mod checked;
 mod climbing;
 mod cutting;
+mod laws;
 mod naming;
 mod plans;
 mod texts;
@@ -14,3 +15,6 @@ mod words;
 
 pub use branch::{Branch, SinkAt, SinkNode};
 pub use checked::{cut, explain};
+pub use laws::{
+    every_node_is_on_a_branch, sinks_are_numbered_as_named, some_branch_ends_at_the_root,
+};

@@ -22,7 +22,11 @@ pub(crate) fn cut_arena(alloc: Global, arena: &Arena, root: u32) -> Result<List<
 }
 
 /// The texts of the branches of a well-formed plan, one a branch, in time linear in the arena and in what they hold.
-pub(crate) fn explain_arena(alloc: Global, arena: &Arena, root: u32) -> Result<List<Text>, AllocError>
+pub(crate) fn explain_arena(
+    alloc: Global,
+    arena: &Arena,
+    root: u32,
+) -> Result<List<Text>, AllocError>
     requires { IsWellFormed (plan_of arena.now) root }
     ensures { IfOk result (λ texts. texts ≡ texts_of_plan (plan_of arena.now) root) }
 {

@@ -1,0 +1,80 @@
+-- What whoever runs the branches of a plan needs of them, as statements.
+use Rattle.std.specs.Prelude.{◌≡◌, ℕ, ◌<◌, List, [], ◌∷◌, Bool, true, false, ◌==◌, ◌||◌, length}
+use Rattle.std.specs.List.{list_any, flat_map}
+use Rattle.pipe_plan.specs.Node.{Node}
+use Rattle.pipe_plan.specs.Plan.{Plan}
+use Rattle.pipe_plan.specs.Under.{inputs_of, node_at, is_under}
+use Rattle.pipe_plan.specs.Faults.{IsWellFormed}
+use Rattle.pipe_branches.specs.declared.branch.SinkAt.{SinkAt}
+use Rattle.pipe_branches.specs.declared.branch.SinkNode.{SinkNode}
+use Rattle.pipe_branches.specs.declared.branch.Branch.{Branch}
+use Rattle.pipe_branches.specs.Branches.{is_ordered, is_sort, is_build, add_named, number_of, branches}
+
+-- ---- each node is on a branch
+
+abbrev pub is_at_node : ℕ → SinkAt → Bool
+is_at_node n at = is_sort n at || is_build n at
+
+abbrev pub is_sink_at_node : ℕ → SinkNode → Bool
+is_sink_at_node n sink = is_at_node n sink.at
+
+abbrev pub is_number : ℕ → ℕ → Bool
+is_number n m = m == n
+
+-- a node is a branch's source, a scan that its source reads, one of its operators, or has one of its sinks
+abbrev pub is_on : List Node → ℕ → Branch → Bool
+is_on nodes n branch =
+    (branch.source == n) || list_any (is_number n) (inputs_of (node_at nodes branch.source))
+    || list_any (is_number n) branch.operators || list_any (is_sink_at_node n) branch.sinks
+
+-- each node under the root of a well-formed plan is on a branch, or has a sink of one
+abbrev pub EveryNodeIsOnABranch : Type 0
+EveryNodeIsOnABranch =
+    (plan : Plan) (root n : ℕ) → IsWellFormed plan root → is_under plan.nodes root n ≡ true
+    → list_any (is_on plan.nodes n) (branches plan root) ≡ true
+
+-- ---- the root's sink
+
+abbrev pub is_root_sink : SinkNode → Bool
+is_root_sink sink = is_ordered sink.at
+
+abbrev pub ends_in_root_sink : List SinkNode → Bool
+ends_in_root_sink [] = false
+ends_in_root_sink (sink ∷ []) = is_root_sink sink
+ends_in_root_sink (sink ∷ next ∷ sinks) = ends_in_root_sink (next ∷ sinks)
+
+abbrev pub ends_at_root : Branch → Bool
+ends_at_root branch = ends_in_root_sink branch.sinks
+
+-- some branch of a well-formed plan ends in the root's sink
+abbrev pub SomeBranchEndsAtTheRoot : Type 0
+SomeBranchEndsAtTheRoot =
+    (plan : Plan) (root : ℕ) → IsWellFormed plan root
+    → list_any ends_at_root (branches plan root) ≡ true
+
+-- ---- numbers of sinks
+
+abbrev pub sinks_of : Branch → List SinkNode
+sinks_of branch = branch.sinks
+
+-- the sinks of a plan, in the order in which its branches, in turn and each from its source on, name them
+abbrev pub all_sinks : Plan → ℕ → List SinkNode
+all_sinks plan root = flat_map sinks_of (branches plan root)
+
+-- the different ones among them, in the order in which they are named first
+abbrev pub first_named : List SinkAt → List SinkNode → List SinkAt
+first_named named [] = named
+first_named named (sink ∷ sinks) = first_named (add_named named sink.at) sinks
+
+-- each sink has its place among the different ones as its number
+abbrev pub AreNumberedBy : List SinkAt → List SinkNode → Type 0
+AreNumberedBy named [] = Unit {0}
+AreNumberedBy named (sink ∷ sinks) =
+    (sink.count ≡ number_of named sink.at) × (sink.count < length named)
+    × AreNumberedBy named sinks
+
+-- the sinks of a plan are numbered in the order in which they are named first
+abbrev pub SinksAreNumberedAsNamed : Type 0
+SinksAreNumberedAsNamed =
+    (plan : Plan) (root : ℕ)
+    → AreNumberedBy (first_named [] (all_sinks plan root)) (all_sinks plan root)

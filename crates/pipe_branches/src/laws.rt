@@ -1,0 +1,20 @@
+//! The laws of branches.
+
+ghost use Rattle.pipe_branches.specs.Laws.{EveryNodeIsOnABranch, SomeBranchEndsAtTheRoot, SinksAreNumberedAsNamed};
+
+/// Each node under the root of a well-formed plan is on a branch: it is its source, a scan that its source reads or
+/// one of its operators, or one of its sinks is the node's.
+pub fn every_node_is_on_a_branch()
+    ensures { EveryNodeIsOnABranch }
+{}
+
+/// Some branch of a well-formed plan ends in the root's sink.
+pub fn some_branch_ends_at_the_root()
+    ensures { SomeBranchEndsAtTheRoot }
+{}
+
+/// The sinks of a plan are numbered in the order in which its branches, in turn and each from its source on, name
+/// them first; a sink that is named again has the same number.
+pub fn sinks_are_numbered_as_named()
+    ensures { SinksAreNumberedAsNamed }
+{}
