@@ -162,7 +162,7 @@ pub record IsCovered (nodes : List Node) (n : ℕ) (ps : List Path) : Type 0 whe
   pub each : (m : ℕ) → is_under nodes n m ≡ true → list_any (covers nodes m) ps ≡ true
 
 -- what is under a node is the node, or under an input
-under-cases : (nodes : List Node) (n m : ℕ) (x : Node) → n < length nodes → node_at nodes n ≡ x → is_under nodes n m ≡ true → (n ≡ m) ⊎ ((i : ℕ) × ((member i (inputs_of x) ≡ true) × (is_under nodes i m ≡ true)))
+pub under-cases : (nodes : List Node) (n m : ℕ) (x : Node) → n < length nodes → node_at nodes n ≡ x → is_under nodes n m ≡ true → (n ≡ m) ⊎ ((i : ℕ) × ((member i (inputs_of x) ≡ true) × (is_under nodes i m ≡ true)))
 under-cases nodes n m x there is h =
     let split : (b : Bool) → eqb n m ≡ b → (b || list_any (walk false (reaches_at nodes m) n) (inputs_of x)) ≡ true → (n ≡ m) ⊎ ((i : ℕ) × ((member i (inputs_of x) ≡ true) × (is_under nodes i m ≡ true))) = elim [
       | true ↦ λ e g. inl ((Decides-eqb n m).0 e)
@@ -188,7 +188,7 @@ one-member : (i j : ℕ) → member j (i ∷ []) ≡ true → i ≡ j
 one-member i j h =
     let split : (b : Bool) → eqb i j ≡ b → (b || false) ≡ true → i ≡ j = elim [ true ↦ λ e g. (Decides-eqb i j).0 e | false ↦ λ e g. cc ] in split (eqb i j) refl h
 
-self-member : (i : ℕ) (is : List ℕ) → member i (i ∷ is) ≡ true
+pub self-member : (i : ℕ) (is : List ℕ) → member i (i ∷ is) ≡ true
 self-member i is = ap (λ b. b || member i is) ((Decides-eqb i i).1 refl)
 
 cover-one : (nodes : List Node) (n i : ℕ) (x : Node) → n < length nodes → node_at nodes n ≡ x → inputs_of x ≡ i ∷ [] → IsCovered nodes i (paths_of nodes i) → IsCovered nodes n (map (through n) (paths_of nodes i))
@@ -285,7 +285,7 @@ two-sides l r swapped j h =
 second-member : (l r : ℕ) → member r (l ∷ r ∷ []) ≡ true
 second-member l r = ap (λ b. eqb l r || b) (self-member r []) ∙ or-true (eqb l r)
 
-side-member : (l r : ℕ) (swapped : Bool) → (member (cond swapped r l) (l ∷ r ∷ []) ≡ true) × (member (cond swapped l r) (l ∷ r ∷ []) ≡ true)
+pub side-member : (l r : ℕ) (swapped : Bool) → (member (cond swapped r l) (l ∷ r ∷ []) ≡ true) × (member (cond swapped l r) (l ∷ r ∷ []) ≡ true)
 side-member l r true = (second-member l r, self-member l (r ∷ []))
 side-member l r false = (self-member l (r ∷ []), second-member l r)
 
@@ -304,7 +304,7 @@ cover-node plan n (node.Join left right left_on right_on options) there is full 
     (below (built_side left right options) members.0) (below (probed_side left right options) members.1)
 cover-node plan n (node.Sort input by options) there is full inside below = cover-sort plan.nodes n input (node.Sort input by options) there is refl (below input (self-member input []))
 
-second_false : (a b : Bool) → (a || b) ≡ false → b ≡ false
+pub second_false : (a b : Bool) → (a || b) ≡ false → b ≡ false
 second_false true b e = cc
 second_false false b e = e
 

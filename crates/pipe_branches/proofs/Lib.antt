@@ -10,3 +10,5 @@ pub mod Between
 pub mod Numbered
 pub mod Covers
 pub mod Ends
+pub mod Readers
+pub mod Firsts

@@ -1,5 +1,5 @@
 -- What whoever runs the branches of a plan needs of them, as statements.
-use Rattle.std.specs.Prelude.{◌≡◌, ℕ, ◌<◌, List, [], ◌∷◌, Bool, true, false, ◌==◌, ◌||◌, length}
+use Rattle.std.specs.Prelude.{◌≡◌, ℕ, ◌<◌, List, [], ◌∷◌, Bool, true, false, not, ◌==◌, ◌||◌, if◌then◌else◌, length}
 use Rattle.std.specs.List.{list_any, flat_map}
 use Rattle.pipe_plan.specs.Node.{Node}
 use Rattle.pipe_plan.specs.Plan.{Plan}
@@ -78,3 +78,28 @@ abbrev pub SinksAreNumberedAsNamed : Type 0
 SinksAreNumberedAsNamed =
     (plan : Plan) (root : ℕ)
     → AreNumberedBy (first_named [] (all_sinks plan root)) (all_sinks plan root)
+
+-- ---- the side of a join that is built comes first
+
+-- whether a branch's rows probe a join, and whether they come to its build sink
+abbrev pub probes : ℕ → Branch → Bool
+probes n branch = list_any (is_number n) branch.operators
+
+abbrev pub is_build_of : ℕ → SinkNode → Bool
+is_build_of n sink = is_build n sink.at
+
+abbrev pub feeds : ℕ → Branch → Bool
+feeds n branch = list_any (is_build_of n) branch.sinks
+
+-- from the first branch on that probes a join, none feeds its build sink
+abbrev pub builds_first : ℕ → List Branch → Bool
+builds_first n [] = true
+builds_first n (branch ∷ branches) =
+    if probes n branch then not (list_any (feeds n) (branch ∷ branches))
+    else builds_first n branches
+
+-- each branch that feeds a join's build sink stands before the first one that probes the join
+abbrev pub EveryBuildComesFirst : Type 0
+EveryBuildComesFirst =
+    (plan : Plan) (root n : ℕ) → IsWellFormed plan root
+    → builds_first n (branches plan root) ≡ true

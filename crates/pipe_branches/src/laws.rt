@@ -1,6 +1,6 @@
 //! The laws of branches.
 
-ghost use Rattle.pipe_branches.specs.Laws.{EveryNodeIsOnABranch, SomeBranchEndsAtTheRoot, SinksAreNumberedAsNamed};
+ghost use Rattle.pipe_branches.specs.Laws.{EveryNodeIsOnABranch, EveryBuildComesFirst, SomeBranchEndsAtTheRoot, SinksAreNumberedAsNamed};
 
 /// Each node under the root of a well-formed plan is on a branch: it is its source, a scan that its source reads or
 /// one of its operators, or one of its sinks is the node's.
@@ -17,4 +17,9 @@ pub fn some_branch_ends_at_the_root()
 /// them first; a sink that is named again has the same number.
 pub fn sinks_are_numbered_as_named()
     ensures { SinksAreNumberedAsNamed }
+{}
+
+/// Each branch of a well-formed plan that feeds the build sink of a join stands before the first one that probes it.
+pub fn every_build_comes_first()
+    ensures { EveryBuildComesFirst }
 {}
