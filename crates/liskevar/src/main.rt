@@ -29,7 +29,7 @@ fn refusal_of(error: &io::Error) -> Refusal {
 
 /// Notes a refusal, and gives its status.
 fn refused(notes: &mut impl Write, refusal: Refusal) -> ExitCode {
-    let _ = notes.write_all(refusal.line().as_bytes());
+    let _ = notes.write_all(refusal.line());
     ExitCode::from(refusal.status())
 }
 

@@ -1,15 +1,17 @@
 -- From what a run says of its words, its input and its output to its status.
-use Rattle.std.proofs.Common.{◌≡◌, ℕ, List, [], length, ◌≤◌, Option, Some, None, Result, Ok, Err, inl, inr, subst, arith}
+use Rattle.std.proofs.Common.{◌≡◌, ℕ, List, [], ◌∷◌, length, ◌≤◌, Option, Some, None, Result, Ok, Err, inl, inr, refl, subst, arith}
 use Rattle.std.proofs.Math.Seq.{take-length}
 use Rattle.std.specs.Prelude.{IfSome, OnErr, OnOk}
 use Rattle.pipe_frame.specs.Counts.{Rises}
 use Rattle.pipe_outside.specs.Outside.{AtEnd, CountedAbove, InputSeen, OutputSeen, WriteFails, Writes, WritesFront}
 use Rattle.pipe_outside.specs.Whole.{IsAll}
-use Rattle.pipe_cli.specs.Answer.{Answered}
+use Rattle.pipe_cli.specs.Answer.{Answered, OtherJob, SoundJob}
 use Rattle.pipe_cli.specs.Causes.{Causes}
-use Rattle.pipe_cli.specs.Headline.{IsAnswer, IsTooMany, IsWhole, Ran, RanInPart, limit}
+use Rattle.pipe_cli.specs.Headline.{IsAnswer, IsTooMany, IsWhole, Passed, PassedInPart, Ran, RanInPart, SoundOn, limit}
 use Rattle.pipe_cli.specs.Noted.{Noted}
-use Rattle.pipe_cli.specs.Refused.{NotJobOn, NotJsonOn, OfReading, OfText, OfWriting, UnbuiltOn}
+use Rattle.pipe_cli.specs.Refused.{NotJobOn, NotJsonOn, OfReading, OfText, OfWriting, ToldOn, UnbuiltOf, UnbuiltOn}
+use Rattle.pipe_cli.specs.Status.{OneOf, status_of}
+use Rattle.pipe_cli.specs.Words.{Opened, Run, bytes_at, ok_text, request}
 use Rattle.pipe_cli.specs.declared.status.Refusal.{Refusal}
 use Rattle.pipe_cli.specs.declared.status.Refusal.TheVariants as refusal
 
@@ -46,6 +48,10 @@ text_told refusal.NotJson bytes None same short cause = tt
 text_told refusal.NotJson bytes (Some all) same short cause = subst (λ (s : List ℕ). NotJsonOn s) same (record { short = short; cause = cause })
 text_told refusal.NotJob bytes None same short cause = tt
 text_told refusal.NotJob bytes (Some all) same short cause = subst (λ (s : List ℕ). NotJobOn s) same (record { short = short; cause = cause })
+text_told (refusal.Fault line) bytes None same short cause = tt
+text_told (refusal.Fault line) bytes (Some all) same short cause = subst (λ (s : List ℕ). ToldOn 6 line s) same (record { short = short; cause = cause })
+text_told (refusal.TooMany line) bytes None same short cause = tt
+text_told (refusal.TooMany line) bytes (Some all) same short cause = subst (λ (s : List ℕ). ToldOn 7 line s) same (record { short = short; cause = cause })
 text_told refusal.Unbuilt bytes None same short cause = tt
 text_told refusal.Unbuilt bytes (Some all) same short cause = subst (λ (s : List ℕ). UnbuiltOn s) same (record { short = short; cause = cause })
 text_told refusal.BadWords bytes told same short cause = tt
@@ -68,6 +74,21 @@ part_with text (Some bytes) rest out now a whole w = record { short = whole.shor
 
 pub part_told : (text : List ℕ) (input rest : InputSeen) (out now : OutputSeen) → IsAnswer text input.left → IsWhole input.left rest → WritesFront text out now → RanInPart input.left out now
 part_told text input rest out now a whole w = part_with text input.left rest out now a whole w
+
+-- a sound job
+pub sound_told : (bytes : List ℕ) (told : Option (List ℕ)) → IfSome told (λ all. bytes ≡ all) → SoundJob bytes → IfSome told SoundJob
+sound_told bytes None same s = tt
+sound_told bytes (Some all) same s = subst (λ (s : List ℕ). SoundJob s) same s
+
+pub passed_told : (input : InputSeen) (out now : OutputSeen) → IfSome input.left SoundJob → Writes ok_text out now → Passed input.left out now
+passed_told input out now s w = (s, w)
+
+sound_short : (told : Option (List ℕ)) (rest : InputSeen) → IfSome told SoundJob → IsWhole told rest → IfSome told SoundOn
+sound_short None rest s whole = tt
+sound_short (Some bytes) rest s whole = record { short = whole.short; sound = s }
+
+pub passed_part_told : (input rest : InputSeen) (out now : OutputSeen) → IfSome input.left SoundJob → IsWhole input.left rest → WritesFront ok_text out now → PassedInPart input.left out now
+passed_part_told input rest out now s whole w = (sound_short input.left rest s whole, w)
 
 -- ---- the job under a name: what is left once it was opened is what was told of it
 
@@ -99,6 +120,8 @@ writing_named refusal.ReadFault told mid out now h k = k
 writing_named refusal.TooLong told mid out now h k = k
 writing_named refusal.NotJson told mid out now h k = k
 writing_named refusal.NotJob told mid out now h k = k
+writing_named (refusal.Fault line) told mid out now h k = k
+writing_named (refusal.TooMany line) told mid out now h k = k
 writing_named refusal.Unbuilt told mid out now h k = k
 writing_named refusal.Memory told mid out now h k = k
 
@@ -111,6 +134,16 @@ text_named refusal.NotJson (Some all) mid h k =
 text_named refusal.NotJob None mid h k = tt
 text_named refusal.NotJob (Some all) mid h k =
     let P : Option (List ℕ) → Type 0 = λ o. OfText refusal.NotJob o in
+    let told : P (Some all) = subst P h k in
+    told
+text_named (refusal.Fault line) None mid h k = tt
+text_named (refusal.Fault line) (Some all) mid h k =
+    let P : Option (List ℕ) → Type 0 = λ o. OfText (refusal.Fault line) o in
+    let told : P (Some all) = subst P h k in
+    told
+text_named (refusal.TooMany line) None mid h k = tt
+text_named (refusal.TooMany line) (Some all) mid h k =
+    let P : Option (List ℕ) → Type 0 = λ o. OfText (refusal.TooMany line) o in
     let told : P (Some all) = subst P h k in
     told
 text_named refusal.Unbuilt None mid h k = tt
@@ -145,6 +178,39 @@ reading_named refusal.TooLong told input mid now h taken faults k = record { man
 reading_named refusal.BadWords told input mid now h taken faults k = tt
 reading_named refusal.NotJson told input mid now h taken faults k = tt
 reading_named refusal.NotJob told input mid now h taken faults k = tt
+reading_named (refusal.Fault line) told input mid now h taken faults k = tt
+reading_named (refusal.TooMany line) told input mid now h taken faults k = tt
 reading_named refusal.Unbuilt told input mid now h taken faults k = tt
 reading_named refusal.WriteFault told input mid now h taken faults k = tt
 reading_named refusal.Memory told input mid now h taken faults k = tt
+
+-- ---- that a job can't be run so far is told only where it is to be run
+
+other_told : (told : Option (List ℕ)) → IfSome told UnbuiltOn → IfSome told OtherJob
+other_told None h = tt
+other_told (Some bytes) h = h.cause
+
+pub unbuilt_run : (r : Refusal) (words : List (List ℕ)) (name : Option (List ℕ)) (input mid : InputSeen) → request words ≡ Some (Run name) → Opened name input mid → OfText r mid.left → UnbuiltOf r words input
+unbuilt_run refusal.Unbuilt words name input mid e opened t = rw e (other_told (bytes_at name input) (text_named refusal.Unbuilt (bytes_at name input) mid opened t))
+unbuilt_run (refusal.Fault line) words name input mid e opened t = tt
+unbuilt_run (refusal.TooMany line) words name input mid e opened t = tt
+unbuilt_run refusal.BadWords words name input mid e opened t = tt
+unbuilt_run refusal.ReadFault words name input mid e opened t = tt
+unbuilt_run refusal.TooLong words name input mid e opened t = tt
+unbuilt_run refusal.NotJson words name input mid e opened t = tt
+unbuilt_run refusal.NotJob words name input mid e opened t = tt
+unbuilt_run refusal.WriteFault words name input mid e opened t = tt
+unbuilt_run refusal.Memory words name input mid e opened t = tt
+
+-- the statuses of a job that is looked at
+pub caused_only : (r : Refusal) (bytes : List ℕ) → Causes r bytes → (r ≡ refusal.Unbuilt → ⊥) → OneOf (2 ∷ 3 ∷ 4 ∷ 5 ∷ 6 ∷ 7 ∷ 10 ∷ []) (status_of r)
+caused_only refusal.NotJson bytes c b = inr (inr (inl refl))
+caused_only refusal.NotJob bytes c b = inr (inr (inr (inl refl)))
+caused_only (refusal.Fault line) bytes c b = inr (inr (inr (inr (inl refl))))
+caused_only (refusal.TooMany line) bytes c b = inr (inr (inr (inr (inr (inl refl)))))
+caused_only refusal.Unbuilt bytes c b = absurd (b refl)
+caused_only refusal.Memory bytes c b = inr (inr (inr (inr (inr (inr (inl refl))))))
+caused_only refusal.BadWords bytes c b = absurd c
+caused_only refusal.ReadFault bytes c b = absurd c
+caused_only refusal.TooLong bytes c b = absurd c
+caused_only refusal.WriteFault bytes c b = absurd c

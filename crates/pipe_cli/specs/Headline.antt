@@ -1,8 +1,8 @@
 -- What a run of the program says of its input and its output.
-use Rattle.std.specs.Prelude.{ℕ, ◌≡◌, ◌<◌, ◌≤◌, List, [], length, Option, Some, None, IfSome}
+use Rattle.std.specs.Prelude.{ℕ, ◌≡◌, ◌<◌, ◌≤◌, List, [], length, Option, Some, None, IfSome, IsSomeAnd}
 use Rattle.pipe_outside.specs.Outside.{CountedAbove, InputSeen, OutputSeen, Writes, WritesFront}
-use Rattle.pipe_cli.specs.Answer.{Answered, FirstJob}
-use Rattle.pipe_cli.specs.Words.{Request, Run, Help, Version, bytes_at, help_text, job_bytes, request, version_text}
+use Rattle.pipe_cli.specs.Answer.{Answered, FirstJob, OtherJob, SoundJob}
+use Rattle.pipe_cli.specs.Words.{Request, Run, Check, Help, Version, bytes_at, help_text, job_bytes, ok_text, request, version_text}
 
 -- how many bytes a job has at most
 abbrev pub limit : ℕ
@@ -47,9 +47,23 @@ pub record RanInPartOn (bytes : List ℕ) (out now : OutputSeen) : Type 0 where
 abbrev pub RanInPart : Option (List ℕ) → OutputSeen → OutputSeen → Type 0
 RanInPart told out now = IfSome told (λ bytes. RanInPartOn bytes out now)
 
--- what was asked for was written: the answer to the job, or a text
+-- the bytes spell a sound job, and that was written
+abbrev pub Passed : Option (List ℕ) → OutputSeen → OutputSeen → Type 0
+Passed told out now = IfSome told SoundJob × Writes ok_text out now
+
+-- bytes of which a job may have so many spell a sound job
+pub record SoundOn (bytes : List ℕ) : Type 0 where
+  pub short : length bytes ≤ limit
+  pub sound : SoundJob bytes
+
+-- a front of that was written
+abbrev pub PassedInPart : Option (List ℕ) → OutputSeen → OutputSeen → Type 0
+PassedInPart told out now = IfSome told SoundOn × WritesFront ok_text out now
+
+-- what was asked for was written: the answer to the job, that it is good, or a text
 abbrev pub WroteFor : Option Request → InputSeen → OutputSeen → OutputSeen → Type 0
 WroteFor (Some (Run name)) input out now = Ran (bytes_at name input) out now
+WroteFor (Some Check) input out now = Passed input.left out now
 WroteFor (Some Help) input out now = Writes help_text out now
 WroteFor (Some Version) input out now = Writes version_text out now
 WroteFor None input out now = ⊥
@@ -60,6 +74,7 @@ Wrote words input out now = WroteFor (request words) input out now
 -- a front of it was written
 abbrev pub WroteFrontFor : Option Request → InputSeen → OutputSeen → OutputSeen → Type 0
 WroteFrontFor (Some (Run name)) input out now = RanInPart (bytes_at name input) out now
+WroteFrontFor (Some Check) input out now = PassedInPart input.left out now
 WroteFrontFor (Some Help) input out now = WritesFront help_text out now
 WroteFrontFor (Some Version) input out now = WritesFront version_text out now
 WroteFrontFor None input out now = ⊥
@@ -75,7 +90,40 @@ pub record IsLongOn (told : Option (List ℕ)) (input now : InputSeen) : Type 0 
 abbrev pub IsTooLong : List (List ℕ) → InputSeen → InputSeen → Type 0
 IsTooLong words input now = IsLongOn (job_bytes words input) input now
 
--- bytes within the limit that spell a first job
-pub record GoodJob (bytes : List ℕ) : Type 0 where
+-- a job is to be run, and can't be so far; none that is looked at is told so
+abbrev pub IsUnbuiltFor : Option Request → InputSeen → Type 0
+IsUnbuiltFor (Some (Run name)) input = IfSome (bytes_at name input) OtherJob
+IsUnbuiltFor (Some Check) input = ⊥
+IsUnbuiltFor (Some Help) input = ⊥
+IsUnbuiltFor (Some Version) input = ⊥
+IsUnbuiltFor None input = ⊥
+
+abbrev pub IsUnbuilt : List (List ℕ) → InputSeen → Type 0
+IsUnbuilt words input = IsUnbuiltFor (request words) input
+
+-- a job is to be run whose bytes are told, and it can't be so far
+abbrev pub IsOtherFor : Option Request → InputSeen → Type 0
+IsOtherFor (Some (Run name)) input = IsSomeAnd (bytes_at name input) OtherJob
+IsOtherFor (Some Check) input = ⊥
+IsOtherFor (Some Help) input = ⊥
+IsOtherFor (Some Version) input = ⊥
+IsOtherFor None input = ⊥
+
+abbrev pub IsOther : List (List ℕ) → InputSeen → Type 0
+IsOther words input = IsOtherFor (request words) input
+
+-- bytes within the limit that spell a job that can be run so far
+pub record GoodRun (bytes : List ℕ) : Type 0 where
   pub short : length bytes ≤ limit
   pub job : FirstJob bytes
+
+-- a job whose bytes are told is to be run and can be, or is to be looked at and is sound
+abbrev pub IsGoodFor : Option Request → InputSeen → Type 0
+IsGoodFor (Some (Run name)) input = IsSomeAnd (bytes_at name input) GoodRun
+IsGoodFor (Some Check) input = IsSomeAnd input.left SoundOn
+IsGoodFor (Some Help) input = ⊥
+IsGoodFor (Some Version) input = ⊥
+IsGoodFor None input = ⊥
+
+abbrev pub IsGood : List (List ℕ) → InputSeen → Type 0
+IsGood words input = IsGoodFor (request words) input

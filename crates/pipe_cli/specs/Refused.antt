@@ -2,8 +2,8 @@
 use Rattle.std.specs.Prelude.{ℕ, ◌≡◌, ◌≤◌, List, length, Option, None, IfSome, IsSome}
 use Rattle.pipe_job.specs.Reading.{ReadsNoJob, ReadsNothing}
 use Rattle.pipe_outside.specs.Outside.{InputSeen, OutputSeen, ReadFails, WriteFails}
-use Rattle.pipe_cli.specs.Answer.{OtherJob}
-use Rattle.pipe_cli.specs.Headline.{IsLongOn, RanInPart, WroteFront, limit}
+use Rattle.pipe_cli.specs.Answer.{OtherJob, ToldAs}
+use Rattle.pipe_cli.specs.Headline.{IsLongOn, IsUnbuilt, PassedInPart, RanInPart, WroteFront, limit}
 use Rattle.pipe_cli.specs.Words.{job_bytes, request}
 use Rattle.pipe_cli.specs.declared.status.Refusal.{Refusal}
 use Rattle.pipe_cli.specs.declared.status.Refusal.TheVariants as refusal
@@ -15,6 +15,8 @@ OfWords refusal.ReadFault words = IsSome (request words)
 OfWords refusal.TooLong words = IsSome (request words)
 OfWords refusal.NotJson words = IsSome (request words)
 OfWords refusal.NotJob words = IsSome (request words)
+OfWords (refusal.Fault line) words = IsSome (request words)
+OfWords (refusal.TooMany line) words = IsSome (request words)
 OfWords refusal.Unbuilt words = IsSome (request words)
 OfWords refusal.WriteFault words = IsSome (request words)
 OfWords refusal.Memory words = IsSome (request words)
@@ -26,6 +28,8 @@ OfReading refusal.TooLong told input now = IsLongOn told input now
 OfReading refusal.BadWords told input now = Unit {0}
 OfReading refusal.NotJson told input now = Unit {0}
 OfReading refusal.NotJob told input now = Unit {0}
+OfReading (refusal.Fault line) told input now = Unit {0}
+OfReading (refusal.TooMany line) told input now = Unit {0}
 OfReading refusal.Unbuilt told input now = Unit {0}
 OfReading refusal.WriteFault told input now = Unit {0}
 OfReading refusal.Memory told input now = Unit {0}
@@ -40,6 +44,11 @@ pub record NotJobOn (bytes : List ℕ) : Type 0 where
   pub short : length bytes ≤ limit
   pub cause : ReadsNoJob bytes
 
+-- a job may have so many bytes, and the value that is read of them spells one that is refused, with this status and line
+pub record ToldOn (status : ℕ) (line bytes : List ℕ) : Type 0 where
+  pub short : length bytes ≤ limit
+  pub cause : ToldAs status line bytes
+
 -- a job may have so many bytes, and the value that is read of them spells one that can't be run so far
 pub record UnbuiltOn (bytes : List ℕ) : Type 0 where
   pub short : length bytes ≤ limit
@@ -49,6 +58,8 @@ pub record UnbuiltOn (bytes : List ℕ) : Type 0 where
 abbrev pub OfText : Refusal → Option (List ℕ) → Type 0
 OfText refusal.NotJson told = IfSome told NotJsonOn
 OfText refusal.NotJob told = IfSome told NotJobOn
+OfText (refusal.Fault line) told = IfSome told (ToldOn 6 line)
+OfText (refusal.TooMany line) told = IfSome told (ToldOn 7 line)
 OfText refusal.Unbuilt told = IfSome told UnbuiltOn
 OfText refusal.BadWords told = Unit {0}
 OfText refusal.ReadFault told = Unit {0}
@@ -64,6 +75,8 @@ OfWriting refusal.ReadFault front out now = now.written ≡ out.written
 OfWriting refusal.TooLong front out now = now.written ≡ out.written
 OfWriting refusal.NotJson front out now = now.written ≡ out.written
 OfWriting refusal.NotJob front out now = now.written ≡ out.written
+OfWriting (refusal.Fault line) front out now = now.written ≡ out.written
+OfWriting (refusal.TooMany line) front out now = now.written ≡ out.written
 OfWriting refusal.Unbuilt front out now = now.written ≡ out.written
 OfWriting refusal.Memory front out now = now.written ≡ out.written
 
@@ -75,6 +88,9 @@ ReadingLeft r input now = OfReading r input.left input now
 abbrev pub WritingLeft : Refusal → InputSeen → OutputSeen → OutputSeen → Type 0
 WritingLeft r input out now = OfWriting r (RanInPart input.left out now) out now
 
+abbrev pub CheckedLeft : Refusal → InputSeen → OutputSeen → OutputSeen → Type 0
+CheckedLeft r input out now = OfWriting r (PassedInPart input.left out now) out now
+
 -- ---- the same of the job that words ask for
 
 abbrev pub ReadingOf : Refusal → List (List ℕ) → InputSeen → InputSeen → Type 0
@@ -85,3 +101,16 @@ TextOf r words input = OfText r (job_bytes words input)
 
 abbrev pub WritingOf : Refusal → List (List ℕ) → InputSeen → OutputSeen → OutputSeen → Type 0
 WritingOf r words input out now = OfWriting r (WroteFront words input out now) out now
+
+-- that a job can't be run so far is told only where it is to be run
+abbrev pub UnbuiltOf : Refusal → List (List ℕ) → InputSeen → Type 0
+UnbuiltOf refusal.Unbuilt words input = IsUnbuilt words input
+UnbuiltOf (refusal.Fault line) words input = Unit {0}
+UnbuiltOf (refusal.TooMany line) words input = Unit {0}
+UnbuiltOf refusal.BadWords words input = Unit {0}
+UnbuiltOf refusal.ReadFault words input = Unit {0}
+UnbuiltOf refusal.TooLong words input = Unit {0}
+UnbuiltOf refusal.NotJson words input = Unit {0}
+UnbuiltOf refusal.NotJob words input = Unit {0}
+UnbuiltOf refusal.WriteFault words input = Unit {0}
+UnbuiltOf refusal.Memory words input = Unit {0}

@@ -10,11 +10,13 @@ status_of refusal.ReadFault = 2
 status_of refusal.TooLong = 3
 status_of refusal.NotJson = 4
 status_of refusal.NotJob = 5
+status_of (refusal.Fault line) = 6
+status_of (refusal.TooMany line) = 7
 status_of refusal.WriteFault = 9
 status_of refusal.Memory = 10
 status_of refusal.Unbuilt = 11
 
--- the line that is noted for a status; 0 has none
+-- the line that is noted for a status; 0 has none, and those of 6 and 7 tell the error
 abbrev pub status_line : ℕ → List ℕ
 status_line n =
     if n == 1 then codes "error 1: bad words\n"
@@ -27,7 +29,24 @@ status_line n =
     else if n == 11 then codes "error 11: unbuilt\n"
     else []
 
+-- the line that is noted for a refusal
+abbrev pub line_of : Refusal → List ℕ
+line_of refusal.BadWords = status_line 1
+line_of refusal.ReadFault = status_line 2
+line_of refusal.TooLong = status_line 3
+line_of refusal.NotJson = status_line 4
+line_of refusal.NotJob = status_line 5
+line_of (refusal.Fault line) = line
+line_of (refusal.TooMany line) = line
+line_of refusal.WriteFault = status_line 9
+line_of refusal.Memory = status_line 10
+line_of refusal.Unbuilt = status_line 11
+
 -- a number is one of these
 abbrev pub OneOf : List ℕ → ℕ → Type 0
 OneOf [] n = ⊥
 OneOf (x ∷ xs) n = (n ≡ x) ⊎ OneOf xs n
+
+-- a status whose line tells nothing but itself
+abbrev pub IsFixed : ℕ → Type 0
+IsFixed n = OneOf (1 ∷ 2 ∷ 3 ∷ 4 ∷ 5 ∷ 9 ∷ 10 ∷ 11 ∷ []) n

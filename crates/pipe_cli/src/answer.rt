@@ -1,6 +1,6 @@
 //! From the bytes of a job to the text of its rows, or the reason why there is none. It reads and writes nothing.
 
-ghost use Rattle.std.specs.Prelude.{◌≡◌, ◌++◌, IfOk, IfErr, OnOk};
+ghost use Rattle.std.specs.Prelude.{◌≡◌, ◌++◌, IfOk, IfErr, IsErrOf, OnOk};
 ghost use Rattle.std.specs.List.{flat_map};
 ghost use Rattle.serde_json.specs.View.{view};
 ghost use Rattle.pipe_frame.specs.Rows.{Same};
@@ -10,13 +10,15 @@ ghost use Rattle.pipe_job.specs.Reading.{Reading, ReadsJob};
 ghost use Rattle.pipe_plan.specs.Plan.{plan_of};
 ghost use Rattle.pipe_plan.specs.PlanRows.{rows_of};
 ghost use Rattle.pipe_plan.specs.Schemas.{schema_of};
-ghost use Rattle.pipe_cli.specs.Answer.{Answered, IsFirstJob};
-ghost use Rattle.pipe_cli.specs.Causes.{Causes, RunCauses};
+ghost use Rattle.pipe_cli.specs.Answer.{Answered, IsFirstJob, IsSoundJob, SoundJob};
+ghost use Rattle.pipe_cli.specs.Causes.{Causes, JobCauses, Tells};
 
 use crate::status::Refusal;
-use pipe_exec::{first_join, run_plan};
+use pipe_exec::{RunError, check_job, run_plan};
+use pipe_faults::fault_line;
 use pipe_frame::{DataFrame, NeverStop, OpenGate};
 use pipe_job::{Job, JobError, job_of, push_head_line, push_rows, read_value};
+use pipe_plan::PipeError;
 use serde_json::Value;
 use std::alloc::{AllocError, Global};
 
@@ -24,6 +26,7 @@ use std::alloc::{AllocError, Global};
 fn value_in(alloc: Global, bytes: Vec<u8>) -> Result<Value, Refusal>
     ensures ok { IfOk result (λ value. Reading bytes.items (view value)) }
     ensures err { IfErr result (λ refusal. Causes refusal bytes.items) }
+    ensures built { IsErrOf result Refusal.Unbuilt → ⊥ }
 {
     match read_value(alloc, bytes.as_slice()) {
         Ok(value) => Ok(value),
@@ -37,6 +40,7 @@ fn value_in(alloc: Global, bytes: Vec<u8>) -> Result<Value, Refusal>
 fn job_in(alloc: Global, bytes: Vec<u8>) -> Result<Job, Refusal>
     ensures ok { IfOk result (λ job. ReadsJob bytes.items (task_of job)) }
     ensures err { IfErr result (λ refusal. Causes refusal bytes.items) }
+    ensures built { IsErrOf result Refusal.Unbuilt → ⊥ }
 {
     let value = value_in(alloc, bytes)?;
     match job_of(alloc, &value) {
@@ -46,17 +50,35 @@ fn job_in(alloc: Global, bytes: Vec<u8>) -> Result<Job, Refusal>
     }
 }
 
-/// The rows of a job, `Unbuilt` exactly where it is no first job.
+/// The refusal by an error, with its line; want of memory where there is none for the line.
+fn refused(alloc: Global, error: PipeError) -> Refusal
+    ensures { Tells result error }
+{
+    let Ok(line) = fault_line(alloc, &error) else {
+        return Refusal::Memory;
+    };
+    match error {
+        PipeError::BadConfig
+        | PipeError::BadNode(_)
+        | PipeError::UnknownColumn(..)
+        | PipeError::DuplicateName(..)
+        | PipeError::TypeMismatch(_)
+        | PipeError::BadJoin(_)
+        | PipeError::BadSort(_) => Refusal::Fault(line),
+        PipeError::TooMany(_) => Refusal::TooMany(line),
+        PipeError::Stopped | PipeError::Memory => Refusal::Memory,
+    }
+}
+
+/// The rows of a job.
+#[tactic(auto, using(crate::proofs::AnswerLemmas::told_job))]
 fn frame_of(alloc: Global, job: &Job) -> Result<DataFrame, Refusal>
+    ensures sound { OnOk result (IsSoundJob (task_of job.now)) }
     ensures first { OnOk result (IsFirstJob (task_of job.now)) }
     ensures schema { IfOk result (λ frame. frame.schema ≡ schema_of (plan_of job.now.arena) job.now.root) }
     ensures rows { IfOk result (λ frame. Same frame.rows (rows_of (plan_of job.now.arena) job.now.root)) }
-    ensures err { IfErr result (λ refusal. RunCauses refusal (IsFirstJob (task_of job.now))) }
+    ensures err { IfErr result (λ refusal. JobCauses refusal (task_of job.now)) }
 {
-    let Some(join) = first_join(alloc, &job.arena, job.root, &job.config)? else {
-        return Err(Refusal::Unbuilt);
-    };
-    drop(join);
     let mut stop = NeverStop::new();
     match run_plan(
         alloc,
@@ -67,7 +89,24 @@ fn frame_of(alloc: Global, job: &Job) -> Result<DataFrame, Refusal>
         &OpenGate,
     ) {
         Ok(answer) => Ok(answer.into_frame()),
-        Err(_) => Err(Refusal::Memory),
+        Err(RunError::Refused(error)) => Err(refused(alloc, error)),
+        Err(RunError::Unbuilt) => Err(Refusal::Unbuilt),
+    }
+}
+
+/// Whether a job may be run.
+#[tactic(auto, using(crate::proofs::AnswerLemmas::told_job, crate::proofs::AnswerLemmas::told_built))]
+fn check_of(alloc: Global, job: &Job) -> Result<(), Refusal>
+    ensures sound { OnOk result (IsSoundJob (task_of job.now)) }
+    ensures err { IfErr result (λ refusal. JobCauses refusal (task_of job.now)) }
+    ensures built { IsErrOf result Refusal.Unbuilt → ⊥ }
+{
+    match check_job(alloc, &job.arena, job.root, &job.config) {
+        Ok(plan) => {
+            drop(plan);
+            Ok(())
+        }
+        Err(error) => Err(refused(alloc, error)),
     }
 }
 
@@ -90,4 +129,16 @@ pub fn answer(alloc: Global, bytes: Vec<u8>) -> Result<Vec<u8>, Refusal>
     let frame = frame_of(alloc, &job)?;
     let text = text_of(alloc, &frame)?;
     Ok(text)
+}
+
+/// Whether the job that the bytes are may be run.
+#[tactic(auto, using(crate::proofs::AnswerLemmas::sound_read))]
+pub fn check(alloc: Global, bytes: Vec<u8>) -> Result<(), Refusal>
+    ensures ok { OnOk result (SoundJob bytes.items) }
+    ensures err { IfErr result (λ refusal. Causes refusal bytes.items) }
+    ensures built { IsErrOf result Refusal.Unbuilt → ⊥ }
+{
+    let job = job_in(alloc, bytes)?;
+    check_of(alloc, &job)?;
+    Ok(())
 }

@@ -1,20 +1,20 @@
 //! The top call: the words are read, the job is read to its end, and its rows are written, or a refusal is noted.
 
-ghost use Rattle.std.specs.Prelude.{◌≡◌, ◌≢◌, ◌≤◌, ◌↔◌, ◌∷◌, [], length, IfOk, IfErr, IsErrOf, IsSome, OnOk, OnErr, None};
+ghost use Rattle.std.specs.Prelude.{◌≡◌, ◌≢◌, ◌≤◌, ◌↔◌, ◌∷◌, [], length, IfOk, IfErr, IfSome, IsErrOf, IsSome, OnOk, OnErr, None};
 ghost use Rattle.std.specs.Option.{option_copied};
 ghost use Rattle.pipe_job.specs.Reading.{ReadsNoJob, ReadsNothing};
 ghost use Rattle.pipe_outside.specs.Outside.{ReadFails, WriteFails, Writes, WritesFront};
 ghost use Rattle.pipe_outside.specs.Whole.{IsAll};
-ghost use Rattle.pipe_cli.specs.Answer.{OtherJob};
-ghost use Rattle.pipe_cli.specs.Headline.{GoodJob, IsAnswer, IsTooLong, IsTooMany, IsWhole, Ran, WasRead, Wrote, WroteFront, limit};
-ghost use Rattle.pipe_cli.specs.Noted.{Noted};
-ghost use Rattle.pipe_cli.specs.Refused.{OfText, OfWords, ReadingLeft, ReadingOf, TextOf, WritingLeft, WritingOf};
-ghost use Rattle.pipe_cli.specs.Status.{OneOf, status_line, status_of};
+ghost use Rattle.pipe_cli.specs.Answer.{RefusedAs, SoundJob};
+ghost use Rattle.pipe_cli.specs.Headline.{IsAnswer, IsGood, IsOther, IsTooLong, IsTooMany, IsUnbuilt, IsWhole, Passed, Ran, WasRead, Wrote, WroteFront, limit};
+ghost use Rattle.pipe_cli.specs.Noted.{Noted, NotedFault};
+ghost use Rattle.pipe_cli.specs.Refused.{CheckedLeft, OfText, OfWords, ReadingLeft, ReadingOf, TextOf, UnbuiltOf, WritingLeft, WritingOf};
+ghost use Rattle.pipe_cli.specs.Status.{IsFixed, OneOf, line_of, status_line, status_of};
 ghost use Rattle.pipe_cli.specs.Words.{IfJob, IsJob, IsText, Opened, request};
 
-use crate::answer::answer;
+use crate::answer::{answer, check};
 use crate::status::Refusal;
-use crate::words::{Command, command_of, help, version};
+use crate::words::{Command, command_of, help, ok, version};
 use pipe_frame::{Gate, StopCheck, Text};
 use pipe_outside::{JobReader, RowWriter, WholeError, read_whole, write_whole};
 use std::alloc::Global;
@@ -43,11 +43,25 @@ fn text_left<R: JobReader>(alloc: Global, input: &mut R) -> Result<Vec<u8>, Refu
     ensures answer { IfOk result (λ text. IsAnswer text.items (R.seen input.old).left) }
     ensures reading { IfErr result (λ r. ReadingLeft r (R.seen input.old) (R.seen input.new)) }
     ensures text { IfErr result (λ r. OfText r (R.seen input.old).left) }
-    ensures only { IfErr result (λ r. OneOf (2 ∷ 3 ∷ 4 ∷ 5 ∷ 10 ∷ 11 ∷ []) (status_of r)) }
+    ensures only { IfErr result (λ r. OneOf (2 ∷ 3 ∷ 4 ∷ 5 ∷ 6 ∷ 7 ∷ 10 ∷ 11 ∷ []) (status_of r)) }
 {
     let bytes = bytes_left(alloc, input)?;
     let text = answer(alloc, bytes)?;
     Ok(text)
+}
+
+/// Looks at the job that is left.
+#[tactic(auto, using(crate::proofs::ProgramLemmas::sound_told, crate::proofs::ProgramLemmas::text_told, crate::proofs::ProgramLemmas::caused_only))]
+fn look_at<R: JobReader>(alloc: Global, input: &mut R) -> Result<(), Refusal>
+    ensures read { OnOk result (IsWhole (R.seen input.old).left (R.seen input.new)) }
+    ensures sound { OnOk result (IfSome (R.seen input.old).left SoundJob) }
+    ensures reading { IfErr result (λ r. ReadingLeft r (R.seen input.old) (R.seen input.new)) }
+    ensures text { IfErr result (λ r. OfText r (R.seen input.old).left) }
+    ensures only { IfErr result (λ r. OneOf (2 ∷ 3 ∷ 4 ∷ 5 ∷ 6 ∷ 7 ∷ 10 ∷ []) (status_of r)) }
+{
+    let bytes = bytes_left(alloc, input)?;
+    check(alloc, bytes)?;
+    Ok(())
 }
 
 /// Writes all of a text.
@@ -81,6 +95,25 @@ fn run_left<R: JobReader, W: RowWriter>(
     tell(out, text.as_slice())
 }
 
+/// Looks at the job that is left, and writes that it is good.
+#[tactic(auto, using(crate::proofs::ProgramLemmas::passed_told, crate::proofs::ProgramLemmas::passed_part_told))]
+fn check_left<R: JobReader, W: RowWriter>(
+    alloc: Global,
+    input: &mut R,
+    out: &mut W,
+) -> Result<(), Refusal>
+    ensures read { OnOk result (IsWhole (R.seen input.old).left (R.seen input.new)) }
+    ensures passed { OnOk result (Passed (R.seen input.old).left (W.seen out.old) (W.seen out.new)) }
+    ensures reading { IfErr result (λ r. ReadingLeft r (R.seen input.old) (R.seen input.new)) }
+    ensures text { IfErr result (λ r. OfText r (R.seen input.old).left) }
+    ensures writing { IfErr result (λ r. CheckedLeft r (R.seen input.old) (W.seen out.old) (W.seen out.new)) }
+    ensures known { IsErrOf result Refusal.BadWords → ⊥ }
+    ensures built { IsErrOf result Refusal.Unbuilt → ⊥ }
+{
+    look_at(alloc, input)?;
+    tell(out, ok().as_bytes())
+}
+
 /// Makes what stands under a name, where there is one, what is left to read.
 fn open<R: JobReader>(name: Option<&Text>, input: &mut R) -> Result<(), Refusal>
     ensures opened { OnOk result (Opened (option_copied name.entry) (R.seen input.old) (R.seen input.new)) }
@@ -99,6 +132,7 @@ fn open<R: JobReader>(name: Option<&Text>, input: &mut R) -> Result<(), Refusal>
 }
 
 /// Does what the words ask for.
+#[tactic(auto, using(crate::proofs::ProgramLemmas::unbuilt_run))]
 fn attempt<R: JobReader, W: RowWriter>(
     alloc: Global,
     words: &[Text],
@@ -112,6 +146,7 @@ fn attempt<R: JobReader, W: RowWriter>(
     ensures reading { IfErr result (λ r. ReadingOf r words.now (R.seen input.old) (R.seen input.new)) }
     ensures text { IfErr result (λ r. TextOf r words.now (R.seen input.old)) }
     ensures writing { IfErr result (λ r. WritingOf r words.now (R.seen input.old) (W.seen out.old) (W.seen out.new)) }
+    ensures unbuilt { IfErr result (λ r. UnbuiltOf r words.now (R.seen input.old)) }
     ensures only_told { IsText (request words.now) → IfErr result (λ refusal. refusal ≡ Refusal.WriteFault) }
     ensures unread { IsErrOf result Refusal.BadWords → input.new ≡ input.old }
     ensures untouched { IsText (request words.now) → input.new ≡ input.old }
@@ -121,6 +156,7 @@ fn attempt<R: JobReader, W: RowWriter>(
             open(name, input)?;
             run_left(alloc, input, out)
         }
+        Some(Command::Check) => check_left(alloc, input, out),
         Some(Command::Help) => tell(out, help().as_bytes()),
         Some(Command::Version) => tell(out, version().as_bytes()),
         None => Err(Refusal::BadWords),
@@ -128,17 +164,17 @@ fn attempt<R: JobReader, W: RowWriter>(
 }
 
 /// Notes why there are no rows.
-fn note<N: RowWriter>(notes: &mut N, refusal: Refusal)
-    ensures { Noted (status_line (status_of refusal)) (N.seen notes.old) (N.seen notes.new) }
+fn note<N: RowWriter>(notes: &mut N, refusal: &Refusal)
+    ensures { Noted (line_of refusal.now) (N.seen notes.old) (N.seen notes.new) }
 {
     // A note that can't be written changes nothing.
-    let _ = write_whole(notes, refusal.line().as_bytes());
+    let _ = write_whole(notes, refusal.line());
 }
 
 /// Does what the words ask for: reads a job from `input`, or from the file that is named, and writes its rows to
-/// `out`, or writes a text that was asked for. It answers the status that the program ends with; for a status other
-/// than 0 its line is written to `notes`.
-#[tactic(auto, using(crate::proofs::StatusLemmas::long_ran, crate::proofs::StatusLemmas::long_status, crate::proofs::StatusLemmas::no_job_ran, crate::proofs::StatusLemmas::no_job_status, crate::proofs::StatusLemmas::other_ran, crate::proofs::StatusLemmas::other_status, crate::proofs::StatusLemmas::good_status))]
+/// `out`, or that it is good, or writes a text that was asked for. It answers the status that the program ends with;
+/// for a status other than 0 its line is written to `notes`.
+#[tactic(auto, using(crate::proofs::StatusLemmas::long_ran, crate::proofs::StatusLemmas::long_status, crate::proofs::StatusLemmas::no_job_ran, crate::proofs::StatusLemmas::no_job_status, crate::proofs::StatusLemmas::refused_ran, crate::proofs::StatusLemmas::refused_status, crate::proofs::StatusLemmas::other_ran, crate::proofs::StatusLemmas::other_status, crate::proofs::StatusLemmas::good_status, crate::proofs::StatusLemmas::noted_fault, crate::proofs::StatusLemmas::no_fault, crate::proofs::StatusLemmas::noted_fixed))]
 pub fn run_program<R: JobReader, W: RowWriter, N: RowWriter, C: StopCheck, G: Gate + Sync>(
     alloc: Global,
     words: &[Text],
@@ -158,15 +194,19 @@ pub fn run_program<R: JobReader, W: RowWriter, N: RowWriter, C: StopCheck, G: Ga
     ensures too_long { result ≡ 3 → IsTooLong words.now (R.seen input.old) (R.seen input.new) }
     ensures not_json { result ≡ 4 → IfJob words.now (R.seen input.old) ReadsNothing }
     ensures not_job { result ≡ 5 → IfJob words.now (R.seen input.old) ReadsNoJob }
-    ensures unbuilt { result ≡ 11 → IfJob words.now (R.seen input.old) OtherJob }
+    ensures refused { result ≡ 6 → IfJob words.now (R.seen input.old) (RefusedAs 6) }
+    ensures too_many { result ≡ 7 → IfJob words.now (R.seen input.old) (RefusedAs 7) }
     ensures write_fault { result ≡ 9 → WriteFails (W.seen out.old) (W.seen out.new) }
-    ensures status { OneOf (0 ∷ 1 ∷ 2 ∷ 3 ∷ 4 ∷ 5 ∷ 9 ∷ 10 ∷ 11 ∷ []) result }
+    ensures unbuilt { result ≡ 11 → IsUnbuilt words.now (R.seen input.old) }
+    ensures status { OneOf (0 ∷ 1 ∷ 2 ∷ 3 ∷ 4 ∷ 5 ∷ 6 ∷ 7 ∷ 9 ∷ 10 ∷ 11 ∷ []) result }
 
     // When a status comes, where nothing before it does. A good job ends with 0, or by a fault, or for want of memory.
     ensures if_long { IsJob words.now (R.seen input.old) IsTooMany → OneOf (2 ∷ 3 ∷ 10 ∷ []) result }
     ensures if_no_job { IsJob words.now (R.seen input.old) ReadsNoJob → OneOf (2 ∷ 3 ∷ 5 ∷ 10 ∷ []) result }
-    ensures if_other { IsJob words.now (R.seen input.old) OtherJob → OneOf (2 ∷ 3 ∷ 10 ∷ 11 ∷ []) result }
-    ensures complete { IsJob words.now (R.seen input.old) GoodJob → OneOf (0 ∷ 2 ∷ 9 ∷ 10 ∷ []) result }
+    ensures if_fault { IsJob words.now (R.seen input.old) (RefusedAs 6) → OneOf (2 ∷ 3 ∷ 6 ∷ 10 ∷ []) result }
+    ensures if_many { IsJob words.now (R.seen input.old) (RefusedAs 7) → OneOf (2 ∷ 3 ∷ 7 ∷ 10 ∷ []) result }
+    ensures if_other { IsOther words.now (R.seen input.old) → OneOf (2 ∷ 3 ∷ 10 ∷ 11 ∷ []) result }
+    ensures complete { IsGood words.now (R.seen input.old) → OneOf (0 ∷ 2 ∷ 9 ∷ 10 ∷ []) result }
     ensures if_text { IsText (request words.now) → OneOf (0 ∷ 9 ∷ []) result }
 
     // What is read and written.
@@ -174,13 +214,14 @@ pub fn run_program<R: JobReader, W: RowWriter, N: RowWriter, C: StopCheck, G: Ga
     ensures untouched { IsText (request words.now) → input.new ≡ input.old }
     ensures front { result ≡ 9 → WroteFront words.now (R.seen input.old) (W.seen out.old) (W.seen out.new) }
     ensures nothing { result ≢ 0 → result ≢ 9 → (W.seen out.new).written ≡ (W.seen out.old).written }
-    ensures noted { result ≢ 0 → Noted (status_line result) (N.seen notes.old) (N.seen notes.new) }
+    ensures noted { IsFixed result → Noted (status_line result) (N.seen notes.old) (N.seen notes.new) }
+    ensures told { NotedFault result words.now (R.seen input.old) (N.seen notes.old) (N.seen notes.new) }
     ensures quiet { result ≡ 0 → (N.seen notes.new).written ≡ (N.seen notes.old).written }
 {
     match attempt(alloc, words, input, out) {
         Ok(()) => 0,
         Err(refusal) => {
-            note(notes, refusal);
+            note(notes, &refusal);
             refusal.status()
         }
     }

@@ -1,12 +1,13 @@
 //! Why the program gives no rows: the status that it ends with, and the line that it notes.
 
 ghost use Rattle.std.specs.Prelude.{◌≡◌};
-ghost use Rattle.pipe_cli.specs.Status.{status_of, status_line};
+ghost use Rattle.pipe_cli.specs.Status.{line_of, status_of};
 
+use pipe_frame::Bytes;
 use std::alloc::AllocError;
 
 /// Why there are no rows.
-#[derive(Clone, Copy, Debug)]
+#[derive(Debug, Drop)]
 pub enum Refusal {
     /// The words are none of the commands.
     BadWords,
@@ -18,7 +19,11 @@ pub enum Refusal {
     NotJson,
     /// The input spells no job.
     NotJob,
-    /// The job is of no form that is built so far.
+    /// A number of the job is out of its range, or its plan has a fault: the line tells which.
+    Fault(Bytes),
+    /// The plan has too many nodes: the line tells it.
+    TooMany(Bytes),
+    /// The plan is of no form that can be run so far.
     Unbuilt,
     /// A call on the output failed.
     WriteFault,
@@ -48,6 +53,8 @@ impl Refusal {
             Refusal::TooLong => 3,
             Refusal::NotJson => 4,
             Refusal::NotJob => 5,
+            Refusal::Fault(_) => 6,
+            Refusal::TooMany(_) => 7,
             Refusal::WriteFault => 9,
             Refusal::Memory => 10,
             Refusal::Unbuilt => 11,
@@ -55,18 +62,20 @@ impl Refusal {
     }
 
     /// The line that the program notes.
-    pub fn line(&self) -> &'static str
-        ensures { result.now ≡ status_line (status_of self.now) }
+    pub fn line(&self) -> &[u8]
+        ensures { result.now ≡ line_of self.now }
     {
         match self {
-            Refusal::BadWords => "error 1: bad words\n",
-            Refusal::ReadFault => "error 2: read fault\n",
-            Refusal::TooLong => "error 3: job too long\n",
-            Refusal::NotJson => "error 4: not JSON\n",
-            Refusal::NotJob => "error 5: not a job\n",
-            Refusal::WriteFault => "error 9: write fault\n",
-            Refusal::Memory => "error 10: out of memory\n",
-            Refusal::Unbuilt => "error 11: unbuilt\n",
+            Refusal::BadWords => "error 1: bad words\n".as_bytes(),
+            Refusal::ReadFault => "error 2: read fault\n".as_bytes(),
+            Refusal::TooLong => "error 3: job too long\n".as_bytes(),
+            Refusal::NotJson => "error 4: not JSON\n".as_bytes(),
+            Refusal::NotJob => "error 5: not a job\n".as_bytes(),
+            Refusal::Fault(line) => line.as_slice(),
+            Refusal::TooMany(line) => line.as_slice(),
+            Refusal::WriteFault => "error 9: write fault\n".as_bytes(),
+            Refusal::Memory => "error 10: out of memory\n".as_bytes(),
+            Refusal::Unbuilt => "error 11: unbuilt\n".as_bytes(),
         }
     }
 }

@@ -2,12 +2,15 @@
 #![tactic(auto)]
 
 mod answer;
+mod check;
 mod first;
 mod joining;
+mod run_error;
 mod running;
 mod sides;
 
 pub use answer::RunAnswer;
-pub use joining::{FirstJoin, first_join};
+pub use check::check_job;
 pub use pipe_plan::PipeConfig;
+pub use run_error::RunError;
 pub use running::{run_plan, run_plan_with};

@@ -1,6 +1,6 @@
 //! Running a plan.
 
-ghost use Rattle.std.specs.Prelude.{◌≡◌, IfOk, IfErr};
+ghost use Rattle.std.specs.Prelude.{◌≡◌, IfOk, IfErr, OnOk};
 ghost use Rattle.pipe_frame.specs.Rows.{Same};
 ghost use Rattle.pipe_join.specs.Probed.{settings_of, probed_rows};
 ghost use Rattle.pipe_exec.specs.First.{IsFirst};
@@ -8,13 +8,17 @@ ghost use Rattle.pipe_plan.specs.Plan.{plan_of};
 ghost use Rattle.pipe_plan.specs.PlanRows.{rows_of};
 ghost use Rattle.pipe_plan.specs.Schemas.{schema_of};
 ghost use Rattle.pipe_exec.specs.FirstRun.{IsRun};
+ghost use Rattle.pipe_exec.specs.Refusals.{RunCauses};
+ghost use Rattle.pipe_exec.specs.Sound.{IsSound};
 
 use crate::answer::RunAnswer;
+use crate::check::check_job;
 use crate::joining::{FirstJoin, first_join};
+use crate::run_error::RunError;
 use crate::sides::{build_side, probe_side};
 use pipe_frame::{DataFrame, Gate, StopCheck};
 use pipe_join::GenericJoinProbe;
-use pipe_plan::{Arena, PipeConfig, PipeError};
+use pipe_plan::{Arena, PipeConfig};
 use pipe_rows::{Fnv, KeyHasher};
 use std::alloc::{AllocError, Global};
 
@@ -38,8 +42,9 @@ fn run_join<H: KeyHasher>(
     Ok(frame)
 }
 
-/// The rows of a plan, by a hasher of the caller's own. For now the plan is that of a first job, the run is on the
-/// caller, and neither the stop check nor the gate is called. The only refusal is `Memory`.
+/// The rows of a plan, by a hasher of the caller's own: `Refused` by what `check_job` refuses, `Unbuilt` exactly where
+/// it refuses nothing and the plan is of no form that can be run so far. The run is on the caller, and neither the
+/// stop check nor the gate is called.
 pub fn run_plan_with<H: KeyHasher, C: StopCheck, G: Gate + Sync>(
     alloc: Global,
     arena: &Arena,
@@ -48,14 +53,17 @@ pub fn run_plan_with<H: KeyHasher, C: StopCheck, G: Gate + Sync>(
     hasher: H,
     _stop: &mut C,
     _gate: &G,
-) -> Result<RunAnswer, PipeError>
-    requires { IsFirst (plan_of arena.now) root config.now }
+) -> Result<RunAnswer, RunError>
+    ensures sound { OnOk result (IsSound (plan_of arena.now) root config.now) }
+    ensures first { OnOk result (IsFirst (plan_of arena.now) root config.now) }
     ensures schema { IfOk result (λ answer. answer.frame.schema ≡ schema_of (plan_of arena.now) root) }
     ensures rows { IfOk result (λ answer. Same answer.frame.rows (rows_of (plan_of arena.now) root)) }
-    ensures memory { IfErr result (λ error. error ≡ PipeError.Memory) }
+    ensures err { IfErr result (RunCauses (plan_of arena.now) root config.now) }
 {
+    let plan = check_job(alloc, arena, root, config)?;
+    drop(plan);
     let Some(join) = first_join(alloc, arena, root, config)? else {
-        unreachable!()
+        return Err(RunError::Unbuilt);
     };
     let frame = run_join(alloc, join, arena, root, config, hasher)?;
     Ok(RunAnswer { frame })
@@ -69,11 +77,12 @@ pub fn run_plan<C: StopCheck, G: Gate + Sync>(
     config: &PipeConfig,
     stop: &mut C,
     gate: &G,
-) -> Result<RunAnswer, PipeError>
-    requires { IsFirst (plan_of arena.now) root config.now }
+) -> Result<RunAnswer, RunError>
+    ensures sound { OnOk result (IsSound (plan_of arena.now) root config.now) }
+    ensures first { OnOk result (IsFirst (plan_of arena.now) root config.now) }
     ensures schema { IfOk result (λ answer. answer.frame.schema ≡ schema_of (plan_of arena.now) root) }
     ensures rows { IfOk result (λ answer. Same answer.frame.rows (rows_of (plan_of arena.now) root)) }
-    ensures memory { IfErr result (λ error. error ≡ PipeError.Memory) }
+    ensures err { IfErr result (RunCauses (plan_of arena.now) root config.now) }
 {
     run_plan_with(alloc, arena, root, config, Fnv, stop, gate)
 }

@@ -3,17 +3,20 @@
 
 mod commands;
 mod faults;
+mod faulty;
 mod first_jobs;
 mod frames;
 mod held;
 mod job_text;
 mod length;
 mod lines;
+mod looked_at;
 mod nodes;
 mod parts;
 mod prefixes;
 mod reading;
 mod refused;
+mod row_one;
 mod runs;
 mod streams;
 mod table;

@@ -2,8 +2,8 @@
 
 use crate::runs::{tell, tell_length, tell_run, tell_text};
 use crate::{
-    commands, faults, first_jobs, frames, held, length, lines, nodes, parts, prefixes, reading,
-    refused,
+    commands, faults, faulty, first_jobs, frames, held, length, lines, looked_at, nodes, parts,
+    prefixes, reading, refused, row_one,
 };
 use std::alloc::{AllocError, Global};
 
@@ -96,6 +96,12 @@ fn tell_refused_texts(a: Global, answers: &mut String) -> Result<(), AllocError>
     tell_run(
         a,
         answers,
+        "a job that breaks off",
+        refused::text(a, r#"{"version":1,"frames":["#)?,
+    )?;
+    tell_run(
+        a,
+        answers,
         "33,554,432 spaces",
         length::spaces(a, 33_554_432)?,
     )?;
@@ -116,6 +122,18 @@ fn tell_words(a: Global, answers: &mut String) -> Result<(), AllocError> {
         answers,
         "a word too many",
         refused::words(a, &["run", "a", "b"])?,
+    )?;
+    tell_run(
+        a,
+        answers,
+        "check and a name",
+        refused::words(a, &["check", "job.json"])?,
+    )?;
+    tell_run(
+        a,
+        answers,
+        "a command that isn't there",
+        refused::words(a, &["selftest", "1", "0"])?,
     )?;
     tell_run(
         a,
@@ -180,6 +198,32 @@ fn tell_faults(a: Global, answers: &mut String) -> Result<(), AllocError> {
     )
 }
 
+/// In pieces of 400 bytes a job of 720 bytes takes three reads, the last of which finds the end. That it is good
+/// takes one write.
+fn tell_looked_at(a: Global, answers: &mut String) -> Result<(), AllocError> {
+    looked_at::tell_both(a, answers, "a sorted join", row_one::SORTED_JOIN)?;
+    for call in 1..5 {
+        let shows = format!(in a; "looked at, read {call} fails")?;
+        tell_run(
+            a,
+            answers,
+            shows.as_str(),
+            looked_at::with_a_failing_read(a, call)?,
+        )?;
+    }
+    for call in 1..3 {
+        let shows = format!(in a; "looked at, write {call} fails")?;
+        tell_length(
+            a,
+            answers,
+            shows.as_str(),
+            looked_at::with_a_failing_write(a, call)?,
+        )?;
+    }
+    faulty::tell_faulty(a, answers)?;
+    faulty::tell_many(a, answers)
+}
+
 fn tell_texts(a: Global, answers: &mut String) -> Result<(), AllocError> {
     tell(answers, "a reader with files")?;
     answers.push_str(held::by_a_reader(a)?.as_str())?;
@@ -221,6 +265,7 @@ pub(crate) fn answers(alloc: Global) -> Result<String, AllocError> {
     tell_words(alloc, &mut answers)?;
     tell_commands(alloc, &mut answers)?;
     tell_faults(alloc, &mut answers)?;
+    tell_looked_at(alloc, &mut answers)?;
     tell_texts(alloc, &mut answers)?;
     tell_read(alloc, &mut answers)?;
     Ok(answers)

@@ -1,0 +1,2 @@
+-- what an error is told as
+pub mod FaultLine
