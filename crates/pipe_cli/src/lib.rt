@@ -5,8 +5,11 @@
 #![tactic(auto)]
 
 mod answer;
+mod check_command;
 mod program;
+mod run_command;
 mod status;
+mod streams;
 mod words;
 
 pub use pipe_job::{Job, JobError, head_line, job_of, read_job, row_line};

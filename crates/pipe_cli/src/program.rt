@@ -1,135 +1,23 @@
-//! The top call: the words are read, the job is read to its end, and its rows are written, or a refusal is noted.
+//! The top call: the words are read, what they ask for is done, and where it is refused, why is noted.
 
-ghost use Rattle.std.specs.Prelude.{◌≡◌, ◌≢◌, ◌≤◌, ◌↔◌, ◌∷◌, [], length, IfOk, IfErr, IfSome, IsErrOf, IsSome, OnOk, OnErr, None};
-ghost use Rattle.std.specs.Option.{option_copied};
+ghost use Rattle.std.specs.Prelude.{◌≡◌, ◌≢◌, ◌↔◌, ◌∷◌, [], IfErr, IsErrOf, IsSome, OnOk, None};
 ghost use Rattle.pipe_job.specs.Reading.{ReadsNoJob, ReadsNothing};
-ghost use Rattle.pipe_outside.specs.Outside.{ReadFails, WriteFails, Writes, WritesFront};
-ghost use Rattle.pipe_outside.specs.Whole.{IsAll};
-ghost use Rattle.pipe_cli.specs.Answer.{RefusedAs, SoundJob};
-ghost use Rattle.pipe_cli.specs.Headline.{IsAnswer, IsGood, IsOther, IsTooLong, IsTooMany, IsUnbuilt, IsWhole, Passed, Ran, WasRead, Wrote, WroteFront, limit};
+ghost use Rattle.pipe_outside.specs.Outside.{ReadFails, WriteFails};
+ghost use Rattle.pipe_cli.specs.Answer.{RefusedAs};
+ghost use Rattle.pipe_cli.specs.Headline.{IsGood, IsOther, IsTooLong, IsTooMany, IsUnbuilt, WasRead, Wrote, WroteFront};
 ghost use Rattle.pipe_cli.specs.Noted.{Noted, NotedFault};
-ghost use Rattle.pipe_cli.specs.Refused.{CheckedLeft, OfText, OfWords, ReadingLeft, ReadingOf, TextOf, UnbuiltOf, WritingLeft, WritingOf};
-ghost use Rattle.pipe_cli.specs.Status.{IsFixed, OneOf, line_of, status_line, status_of};
-ghost use Rattle.pipe_cli.specs.Words.{IfJob, IsJob, IsText, Opened, request};
+ghost use Rattle.pipe_cli.specs.Refused.{OfWords, ReadingOf, TextOf, UnbuiltOf, WritingOf};
+ghost use Rattle.pipe_cli.specs.Status.{IsFixed, OneOf, line_of, status_line};
+ghost use Rattle.pipe_cli.specs.Words.{IfJob, IsJob, IsText, request};
 
-use crate::answer::{answer, check};
+use crate::check_command::check_left;
+use crate::run_command::run_left;
 use crate::status::Refusal;
-use crate::words::{Command, command_of, help, ok, version};
+use crate::streams::{open, tell};
+use crate::words::{Command, command_of, help, version};
 use pipe_frame::{Gate, StopCheck, Text};
-use pipe_outside::{JobReader, RowWriter, WholeError, read_whole, write_whole};
+use pipe_outside::{JobReader, RowWriter, write_whole};
 use std::alloc::Global;
-
-/// All bytes that are left.
-#[tactic(auto, using(crate::proofs::ProgramLemmas::whole_read))]
-fn bytes_left<R: JobReader>(alloc: Global, input: &mut R) -> Result<Vec<u8>, Refusal>
-    ensures all { IfOk result (λ bytes. IsAll bytes.items (R.seen input.old)) }
-    ensures short { IfOk result (λ bytes. length bytes.items ≤ limit) }
-    ensures read { OnOk result (IsWhole (R.seen input.old).left (R.seen input.new)) }
-    ensures reading { IfErr result (λ r. ReadingLeft r (R.seen input.old) (R.seen input.new)) }
-    ensures only { IfErr result (λ r. OneOf (2 ∷ 3 ∷ 10 ∷ []) (status_of r)) }
-{
-    match read_whole(alloc, input) {
-        Ok(bytes) => Ok(bytes),
-        Err(WholeError::Failed) => Err(Refusal::ReadFault),
-        Err(WholeError::TooLong) => Err(Refusal::TooLong),
-        Err(WholeError::Memory) => Err(Refusal::Memory),
-    }
-}
-
-/// The text of the rows of the job that is left, or the reason why there is none.
-#[tactic(auto, using(crate::proofs::ProgramLemmas::answer_told, crate::proofs::ProgramLemmas::text_told))]
-fn text_left<R: JobReader>(alloc: Global, input: &mut R) -> Result<Vec<u8>, Refusal>
-    ensures read { OnOk result (IsWhole (R.seen input.old).left (R.seen input.new)) }
-    ensures answer { IfOk result (λ text. IsAnswer text.items (R.seen input.old).left) }
-    ensures reading { IfErr result (λ r. ReadingLeft r (R.seen input.old) (R.seen input.new)) }
-    ensures text { IfErr result (λ r. OfText r (R.seen input.old).left) }
-    ensures only { IfErr result (λ r. OneOf (2 ∷ 3 ∷ 4 ∷ 5 ∷ 6 ∷ 7 ∷ 10 ∷ 11 ∷ []) (status_of r)) }
-{
-    let bytes = bytes_left(alloc, input)?;
-    let text = answer(alloc, bytes)?;
-    Ok(text)
-}
-
-/// Looks at the job that is left.
-#[tactic(auto, using(crate::proofs::ProgramLemmas::sound_told, crate::proofs::ProgramLemmas::text_told, crate::proofs::ProgramLemmas::caused_only))]
-fn look_at<R: JobReader>(alloc: Global, input: &mut R) -> Result<(), Refusal>
-    ensures read { OnOk result (IsWhole (R.seen input.old).left (R.seen input.new)) }
-    ensures sound { OnOk result (IfSome (R.seen input.old).left SoundJob) }
-    ensures reading { IfErr result (λ r. ReadingLeft r (R.seen input.old) (R.seen input.new)) }
-    ensures text { IfErr result (λ r. OfText r (R.seen input.old).left) }
-    ensures only { IfErr result (λ r. OneOf (2 ∷ 3 ∷ 4 ∷ 5 ∷ 6 ∷ 7 ∷ 10 ∷ []) (status_of r)) }
-{
-    let bytes = bytes_left(alloc, input)?;
-    check(alloc, bytes)?;
-    Ok(())
-}
-
-/// Writes all of a text.
-fn tell<W: RowWriter>(out: &mut W, text: &[u8]) -> Result<(), Refusal>
-    ensures told { OnOk result (Writes text.now (W.seen out.old) (W.seen out.new)) }
-    ensures front { OnErr result (WritesFront text.now (W.seen out.old) (W.seen out.new)) }
-    ensures err { IfErr result (λ refusal. refusal ≡ Refusal.WriteFault) }
-    ensures cause { OnErr result (WriteFails (W.seen out.old) (W.seen out.new)) }
-{
-    match write_whole(out, text) {
-        Ok(()) => Ok(()),
-        Err(_) => Err(Refusal::WriteFault),
-    }
-}
-
-/// Reads the job that is left, and writes its rows.
-#[tactic(auto, using(crate::proofs::ProgramLemmas::ran_told, crate::proofs::ProgramLemmas::part_told))]
-fn run_left<R: JobReader, W: RowWriter>(
-    alloc: Global,
-    input: &mut R,
-    out: &mut W,
-) -> Result<(), Refusal>
-    ensures read { OnOk result (IsWhole (R.seen input.old).left (R.seen input.new)) }
-    ensures ran { OnOk result (Ran (R.seen input.old).left (W.seen out.old) (W.seen out.new)) }
-    ensures reading { IfErr result (λ r. ReadingLeft r (R.seen input.old) (R.seen input.new)) }
-    ensures text { IfErr result (λ r. OfText r (R.seen input.old).left) }
-    ensures writing { IfErr result (λ r. WritingLeft r (R.seen input.old) (W.seen out.old) (W.seen out.new)) }
-    ensures known { IsErrOf result Refusal.BadWords → ⊥ }
-{
-    let text = text_left(alloc, input)?;
-    tell(out, text.as_slice())
-}
-
-/// Looks at the job that is left, and writes that it is good.
-#[tactic(auto, using(crate::proofs::ProgramLemmas::passed_told, crate::proofs::ProgramLemmas::passed_part_told))]
-fn check_left<R: JobReader, W: RowWriter>(
-    alloc: Global,
-    input: &mut R,
-    out: &mut W,
-) -> Result<(), Refusal>
-    ensures read { OnOk result (IsWhole (R.seen input.old).left (R.seen input.new)) }
-    ensures passed { OnOk result (Passed (R.seen input.old).left (W.seen out.old) (W.seen out.new)) }
-    ensures reading { IfErr result (λ r. ReadingLeft r (R.seen input.old) (R.seen input.new)) }
-    ensures text { IfErr result (λ r. OfText r (R.seen input.old).left) }
-    ensures writing { IfErr result (λ r. CheckedLeft r (R.seen input.old) (W.seen out.old) (W.seen out.new)) }
-    ensures known { IsErrOf result Refusal.BadWords → ⊥ }
-    ensures built { IsErrOf result Refusal.Unbuilt → ⊥ }
-{
-    look_at(alloc, input)?;
-    tell(out, ok().as_bytes())
-}
-
-/// Makes what stands under a name, where there is one, what is left to read.
-fn open<R: JobReader>(name: Option<&Text>, input: &mut R) -> Result<(), Refusal>
-    ensures opened { OnOk result (Opened (option_copied name.entry) (R.seen input.old) (R.seen input.new)) }
-    ensures err { IfErr result (λ refusal. refusal ≡ Refusal.ReadFault) }
-    ensures cause { OnErr result (ReadFails (R.seen input.old) (R.seen input.new)) }
-    ensures taken { (R.seen input.old).taken ≤ (R.seen input.new).taken }
-    ensures faults { (R.seen input.old).faults ≤ (R.seen input.new).faults }
-{
-    match name {
-        Some(name) => match input.open_named(name.as_bytes()) {
-            Ok(()) => Ok(()),
-            Err(_) => Err(Refusal::ReadFault),
-        },
-        None => Ok(()),
-    }
-}
 
 /// Does what the words ask for.
 #[tactic(auto, using(crate::proofs::ProgramLemmas::unbuilt_run))]

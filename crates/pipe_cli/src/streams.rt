@@ -1,0 +1,62 @@
+//! What each command does with the input and the output: a job is read to its end, and a text is written whole.
+
+ghost use Rattle.std.specs.Prelude.{◌≡◌, ◌≤◌, ◌∷◌, [], length, IfOk, IfErr, OnOk, OnErr};
+ghost use Rattle.std.specs.Option.{option_copied};
+ghost use Rattle.pipe_outside.specs.Outside.{ReadFails, WriteFails, Writes, WritesFront};
+ghost use Rattle.pipe_outside.specs.Whole.{IsAll};
+ghost use Rattle.pipe_cli.specs.Headline.{IsWhole, limit};
+ghost use Rattle.pipe_cli.specs.Refused.{ReadingLeft};
+ghost use Rattle.pipe_cli.specs.Status.{OneOf, status_of};
+ghost use Rattle.pipe_cli.specs.Words.{Opened};
+
+use crate::status::Refusal;
+use pipe_frame::Text;
+use pipe_outside::{JobReader, RowWriter, WholeError, read_whole, write_whole};
+use std::alloc::Global;
+
+/// All bytes that are left.
+#[tactic(auto, using(crate::proofs::ProgramLemmas::whole_read))]
+pub(crate) fn bytes_left<R: JobReader>(alloc: Global, input: &mut R) -> Result<Vec<u8>, Refusal>
+    ensures all { IfOk result (λ bytes. IsAll bytes.items (R.seen input.old)) }
+    ensures short { IfOk result (λ bytes. length bytes.items ≤ limit) }
+    ensures read { OnOk result (IsWhole (R.seen input.old).left (R.seen input.new)) }
+    ensures reading { IfErr result (λ r. ReadingLeft r (R.seen input.old) (R.seen input.new)) }
+    ensures only { IfErr result (λ r. OneOf (2 ∷ 3 ∷ 10 ∷ []) (status_of r)) }
+{
+    match read_whole(alloc, input) {
+        Ok(bytes) => Ok(bytes),
+        Err(WholeError::Failed) => Err(Refusal::ReadFault),
+        Err(WholeError::TooLong) => Err(Refusal::TooLong),
+        Err(WholeError::Memory) => Err(Refusal::Memory),
+    }
+}
+
+/// Makes what stands under a name, where there is one, what is left to read.
+pub(crate) fn open<R: JobReader>(name: Option<&Text>, input: &mut R) -> Result<(), Refusal>
+    ensures opened { OnOk result (Opened (option_copied name.entry) (R.seen input.old) (R.seen input.new)) }
+    ensures err { IfErr result (λ refusal. refusal ≡ Refusal.ReadFault) }
+    ensures cause { OnErr result (ReadFails (R.seen input.old) (R.seen input.new)) }
+    ensures taken { (R.seen input.old).taken ≤ (R.seen input.new).taken }
+    ensures faults { (R.seen input.old).faults ≤ (R.seen input.new).faults }
+{
+    match name {
+        Some(name) => match input.open_named(name.as_bytes()) {
+            Ok(()) => Ok(()),
+            Err(_) => Err(Refusal::ReadFault),
+        },
+        None => Ok(()),
+    }
+}
+
+/// Writes all of a text.
+pub(crate) fn tell<W: RowWriter>(out: &mut W, text: &[u8]) -> Result<(), Refusal>
+    ensures told { OnOk result (Writes text.now (W.seen out.old) (W.seen out.new)) }
+    ensures front { OnErr result (WritesFront text.now (W.seen out.old) (W.seen out.new)) }
+    ensures err { IfErr result (λ refusal. refusal ≡ Refusal.WriteFault) }
+    ensures cause { OnErr result (WriteFails (W.seen out.old) (W.seen out.new)) }
+{
+    match write_whole(out, text) {
+        Ok(()) => Ok(()),
+        Err(_) => Err(Refusal::WriteFault),
+    }
+}
