@@ -208,7 +208,9 @@ const SCAN: &str = r#"{"node":"DataFrameScan","frame":0,"columns":null}"#;
 
 /// A job of so many scans, the first of which is the root.
 fn scans(alloc: Global, count: u32) -> Result<String, AllocError> {
-    let mut text = format!(in alloc; "{{\"version\":1,{GOOD},\"frames\":[{K}],\"root\":0,\"plan\":[")?;
+    let mut text = format!(in alloc;
+        "{{\"version\":1,{GOOD},\"frames\":[{K}],\"root\":0,\"plan\":["
+    )?;
     for place in 0..count {
         text.push_str(if place == 0 { "" } else { "," })?;
         text.push_str(SCAN)?;
@@ -219,16 +221,6 @@ fn scans(alloc: Global, count: u32) -> Result<String, AllocError> {
 
 /// How jobs end at the most nodes of a plan.
 pub(crate) fn tell_many(alloc: Global, answers: &mut String) -> Result<(), AllocError> {
-    tell_both(
-        alloc,
-        answers,
-        "4096 scans",
-        scans(alloc, 4096)?.as_str(),
-    )?;
-    tell_both(
-        alloc,
-        answers,
-        "4097 scans",
-        scans(alloc, 4097)?.as_str(),
-    )
+    tell_both(alloc, answers, "4096 scans", scans(alloc, 4096)?.as_str())?;
+    tell_both(alloc, answers, "4097 scans", scans(alloc, 4097)?.as_str())
 }
