@@ -1,0 +1,29 @@
+//! Works sorts out: prints what each shows, and the rows that it ends with, over two lanes.
+#![tactic(auto)]
+
+mod flags;
+mod lanes;
+mod many;
+mod rows;
+mod slices;
+mod told;
+mod types;
+
+use std::alloc::{AllocError, Global};
+use std::io;
+
+/// What each case shows, and its answer.
+fn answers(alloc: Global) -> Result<String, AllocError> {
+    let mut answers = String::new(alloc);
+    rows::tell(alloc, &mut answers)?;
+    types::tell(alloc, &mut answers)?;
+    flags::tell(alloc, &mut answers)?;
+    slices::tell(alloc, &mut answers)?;
+    many::tell(alloc, &mut answers)?;
+    Ok(answers)
+}
+
+fn main(rt: HostRuntime) -> io::Result<()> {
+    let answers = answers(rt.alloc())?;
+    print!(rt; "{answers}")
+}
