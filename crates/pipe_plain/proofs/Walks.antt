@@ -25,7 +25,7 @@ different n m h =
     in split (eqb n m) refl
 
 -- a walk has nothing at the nodes that it hasn't come to
-walk-past : {X : Type 0} (none : X) (f : (ℕ → X) → ℕ → X) (k n : ℕ) → k ≤ n → walk none f k n ≡ none
+pub walk-past : {X : Type 0} (none : X) (f : (ℕ → X) → ℕ → X) (k n : ℕ) → k ≤ n → walk none f k n ≡ none
 walk-past none f zero n le = refl
 walk-past none f (suc k) n le = let e = different n k (λ same. omega arith) in rw e (walk-past none f k n (omega arith))
 
@@ -47,7 +47,7 @@ map_range g h a zero e = refl
 map_range g h a (suc m) e = let here = e a (omega arith) in let rest = map_range g h (a + 1) m (λ i lt. e i (omega arith)) in rw (here, rest) refl
 
 -- one node more
-table-more : {X : Type 0} (none : X) (f : (ℕ → X) → ℕ → X) (k : ℕ) → table none f (k + 1) ≡ table none f k ++ f (walk none f k) k ∷ []
+pub table-more : {X : Type 0} (none : X) (f : (ℕ → X) → ℕ → X) (k : ℕ) → table none f (k + 1) ≡ table none f k ++ f (walk none f k) k ∷ []
 table-more none f k =
     let self : eqb k k ≡ true = (Decides-eqb k k).1 refl in
     let low : map (walk none f (suc k)) (range_with_len 0 k) ≡ table none f k = map_range (walk none f (suc k)) (walk none f k) 0 k (λ i lt. let e = different i k (λ same. omega arith) in rw e refl) in

@@ -71,7 +71,7 @@ fn frame_rows(alloc: Global, frames: &[DataFrame], frame: u32) -> Result<List<Ro
 }
 
 /// Of each row the cells named.
-fn named_rows(
+pub fn named_rows(
     alloc: Global,
     schema: &[Field],
     names: &[Text],
@@ -87,7 +87,7 @@ fn named_rows(
 }
 
 /// The rows of a scan.
-fn scanned_rows(
+pub fn scanned_rows(
     alloc: Global,
     frames: &[DataFrame],
     frame: u32,
@@ -108,7 +108,7 @@ fn scanned_rows(
 }
 
 /// Of each row the cells of expressions.
-fn selected_rows(
+pub fn selected_rows(
     alloc: Global,
     schema: &[Field],
     exprs: &[NamedExpr],
@@ -125,7 +125,7 @@ fn selected_rows(
 }
 
 /// Each row with the cells of expressions.
-fn stacked_rows(
+pub fn stacked_rows(
     alloc: Global,
     schema: &[Field],
     exprs: &[NamedExpr],
@@ -142,7 +142,7 @@ fn stacked_rows(
 }
 
 /// Adds copies of some rows.
-fn push_rows(made: &mut List<Row>, rows: &[Row]) -> Result<(), AllocError>
+pub fn push_rows(made: &mut List<Row>, rows: &[Row]) -> Result<(), AllocError>
     ensures { OnOk result (made.new ≡ made.old ++ rows.now) }
 {
     for row in rows {
@@ -163,7 +163,7 @@ fn united_rows(alloc: Global, tables: &[List<Row>], inputs: &[u32]) -> Result<Li
 }
 
 /// The rows of a sort.
-fn sliced_rows(
+pub fn sliced_rows(
     alloc: Global,
     schema: &[Field],
     by: &[Text],

@@ -1,0 +1,42 @@
+-- The stages that the code's ones are.
+use Rattle.std.specs.Prelude.{◌≡◌, ℕ, List, [], ◌∷◌, map, slice_index_or}
+use Rattle.pipe_frame.specs.Rows.{Row}
+use Rattle.pipe_frame.specs.declared.field.Field.{Field}
+use Rattle.pipe_expr.specs.Formula.{formula_of, named_formula_of}
+use Rattle.pipe_expr.specs.Projections.{row_named, select_row, hstack_row, function_rows}
+use Rattle.pipe_events.specs.Stages as stages
+use Rattle.pipe_events.specs.PlanStages.{filtered_row, one_row, sorted_slice}
+use Rattle.pipe_plain.specs.Sides.{join_of}
+use Rattle.pipe_stages.specs.declared.stage.RowOp.{RowOp}
+use Rattle.pipe_stages.specs.declared.stage.RowOp.TheVariants as op
+use Rattle.pipe_stages.specs.declared.stage.JoinStage.{JoinStage}
+use Rattle.pipe_stages.specs.declared.stage.Stage.{Stage}
+use Rattle.pipe_stages.specs.declared.stage.Stage.TheVariants as code
+
+-- what goes row by row, over an input of a schema
+abbrev pub op_value : List Field → RowOp → Row → List Row
+op_value schema (op.Filter predicate) = filtered_row (formula_of predicate.now) schema
+op_value schema (op.Columns columns) = one_row (row_named schema columns.now)
+op_value schema (op.Select exprs) = one_row (select_row schema (map named_formula_of exprs.now))
+op_value schema (op.HStack exprs) = one_row (hstack_row schema (map named_formula_of exprs.now))
+op_value schema (op.Function function) = function_rows function.now schema
+
+abbrev pub join_value : JoinStage → stages.JoinStage
+join_value j = record {
+  join = join_of j.sides;
+  right_built = j.right_built;
+  probe = j.probe;
+  build = j.build;
+}
+
+abbrev pub stage_value : Stage → stages.Stage
+stage_value (code.Scan rows) = stages.Scan rows.now
+stage_value (code.Each input schema row_op) = stages.Each input (op_value schema.now row_op)
+stage_value (code.Union inputs) = stages.Union inputs.now
+stage_value (code.Sort input schema by options) =
+    stages.Sort input (sorted_slice schema.now by.now options.now)
+stage_value (code.Joined j) = stages.Joined (join_value j)
+
+-- the stage of a number, a union of nothing where there is none
+abbrev pub stage_in : List Stage → ℕ → stages.Stage
+stage_in xs k = slice_index_or (map stage_value xs) k (stages.Union [])
