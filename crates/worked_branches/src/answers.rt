@@ -1,0 +1,98 @@
+//! The answer to a plan: its branches, each as its text and as its numbers.
+
+use pipe_branches::{Branch, SinkAt, SinkNode, cut, explain};
+use pipe_check::{CheckedPlan, check_plan};
+use pipe_plan::Arena;
+use std::alloc::{AllocError, Global};
+use worked_builders::{WrittenPlan, plan_of};
+
+/// Where a sink stands.
+fn place_text(alloc: Global, at: SinkAt) -> Result<String, AllocError> {
+    match at {
+        SinkAt::Ordered => String::from_str(alloc, "ordered"),
+        SinkAt::Sort(node) => format!(in alloc; "sort {node}"),
+        SinkAt::Build(node) => format!(in alloc; "build {node}"),
+    }
+}
+
+/// A sink: its number, where it stands, and behind how many operators.
+fn sink_text(alloc: Global, sink: &SinkNode) -> Result<String, AllocError> {
+    let count = sink.count;
+    let offset = sink.offset;
+    let place = place_text(alloc, sink.at)?;
+    format!(in alloc; "; sink {count} {place} after {offset}")
+}
+
+/// A branch by its numbers.
+fn branch_line(alloc: Global, branch: &Branch) -> Result<String, AllocError> {
+    let source = branch.source;
+    let mut line = format!(in alloc; "  from {source} through")?;
+    for n in branch.operators.as_slice() {
+        line.push_str(format!(in alloc; " {n}")?.as_str())?;
+    }
+    for sink in branch.sinks.as_slice() {
+        line.push_str(sink_text(alloc, sink)?.as_str())?;
+    }
+    line.push_str("\n")?;
+    Ok(line)
+}
+
+/// The texts of a plan's branches, one a line.
+fn push_texts(alloc: Global, answers: &mut String, plan: &CheckedPlan) -> Result<(), AllocError> {
+    let texts = explain(alloc, plan)?;
+    for text in texts.as_slice() {
+        answers.push_str(text.as_str())?;
+        answers.push_str("\n")?;
+    }
+    Ok(())
+}
+
+/// A plan's branches by their numbers, one a line.
+fn push_branches(
+    alloc: Global,
+    answers: &mut String,
+    plan: &CheckedPlan,
+) -> Result<(), AllocError> {
+    let branches = cut(alloc, plan)?;
+    for branch in branches.as_slice() {
+        answers.push_str(branch_line(alloc, branch)?.as_str())?;
+    }
+    Ok(())
+}
+
+/// A plan's branches, where it has no fault.
+fn push_answer(
+    alloc: Global,
+    answers: &mut String,
+    arena: &Arena,
+    root: u32,
+) -> Result<(), AllocError> {
+    match check_plan(alloc, arena, root) {
+        Ok(plan) => {
+            push_texts(alloc, answers, &plan)?;
+            push_branches(alloc, answers, &plan)
+        }
+        Err(_error) => answers.push_str("refused\n"),
+    }
+}
+
+/// Builds a plan, and appends what it shows and its branches.
+fn tell(alloc: Global, answers: &mut String, plan: &WrittenPlan) -> Result<(), AllocError> {
+    let built = plan_of(alloc, plan.nodes)?;
+    answers.push_str("# ")?;
+    answers.push_str(plan.shows)?;
+    answers.push_str("\n")?;
+    push_answer(alloc, answers, &built.arena, built.root)
+}
+
+/// Appends what some plans show, and their branches.
+pub(crate) fn tell_plans(
+    alloc: Global,
+    answers: &mut String,
+    plans: &[WrittenPlan],
+) -> Result<(), AllocError> {
+    for plan in plans {
+        tell(alloc, answers, plan)?;
+    }
+    Ok(())
+}
