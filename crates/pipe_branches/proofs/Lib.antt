@@ -12,3 +12,4 @@ pub mod Covers
 pub mod Ends
 pub mod Readers
 pub mod Firsts
+pub mod Chains

@@ -1,14 +1,17 @@
 -- What whoever runs the branches of a plan needs of them, as statements.
-use Rattle.std.specs.Prelude.{◌≡◌, ℕ, ◌<◌, List, [], ◌∷◌, Bool, true, false, not, ◌==◌, ◌||◌, if◌then◌else◌, length}
-use Rattle.std.specs.List.{list_any, flat_map}
+use Rattle.std.specs.Prelude.{◌≡◌, ℕ, ◌<◌, List, [], ◌∷◌, Bool, true, false, not, ◌==◌, ◌||◌, ◌&&◌, ◌++◌, if◌then◌else◌, length, map, drop}
+use Rattle.std.specs.List.{list_any, list_all, flat_map}
 use Rattle.pipe_plan.specs.Node.{Node}
+use Rattle.pipe_plan.specs.Node as node
 use Rattle.pipe_plan.specs.Plan.{Plan}
 use Rattle.pipe_plan.specs.Under.{inputs_of, node_at, is_under}
 use Rattle.pipe_plan.specs.Faults.{IsWellFormed}
 use Rattle.pipe_branches.specs.declared.branch.SinkAt.{SinkAt}
+use Rattle.pipe_branches.specs.declared.branch.SinkAt.TheVariants as at
 use Rattle.pipe_branches.specs.declared.branch.SinkNode.{SinkNode}
 use Rattle.pipe_branches.specs.declared.branch.Branch.{Branch}
-use Rattle.pipe_branches.specs.Branches.{is_ordered, is_sort, is_build, add_named, number_of, branches}
+use Rattle.pipe_branches.specs.Branches.{is_ordered, is_sort, is_build, add_named, number_of, branches, built_side, probed_side}
+use Rattle.pipe_branches.specs.Texts.{between}
 
 -- ---- each node is on a branch
 
@@ -103,3 +106,73 @@ abbrev pub EveryBuildComesFirst : Type 0
 EveryBuildComesFirst =
     (plan : Plan) (root n : ℕ) → IsWellFormed plan root
     → builds_first n (branches plan root) ≡ true
+
+-- ---- a branch is a chain of readers
+
+-- what a branch's rows come to: an operator, or a sink
+pub data Stop : Type 0 where
+  Operator : (n : ℕ) → Stop
+  Sink : (sink : SinkAt) → Stop
+
+-- a branch's stops from so many operators on: each sink behind the operators that stand before it
+abbrev pub stops_from : List ℕ → ℕ → List SinkNode → List Stop
+stops_from operators first [] = map Operator (drop first operators)
+stops_from operators first (sink ∷ sinks) =
+    map Operator (between operators first sink.offset)
+    ++ Sink sink.at ∷ stops_from operators sink.offset sinks
+
+-- the inputs whose rows go through a node: of a join those of the side that probes
+abbrev pub through_inputs : Node → List ℕ
+through_inputs (node.DataFrameScan frame columns) = []
+through_inputs (node.Filter input predicate) = input ∷ []
+through_inputs (node.SimpleProjection input columns) = input ∷ []
+through_inputs (node.Select input exprs) = input ∷ []
+through_inputs (node.HStack input exprs) = input ∷ []
+through_inputs (node.MapFunction input function) = input ∷ []
+through_inputs (node.Union inputs) = inputs
+through_inputs (node.Join left right left_on right_on options) =
+    probed_side left right options ∷ []
+through_inputs (node.Sort input by options) = input ∷ []
+
+-- the side of a join that is built
+abbrev pub built_inputs : Node → List ℕ
+built_inputs (node.DataFrameScan frame columns) = []
+built_inputs (node.Filter input predicate) = []
+built_inputs (node.SimpleProjection input columns) = []
+built_inputs (node.Select input exprs) = []
+built_inputs (node.HStack input exprs) = []
+built_inputs (node.MapFunction input function) = []
+built_inputs (node.Union inputs) = []
+built_inputs (node.Join left right left_on right_on options) =
+    built_side left right options ∷ []
+built_inputs (node.Sort input by options) = []
+
+-- whether a stop reads node n: the root's sink reads the root
+abbrev pub reads : List Node → ℕ → ℕ → Stop → Bool
+reads nodes root n (Operator m) = list_any (is_number n) (through_inputs (node_at nodes m))
+reads nodes root n (Sink at.Ordered) = root == n
+reads nodes root n (Sink (at.Sort m)) = list_any (is_number n) (through_inputs (node_at nodes m))
+reads nodes root n (Sink (at.Build m)) = list_any (is_number n) (built_inputs (node_at nodes m))
+
+-- the node whose rows are there behind a stop
+abbrev pub node_behind : ℕ → Stop → ℕ
+node_behind n (Operator m) = m
+node_behind n (Sink at.Ordered) = n
+node_behind n (Sink (at.Sort m)) = m
+node_behind n (Sink (at.Build m)) = m
+
+-- each stop reads the node before it
+abbrev pub is_chain : List Node → ℕ → ℕ → List Stop → Bool
+is_chain nodes root n [] = true
+is_chain nodes root n (stop ∷ stops) =
+    reads nodes root n stop && is_chain nodes root (node_behind n stop) stops
+
+abbrev pub is_chained : List Node → ℕ → Branch → Bool
+is_chained nodes root branch =
+    is_chain nodes root branch.source (stops_from branch.operators 0 branch.sinks)
+
+-- the operators and sinks of each branch are the chain of what reads its source, and so on upwards
+abbrev pub EveryBranchIsAChain : Type 0
+EveryBranchIsAChain =
+    (plan : Plan) (root : ℕ) → IsWellFormed plan root
+    → list_all (is_chained plan.nodes root) (branches plan root) ≡ true

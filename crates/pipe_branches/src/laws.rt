@@ -1,6 +1,6 @@
 //! The laws of branches.
 
-ghost use Rattle.pipe_branches.specs.Laws.{EveryNodeIsOnABranch, EveryBuildComesFirst, SomeBranchEndsAtTheRoot, SinksAreNumberedAsNamed};
+ghost use Rattle.pipe_branches.specs.Laws.{EveryNodeIsOnABranch, EveryBuildComesFirst, EveryBranchIsAChain, SomeBranchEndsAtTheRoot, SinksAreNumberedAsNamed};
 
 /// Each node under the root of a well-formed plan is on a branch: it is its source, a scan that its source reads or
 /// one of its operators, or one of its sinks is the node's.
@@ -22,4 +22,10 @@ pub fn sinks_are_numbered_as_named()
 /// Each branch of a well-formed plan that feeds the build sink of a join stands before the first one that probes it.
 pub fn every_build_comes_first()
     ensures { EveryBuildComesFirst }
+{}
+
+/// Each branch of a well-formed plan is a chain: its first operator or sink reads its source, and each next one the node
+/// before it; a join as an operator reads the side that probes, its build sink the side that is built.
+pub fn every_branch_is_a_chain()
+    ensures { EveryBranchIsAChain }
 {}

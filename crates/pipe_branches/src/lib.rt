@@ -16,6 +16,6 @@ mod words;
 pub use branch::{Branch, SinkAt, SinkNode};
 pub use checked::{cut, explain};
 pub use laws::{
-    every_build_comes_first, every_node_is_on_a_branch, sinks_are_numbered_as_named,
-    some_branch_ends_at_the_root,
+    every_branch_is_a_chain, every_build_comes_first, every_node_is_on_a_branch,
+    sinks_are_numbered_as_named, some_branch_ends_at_the_root,
 };
