@@ -14,7 +14,7 @@ use Rattle.pipe_branches.specs.declared.above.Step.TheVariants as step
 use Rattle.pipe_branches.specs.declared.branch.SinkAt.TheVariants as at
 use Rattle.pipe_branches.specs.declared.turn.Turn.{Turn}
 use Rattle.pipe_branches.specs.Branches.{Path, paths_of, through, closed_by, join_paths, plan_paths, numbered_paths}
-use Rattle.pipe_branches.specs.Climbing.{Cutting, put_step, drop_step, take_paths, goes_down, is_down, is_step_in, HasRoom, turn_at}
+use Rattle.pipe_branches.specs.Climbing.{start_of, Cutting, put_step, drop_step, take_paths, goes_down, is_down, is_step_in, HasRoom, turn_at}
 use Rattle.pipe_branches.proofs.Takes.{take-append, drop-operator, drop-build, take-join, take-top, room-after}
 use Rattle.pipe_branches.proofs.Down.{down-there, IsTurn, turn-is}
 
@@ -75,9 +75,6 @@ inputs-taken nodes c first last d n inputs k ge e rest is =
     is ∙ ap drop_step (all ∙ ap (λ x. take_paths x (flat_map f inputs)) e) ∙ drop-operator n c (flat_map f inputs)
 
 -- ---- the whole
-
-abbrev pub start_of : ℕ → Cutting
-start_of nodes = record { above = []; named = record { sinks = []; nodes = nodes }; branches = [] }
 
 pub start-room : (c : Cutting) (nodes : List IR) (root : ℕ) → c ≡ start_of (length nodes) → goes_down (map node_of nodes) root ≡ true → length nodes < 2 ^ 30 → HasRoom c root
 start-room c nodes root e h few = room-moved (start_of (length nodes)) c root e (record {

@@ -53,6 +53,14 @@ pub record Cutting : Type 0 where
   pub named : Named
   pub branches : List Branch
 
+-- nothing is cut of a plan of so many nodes
+abbrev pub start_of : ℕ → Cutting
+start_of nodes = record {
+  above = [];
+  named = record { sinks = []; nodes = nodes };
+  branches = [];
+}
+
 -- one more branch
 abbrev pub add_path : Cutting → Path → Cutting
 add_path cutting path = record cutting {

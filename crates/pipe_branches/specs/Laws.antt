@@ -24,7 +24,8 @@ is_sink_at_node n sink = is_at_node n sink.at
 abbrev pub is_number : ℕ → ℕ → Bool
 is_number n m = m == n
 
--- a node is a branch's source, a scan that its source reads, one of its operators, or has one of its sinks
+-- a node is a branch's source, a scan that its source reads, one of its operators, or has one of its
+-- sinks
 abbrev pub is_on : List Node → ℕ → Branch → Bool
 is_on nodes n branch =
     (branch.source == n) || list_any (is_number n) (inputs_of (node_at nodes branch.source))
@@ -60,7 +61,8 @@ SomeBranchEndsAtTheRoot =
 abbrev pub sinks_of : Branch → List SinkNode
 sinks_of branch = branch.sinks
 
--- the sinks of a plan, in the order in which its branches, in turn and each from its source on, name them
+-- the sinks of a plan, in the order in which its branches, in turn and each from its source on, name
+-- them
 abbrev pub all_sinks : Plan → ℕ → List SinkNode
 all_sinks plan root = flat_map sinks_of (branches plan root)
 

@@ -4,7 +4,7 @@ ghost use Rattle.std.specs.Prelude.{◌≡◌, ◌<◌, ◌^◌, [], ◌∷◌, 
 ghost use Rattle.std.specs.List.{list_all, flat_map};
 ghost use Rattle.pipe_plan.specs.Node.{node_of};
 ghost use Rattle.pipe_branches.specs.Branches.{path_from, paths_of, plan_paths, numbered_paths, join_paths, union_paths, is_scan_at, through};
-ghost use Rattle.pipe_branches.specs.Climbing.{Named, Cutting, HasRoom, is_step_in, put_step, drop_step, take_path, take_paths, goes_down, is_down};
+ghost use Rattle.pipe_branches.specs.Climbing.{start_of, HasRoom, is_step_in, put_step, drop_step, take_path, take_paths, goes_down, is_down};
 
 use crate::above::{Above, Step};
 use crate::branch::Branch;
@@ -48,7 +48,7 @@ impl Cutter {
     /// Nothing is cut of a plan of so many nodes.
     fn new(alloc: Global, nodes: usize) -> Result<Cutter, AllocError>
         requires { nodes < 2 ^ 30 }
-        ensures { IfOk result (λ cutter. cutter ≡ record { above = []; named = record { sinks = []; nodes = nodes }; branches = [] }) }
+        ensures { IfOk result (λ cutter. cutter ≡ start_of nodes) }
     {
         let naming = Naming::new(alloc, nodes)?;
         Ok(Cutter {
@@ -189,7 +189,8 @@ fn visit_union(
     requires down { list_all (is_down (map node_of nodes.now) n) inputs.now ≡ true }
     ensures { let nodes = map node_of nodes.now in
         let are_scans = list_all (is_scan_at nodes) inputs.now in
-        OnOk result (cutter.new ≡ take_paths cutter.old (union_paths are_scans n (paths_of nodes) inputs.now)) }
+        let paths = union_paths are_scans n (paths_of nodes) inputs.now in
+        OnOk result (cutter.new ≡ take_paths cutter.old paths) }
 {
     if are_scans(nodes, inputs) {
         cutter.begin(alloc, n)?;
