@@ -6,6 +6,7 @@ use pipe_frame::{AnyValue, Field, Row};
 use pipe_plain::{plan_fault, rows, schema};
 use pipe_plan::{Arena, IR, PipeError, swap_join_order};
 use std::alloc::{AllocError, Global};
+use worked_alike::is_told_alike;
 use worked_builders::{BuiltPlan, WrittenPlan, plan_of};
 
 /// A cell in JSON: numbers of 128 bits as texts, bytes in hexadecimal digits.
@@ -135,6 +136,17 @@ fn plan_text(alloc: Global, arena: &Arena, root: u32) -> Result<String, AllocErr
     }
 }
 
+/// A line where the check of a plan tells something else than the plain program, and none where it tells the same.
+fn check_line(alloc: Global, arena: &Arena, root: u32) -> Result<&'static str, AllocError>
+    requires { length arena.now.nodes < 2 ^ 32 }
+{
+    if is_told_alike(alloc, arena, root)? {
+        Ok("")
+    } else {
+        Ok("the check tells something else\n")
+    }
+}
+
 /// Appends what a plan shows, and its answer.
 pub(crate) fn tell_built(
     alloc: Global,
@@ -147,6 +159,7 @@ pub(crate) fn tell_built(
     answers.push_str("\n")?;
     if plan.arena.nodes.len() < 4294967296 {
         answers.push_str(plan_text(alloc, &plan.arena, plan.root)?.as_str())?;
+        answers.push_str(check_line(alloc, &plan.arena, plan.root)?)?;
     }
     Ok(())
 }
