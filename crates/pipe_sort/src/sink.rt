@@ -170,8 +170,11 @@ impl Sink for SortSink {
         false
     }
 
-    fn node(&self) -> u32 {
-        unreachable!()
+    /// 0, since a sort builds no side of a join.
+    fn node(&self) -> u32
+        ensures { result ≡ 0 }
+    {
+        0
     }
 
     fn fmt(&self) -> &str {
