@@ -3,11 +3,11 @@
 use crate::answers::tell_plans;
 use pipe_expr::{JoinCoalesce, JoinType};
 use std::alloc::{AllocError, Global};
-use worked_builders::Operand::True;
-use worked_builders::WrittenExpr::Just;
-use worked_builders::WrittenNode::{Filter, Join, Scan, SimpleProjection, Sort, Union};
-use worked_builders::{BY_K, INNER_ON_K, WrittenJoin, WrittenPlan, WrittenSort};
-use worked_columns::{INT, WrittenColumn};
+use worked_builders::Operand::{Col, Int, True};
+use worked_builders::WrittenExpr::{Gt, Just};
+use worked_builders::WrittenNode::{Filter, Join, Rename, Scan, SimpleProjection, Sort, Union};
+use worked_builders::{BY_K, INNER_ON_K, WrittenExpr, WrittenJoin, WrittenPlan, WrittenSort};
+use worked_columns::{INT, TEXT, WrittenColumn};
 
 const K: &[WrittenColumn] = &[("k", INT, &["1"])];
 
@@ -52,6 +52,37 @@ const CROSS: WrittenJoin = WrittenJoin {
 };
 
 const BY_Z: WrittenSort = WrittenSort { by: &["z"], ..BY_K };
+
+// ---- a small ledger
+
+const ORDERS: &[WrittenColumn] = &[
+    ("id", TEXT, &["A-1"]),
+    ("part", INT, &["1"]),
+    ("amount", INT, &["500"]),
+    ("ref", TEXT, &["a"]),
+];
+
+const PAYMENTS: &[WrittenColumn] = &[
+    ("id", TEXT, &["A-1"]),
+    ("part", INT, &["1"]),
+    ("paid", INT, &["500"]),
+    ("ref", TEXT, &["b"]),
+];
+
+const ID_AND_PART: &[WrittenExpr] = &[Just(Col("id")), Just(Col("part"))];
+
+const PAID: WrittenJoin = WrittenJoin {
+    left_on: ID_AND_PART,
+    right_on: ID_AND_PART,
+    ..LEFT_JOIN
+};
+
+const BY_AMOUNT: WrittenSort = WrittenSort {
+    by: &["amount"],
+    descending: &[true],
+    nulls_last: &[true],
+    slice: None,
+};
 
 const PLANS: &[WrittenPlan] = &[
     WrittenPlan {
@@ -113,6 +144,17 @@ const PLANS: &[WrittenPlan] = &[
             Join(0, 1, INNER_ON_K),
             Scan(K),
             Join(2, 3, INNER_ON_K),
+        ],
+    },
+    WrittenPlan {
+        shows: "a ledger: a left join on two keys, a filter, a renaming, a sort",
+        nodes: &[
+            Scan(ORDERS),
+            Scan(PAYMENTS),
+            Join(0, 1, PAID),
+            Filter(2, Gt(Col("amount"), Int(50))),
+            Rename(3, &[("ref_right", "payment_ref")]),
+            Sort(4, BY_AMOUNT),
         ],
     },
 ];
