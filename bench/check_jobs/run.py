@@ -5,8 +5,8 @@
 
 Each job scans one frame. Beside it stands the same text with a `chunk_rows` that no job has, the first of a job's
 members to be looked at: it is refused as soon as `serde_json` made the value of the text, so it takes what that and
-its end take. Prints, for each job, the best of several rounds of both in turn, their ratio, and how much longer the
-look took than that of half the size.
+its end take. Prints, for each job, the least processor time of several rounds of both in turn, their ratio, and how
+much longer the look took than that of the size before.
 """
 
 import json
@@ -15,13 +15,12 @@ import random
 import subprocess
 import sys
 import tempfile
-import time
 from pathlib import Path
 
 TOP = Path(__file__).resolve().parent.parent.parent
 PROGRAM = TOP / "crates" / "liskevar" / "out" / "liskevar"
 SIZES = [1, 2, 4, 8, 16, 32]
-ROUNDS = 5
+ROUNDS = 4
 MOST = 33_554_432
 
 
@@ -66,11 +65,11 @@ def job_of(kind, size):
 
 
 def seconds(job):
-    """The time of a look at a job, and its status."""
+    """The processor time of a look at a job, and its status."""
     with open(job, "rb") as source:
-        began = time.perf_counter()
-        ran = subprocess.run([PROGRAM, "check"], stdin=source, stdout=subprocess.DEVNULL, stderr=subprocess.DEVNULL)
-        return time.perf_counter() - began, ran.returncode
+        child = subprocess.Popen([PROGRAM, "check"], stdin=source, stdout=subprocess.DEVNULL, stderr=subprocess.DEVNULL)
+        _, status, usage = os.wait4(child.pid, 0)
+        return usage.ru_utime + usage.ru_stime, os.waitstatus_to_exitcode(status)
 
 
 def main():
@@ -94,7 +93,7 @@ def main():
                         times.append(took)
                 look, read = min(looks), min(reads)
                 growth = f"{look / before:.2f}" if before else "-"
-                print(f"{kind:8} {size:3}  {look:9.3f}  {read:14.3f}  {look / read:5.2f}  {growth}")
+                print(f"{kind:8} {size:3}  {look:9.3f}  {read:14.3f}  {look / read:5.2f}  {growth:>23}")
                 before = look
 
 
