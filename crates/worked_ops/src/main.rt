@@ -1,0 +1,24 @@
+//! Works operators out: prints what each shows, and what it gives for a chunk.
+#![tactic(auto)]
+
+mod filters;
+mod numbers;
+mod told;
+mod written;
+
+use std::alloc::{AllocError, Global};
+use std::io;
+
+fn answers(alloc: Global) -> Result<String, AllocError> {
+    let mut answers = String::new(alloc);
+    answers.push_str(filters::positive(alloc)?.as_str())?;
+    answers.push_str(numbers::chunk_sizes(alloc)?.as_str())?;
+    answers.push_str(numbers::split_pieces(alloc)?.as_str())?;
+    answers.push_str(numbers::joined_pieces(alloc)?.as_str())?;
+    Ok(answers)
+}
+
+fn main(rt: HostRuntime) -> io::Result<()> {
+    let answers = answers(rt.alloc())?;
+    print!(rt; "{answers}")
+}
