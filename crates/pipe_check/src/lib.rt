@@ -8,7 +8,6 @@ mod bad_node;
 mod bad_sort;
 mod check;
 mod checked_plan;
-mod copies;
 mod duplicate_name;
 mod inputs;
 mod node_check;
@@ -17,4 +16,3 @@ mod under;
 mod unknown_column;
 
 pub use checked_plan::{CheckedPlan, check_plan};
-pub use copies::{copy_join_options, copy_node, copy_sort_options};

@@ -6,6 +6,7 @@ mod config;
 mod error;
 mod ir;
 mod swap;
+mod try_clone;
 
 pub use arena::Arena;
 pub use config::PipeConfig;

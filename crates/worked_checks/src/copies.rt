@@ -1,14 +1,13 @@
 //! Copies of nodes.
 
 use crate::plans::PLANS;
-use pipe_check::copy_node;
 use pipe_plan::IR;
 use std::alloc::{AllocError, Global};
 use worked_builders::{WrittenNode, plan_of};
 
 /// Whether the copy of a node is spelled as the node.
 fn is_copied(alloc: Global, node: &IR) -> Result<bool, AllocError> {
-    let copy = copy_node(alloc, node)?;
+    let copy = node.try_clone(alloc)?;
     let spelled = format!(in alloc; "{node:?}")?;
     let copied = format!(in alloc; "{copy:?}")?;
     Ok(spelled.as_str() == copied.as_str())
