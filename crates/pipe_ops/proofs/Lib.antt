@@ -8,3 +8,5 @@ pub mod Extended
 pub mod NamedFields
 pub mod Covered
 pub mod SharedValues
+pub mod SameTypes
+pub mod FieldTests

@@ -32,7 +32,7 @@ pub use offsets::{combine_offsets, split_offsets};
 pub use operator::{Operator, OperatorResult};
 pub use pass::Pass;
 pub use projection::ProjectionOperator;
-pub use reproject::reproject_chunk;
+pub use reproject::{has_fields, reproject_chunk};
 pub use simple_projection::SimpleProjectionOperator;
 pub use sink::{FinalizedSink, Sink, SinkResult};
 pub use source::{Morsel, Source, SourceResult};

@@ -1,9 +1,11 @@
 //! Chunks in the order of a schema.
 
-ghost use Rattle.std.specs.Prelude.{◌≡◌, IfOk, OnOk, OnErr};
+ghost use Rattle.std.specs.Prelude.{◌≡◌, true, IfOk, OnOk, OnErr};
+ghost use Rattle.std.specs.List.{list_all};
 ghost use Rattle.pipe_frame.specs.Schema.{names_of};
-ghost use Rattle.pipe_ops.specs.Each.{HasFields, reprojected};
+ghost use Rattle.pipe_ops.specs.Each.{HasFields, has_field, reprojected};
 
+use pipe_expr::column_type;
 use pipe_frame::{DataChunk, Field, FrameError, List, Schema, Text, TryClone};
 use std::alloc::{AllocError, Global};
 
@@ -16,6 +18,37 @@ fn copied_names(alloc: Global, fields: &[Field]) -> Result<List<Text>, AllocErro
         names.push(field.name.try_clone()?)?;
     }
     Ok(names)
+}
+
+/// Whether a schema has a field, by its name and type.
+fn has_this_field(schema: &[Field], field: &Field) -> bool
+    ensures { result ≡ has_field schema.now field.now }
+{
+    match column_type(&field.name, schema) {
+        Some(dtype) => dtype == field.dtype,
+        None => false,
+    }
+}
+
+/// Whether a schema has each of some fields.
+fn has_each(schema: &[Field], fields: &[Field]) -> bool
+    ensures { result ≡ list_all (has_field schema.now) fields.now }
+{
+    for field in fields {
+        if !has_this_field(schema, field) {
+            return false;
+        }
+    }
+    true
+}
+
+/// Whether a schema has each field of another, as `reproject_chunk` wants of a chunk.
+#[tactic(auto, using(crate::proofs::FieldTests::has_each, crate::proofs::FieldTests::each_has))]
+pub fn has_fields(schema: &Schema, fields: &Schema) -> bool
+    ensures yes { result ≡ true → HasFields schema.now fields.now }
+    ensures no { HasFields schema.now fields.now → result ≡ true }
+{
+    has_each(schema.fields(), fields.fields())
 }
 
 /// Brings the columns of a chunk into the order of a schema, each of whose fields the chunk has, and drops those
