@@ -3,6 +3,7 @@
 
 mod chunks;
 mod ordered;
+mod reprojected;
 mod sources;
 mod told;
 
@@ -14,6 +15,7 @@ fn answers(alloc: Global) -> Result<String, AllocError> {
     let mut answers = String::new(alloc);
     sources::tell(alloc, &mut answers)?;
     ordered::tell(alloc, &mut answers)?;
+    reprojected::tell(alloc, &mut answers)?;
     Ok(answers)
 }
 
