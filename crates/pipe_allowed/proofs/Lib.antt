@@ -1,0 +1,4 @@
+pub mod Below
+pub mod CarriedLemmas
+pub mod Slices
+pub mod Reaching

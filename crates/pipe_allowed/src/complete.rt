@@ -1,0 +1,67 @@
+//! Whether a list of events is complete.
+
+ghost use Rattle.std.specs.Prelude.{◌≡◌, length};
+ghost use Rattle.pipe_events.specs.Decided.{all_below, is_closed, is_complete as completes};
+ghost use Rattle.pipe_stages.specs.Staged.{staged};
+ghost use Rattle.pipe_world.specs.Shown.{world_of};
+ghost use Rattle.pipe_allowed.specs.Closing.{spent_at, closed_at};
+
+use crate::closing::side_below;
+use crate::spent::is_spent;
+use pipe_stages::StagedPlan;
+use pipe_world::{Side, World};
+
+/// Whether the side above a node is closed, if there is one.
+fn is_side_closed(world: &World, below: Option<u32>) -> bool
+    ensures { result ≡ is_closed (world_of world.now) below }
+{
+    match below {
+        None => true,
+        Some(t) => world.is_closed(t as usize),
+    }
+}
+
+/// Whether the sides of a node are closed.
+fn are_sides_closed(plan: &StagedPlan, world: &World, n: usize) -> bool
+    ensures { result ≡ closed_at (staged plan.now) (world_of world.now) n }
+{
+    let stage = plan.stage(n);
+    is_side_closed(world, side_below(stage, Side::Sort))
+        && is_side_closed(world, side_below(stage, Side::Build))
+        && is_side_closed(world, side_below(stage, Side::Probe))
+}
+
+/// Whether each node is spent.
+#[tactic(auto, using(crate::proofs::Below::below_rules))]
+fn are_all_spent(plan: &StagedPlan, world: &World) -> bool
+    ensures { let spent = spent_at (staged plan.now) (world_of world.now) in
+        result ≡ all_below spent (length plan.now.stages) }
+{
+    for n in 0..plan.len() {
+        if !is_spent(plan, world, n) {
+            return false;
+        }
+    }
+    true
+}
+
+/// Whether each side is closed.
+#[tactic(auto, using(crate::proofs::Below::below_rules))]
+fn are_all_closed(plan: &StagedPlan, world: &World) -> bool
+    ensures { let closed = closed_at (staged plan.now) (world_of world.now) in
+        result ≡ all_below closed (length plan.now.stages) }
+{
+    for n in 0..plan.len() {
+        if !are_sides_closed(plan, world, n) {
+            return false;
+        }
+    }
+    true
+}
+
+/// Whether all is taken, flushed and closed, and nothing is on its way.
+pub fn is_complete(plan: &StagedPlan, world: &World) -> bool
+    ensures { result ≡ completes (staged plan.now) (world_of world.now) }
+{
+    are_all_spent(plan, world) && world.pending().is_empty() && are_all_closed(plan, world)
+}

@@ -1,0 +1,5 @@
+pub mod Lists
+pub mod Cells
+pub mod Rows
+pub mod Orders
+pub mod Plans

@@ -1,0 +1,2 @@
+-- rows that fit a schema, and the laws
+pub mod Fits
