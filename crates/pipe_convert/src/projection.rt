@@ -1,0 +1,30 @@
+//! The projection by expressions of a node.
+
+ghost use Rattle.std.specs.Prelude.{IfOk};
+ghost use Rattle.pipe_expr.specs.Formula.{named_formulas_of};
+ghost use Rattle.pipe_plan.specs.Node as node;
+ghost use Rattle.pipe_convert.specs.Converted.{IsNode};
+
+use crate::physical::physical_exprs;
+use crate::row_by_row::{Projection, RowByRow};
+use pipe_check::CheckedPlan;
+use pipe_expr::{NamedExpr, PhysicalExpr};
+use pipe_ops::ProjectionOperator;
+use std::alloc::{AllocError, Global};
+
+/// The operator of a projection by expressions.
+pub fn projection_operator(
+    alloc: Global,
+    plan: &CheckedPlan,
+    n: u32,
+    input: u32,
+    exprs: &[NamedExpr],
+) -> Result<Projection, AllocError>
+    requires { IsNode plan.now n (node.Select input (named_formulas_of exprs.now)) }
+    ensures { IfOk result (⟦<Projection as RowByRow>⟧.is_of plan.now n input) }
+{
+    let _ = plan.root();
+    let _ = plan.schema(n).fields();
+    let made = physical_exprs(alloc, exprs, plan.schema(input))?;
+    Ok(ProjectionOperator::new(made))
+}
