@@ -1,32 +1,36 @@
 -- What a lane did with some rows, and then with others.
-use Rattle.std.proofs.Common.{◌≡◌, ℕ, suc, ◌+◌, ◌<◌, ◌≤◌, List, [], ◌∷◌, ◌++◌, length, get_or, Option, Some, None, refl, ap, sym, ◌∙◌, subst, arith, append_assoc, append-nil, length-append}
+use Rattle.std.proofs.Common.{◌≡◌, ℕ, ◌+◌, ◌≤◌, List, [], ◌∷◌, ◌++◌, length, Option, Some, None, refl, ap, sym, ◌∙◌, subst, arith, append_assoc, append-nil, length-append}
 use Rattle.std.specs.List.{flat_map, AllByRecursion}
 use Rattle.std.proofs.lemmas.List.Concat.{flat_map-append}
 use Rattle.pipe_frame.specs.Rows.{Row, Same}
 use Rattle.pipe_frame.specs.declared.field.Field.{Field}
-use Rattle.pipe_frame.proofs.Weights.{total, total-append, Same-from_bag}
+use Rattle.std.specs.List.Sorted.{IsPermutation}
+use Rattle.std.proofs.lemmas.List.Sorted.{sum_by-IsPermutation}
+use Rattle.pipe_frame.proofs.Weights.{total, total-append, total-flat_map, total-sum_by, Same-from_bag}
+use Rattle.pipe_ops.specs.declared.operator.Operator.{Ghosts as OperatorWords}
+use Rattle.pipe_ops.specs.declared.sink.Sink.{Ghosts as SinkWords}
 use Rattle.pipe_lanes.specs.Through.{through, IsChain, SameWork}
 use Rattle.pipe_lanes.specs.Counts.{AllWithin, after, IsOver}
 use Rattle.pipe_lanes.specs.declared.stage.Refusal.{Refusal}
 use Rattle.pipe_lanes.specs.declared.lane.Lane.{Lane}
 use Rattle.pipe_lanes.specs.Lanes.{lane_operators, lane_steps, lane_counts, lane_nodes, held_in, IsCalm, IsFit, Stopped, Ran}
 use Rattle.pipe_lanes.proofs.Rows.{same-refl, same-trans, same-append, same-all, same-length, weighs}
-use Rattle.pipe_lanes.proofs.Work.{work-refl, work-trans, work-steps}
+use Rattle.pipe_lanes.proofs.Work.{work-refl, work-trans, work-steps, closed-refl, closed-trans}
 use Rattle.pipe_lanes.proofs.Tallies.{after-none, after-piece, is-over-more}
 
-module _ {O K S Setting : Type 0} (takes : O → List Field → Type 0) (output : O → List Field → List Field) (each : O → List Field → S → Row → List Row) (serves : O → S → Type 0) (idle : O → Type 0) (setting : K → Setting) (schema gives : K → List Field) (held : K → List Row) (s : S) (limit : ℕ) (from : List Field) where
+module _ {O S K B C : Type 0} (op : OperatorWords O S) (sink : SinkWords K B C) (s : S) (limit : ℕ) (from : List Field) where
   abbrev Fit : Lane O K → Type 0
-  Fit lane = IsFit takes output serves idle schema held s limit from lane
+  Fit lane = IsFit op sink s limit from lane
 
   abbrev Did : List Row → Lane O K → Lane O K → Type 0
-  Did rows old new = Ran takes output each serves setting schema gives held s limit from rows old new
+  Did rows old new = Ran op sink s limit from rows old new
 
   -- a lane after a chunk
-  pub fit-after : (old new : Lane O K) → Fit old → SameWork takes output each serves (lane_operators old) (lane_operators new) → schema new.basin.sink ≡ schema old.basin.sink
-      → (IsCalm new → AllByRecursion idle (lane_operators new)) → (IsCalm new → AllWithin limit (lane_counts new)) → (IsCalm new → length (held new.basin.sink) ≤ new.basin.given) → Fit new
+  pub fit-after : (old new : Lane O K) → Fit old → SameWork op (lane_operators old) (lane_operators new) → sink.schema new.basin.sink ≡ sink.schema old.basin.sink
+      → (IsCalm new → AllByRecursion op.idle (lane_operators new)) → (IsCalm new → AllWithin limit (lane_counts new)) → (IsCalm new → length (sink.held new.basin.sink) ≤ new.basin.given) → Fit new
   fit-after old new fit work same still within room = record {
     serve = work.serve s fit.serve;
-    chain = subst (λ (end : List Field). IsChain takes output from (lane_operators new) end) (sym same) (work.chain from (schema old.basin.sink) fit.chain);
+    chain = subst (λ (end : List Field). IsChain op from (lane_operators new) end) (sym same) (work.chain from (sink.schema old.basin.sink) fit.chain);
     still = still;
     within = within;
     room = room;
@@ -35,39 +39,41 @@ module _ {O K S Setting : Type 0} (takes : O → List Field → Type 0) (output 
   -- first some rows, and then others
   pub ran-on : (rows more : List Row) (a b c : Lane O K) → IsCalm b → Did rows a b → Did more b c → Did (rows ++ more) a c
   ran-on rows more a b c on h k =
-      let fs = lane_steps each output from a in
+      let fs = lane_steps op from a in
       let f = through s fs in
-      let same : lane_steps each output from b ≡ fs = work-steps takes output each serves (lane_operators a) (lane_operators b) from h.work in
-      let counted : after s (lane_steps each output from b) more (lane_counts b) ≡ after s fs (rows ++ more) (lane_counts a) =
+      let same : lane_steps op from b ≡ fs = work-steps op (lane_operators a) (lane_operators b) from h.work in
+      let counted : after s (lane_steps op from b) more (lane_counts b) ≡ after s fs (rows ++ more) (lane_counts a) =
       ap (λ (gs : List (S → Row → List Row)). after s gs more (lane_counts b)) same
       ∙ ap (after s fs more) (h.tally on)
       ∙ after-piece s fs (rows ++ more) rows more (lane_counts a) (same-refl _) in
       record {
-        work = work-trans takes output each serves _ _ _ h.work k.work;
+        work = work-trans op _ _ _ h.work k.work;
+        closed = closed-trans op _ _ _ h.closed k.closed;
         nodes = k.nodes ∙ h.nodes;
         same_setting = k.same_setting ∙ h.same_setting;
         same_schema = k.same_schema ∙ h.same_schema;
         same_gives = k.same_gives ∙ h.same_gives;
         sunk = λ go.
-            let last = subst (λ (gs : List (S → Row → List Row)). Same (held c.basin.sink) (held b.basin.sink ++ flat_map (through s gs) more)) same (k.sunk go) in
+            let last = subst (λ (gs : List (S → Row → List Row)). Same (sink.held c.basin.sink) (sink.held b.basin.sink ++ flat_map (through s gs) more)) same (k.sunk go) in
             let both = same-trans last (same-append (h.sunk on) (same-refl (flat_map f more))) in
-            subst (λ (l : List Row). Same (held c.basin.sink) l) (append_assoc (held a.basin.sink) (flat_map f rows) (flat_map f more) ∙ ap (λ l. held a.basin.sink ++ l) (sym (flat_map-append f rows more))) both;
+            subst (λ (l : List Row). Same (sink.held c.basin.sink) l) (append_assoc (sink.held a.basin.sink) (flat_map f rows) (flat_map f more) ∙ ap (λ l. sink.held a.basin.sink ++ l) (sym (flat_map-append f rows more))) both;
         tally = λ go. k.tally go ∙ counted;
-        stopped = λ start. subst (λ (ns : List ℕ). Stopped limit ns (lane_nodes a) c.refused) counted (subst (λ (ms : List ℕ). Stopped limit (after s (lane_steps each output from b) more (lane_counts b)) ms c.refused) h.nodes (k.stopped on));
+        stopped = λ start. subst (λ (ns : List ℕ). Stopped limit ns (lane_nodes a) c.refused) counted (subst (λ (ms : List ℕ). Stopped limit (after s (lane_steps op from b) more (lane_counts b)) ms c.refused) h.nodes (k.stopped on));
         kept = λ go. h.kept on;
       }
 
   -- with no rows nothing changes
   pub ran-none : (a : Lane O K) → Did [] a a
   ran-none a = record {
-    work = work-refl takes output each serves (lane_operators a);
+    work = work-refl op (lane_operators a);
+    closed = closed-refl op (lane_operators a);
     nodes = refl;
     same_setting = refl;
     same_schema = refl;
     same_gives = refl;
     sunk = λ go. same-all (same-refl _);
-    tally = λ go. sym (after-none s (lane_steps each output from a) (lane_counts a));
-    stopped = λ start. subst (λ (o : Option Refusal). Stopped limit (after s (lane_steps each output from a) [] (lane_counts a)) (lane_nodes a) o) (sym start) tt;
+    tally = λ go. sym (after-none s (lane_steps op from a) (lane_counts a));
+    stopped = λ start. subst (λ (o : Option Refusal). Stopped limit (after s (lane_steps op from a) [] (lane_counts a)) (lane_nodes a) o) (sym start) tt;
     kept = λ go. go;
   }
 
@@ -79,6 +85,7 @@ module _ {O K S Setting : Type 0} (takes : O → List Field → Type 0) (output 
   pub ran-no-more : (rows more : List Row) (a b : Lane O K) → (IsCalm b → ⊥) → Did rows a b → Did (rows ++ more) a b
   ran-no-more rows more a b off h = record {
     work = h.work;
+    closed = h.closed;
     nodes = h.nodes;
     same_setting = h.same_setting;
     same_schema = h.same_schema;
@@ -88,33 +95,6 @@ module _ {O K S Setting : Type 0} (takes : O → List Field → Type 0) (output 
     stopped = λ start. stopped-more _ rows more _ _ _ off (h.stopped start);
     kept = λ go. absurd (off go);
   }
-
-  -- what the lanes put into their sinks, each with rows of its own
-  pub sunk-all : (steps : List (S → Row → List Row)) (rows_of : Lane O K → List Row) (xs ys : List (Lane O K)) → length ys ≡ length xs
-      → ((i : ℕ) (d : Lane O K) → i < length xs → Did (rows_of (get_or ys i d)) (get_or xs i d) (get_or ys i d))
-      → ((i : ℕ) (d : Lane O K) → i < length xs → lane_steps each output from (get_or xs i d) ≡ steps) → ((i : ℕ) (d : Lane O K) → i < length ys → IsCalm (get_or ys i d))
-      → Same (flat_map (held_in held) ys) (flat_map (held_in held) xs ++ flat_map (through s steps) (flat_map rows_of ys))
-  sunk-all steps rows_of [] [] p ran same calm = same-refl _
-  sunk-all steps rows_of [] (y ∷ ys) p ran same calm = cc
-  sunk-all steps rows_of (x ∷ xs) [] p ran same calm = cc
-  sunk-all steps rows_of (x ∷ xs) (y ∷ ys) p ran same calm =
-      let f = through s steps in
-      let one : Same (held_in held y) (held_in held x ++ flat_map f (rows_of y)) = subst (λ (gs : List (S → Row → List Row)). Same (held_in held y) (held_in held x ++ flat_map (through s gs) (rows_of y))) (same 0 x (omega arith)) ((ran 0 x (omega arith)).sunk (calm 0 y (omega arith))) in
-      let others = sunk-all steps rows_of xs ys (omega arith) (λ i d lt. ran (suc i) d (omega arith)) (λ i d lt. same (suc i) d (omega arith)) (λ i d lt. calm (suc i) d (omega arith)) in
-      Same-from_bag (record {
-        sums = λ w. omega (
-          arith,
-          weighs one w,
-          weighs others w,
-          total-append w (held_in held y) (flat_map (held_in held) ys),
-          total-append w (held_in held x) (flat_map (held_in held) xs),
-          total-append w (held_in held x) (flat_map f (rows_of y)),
-          total-append w (flat_map (held_in held) xs) (flat_map f (flat_map rows_of ys)),
-          total-append w (held_in held x ++ flat_map (held_in held) xs) (flat_map f (rows_of y ++ flat_map rows_of ys)),
-          ap (total w) (flat_map-append f (rows_of y) (flat_map rows_of ys)),
-          total-append w (flat_map f (rows_of y)) (flat_map f (flat_map rows_of ys)),
-        );
-      })
 
 module _ {O K : Type 0} (held : K → List Row) where
   popped : (lanes front : List (Lane O K)) (lane : Lane O K) → lanes ≡ front ++ lane ∷ [] → flat_map (held_in held) lanes ≡ flat_map (held_in held) front ++ held lane.basin.sink
@@ -146,3 +126,11 @@ module _ {O K : Type 0} (held : K → List Row) where
         length-append (held sink) (flat_map (held_in held) lanes),
         length-append (flat_map (held_in held) front) (held lane.basin.sink),
       )
+
+  -- in any order of the lanes
+  pub held-permuted : (xs ys : List (Lane O K)) → IsPermutation xs ys → Same (flat_map (held_in held) ys) (flat_map (held_in held) xs)
+  held-permuted xs ys p = Same-from_bag (record {
+    sums = λ w.
+        let v = λ (x : Lane O K). total w (held_in held x) in
+        total-flat_map (held_in held) w ys ∙ total-sum_by v ys ∙ sum_by-IsPermutation v xs ys p ∙ sym (total-flat_map (held_in held) w xs ∙ total-sum_by v xs);
+  })

@@ -3,3 +3,9 @@ pub mod Work
 pub mod Tallies
 pub mod LaneSteps
 pub mod ClaimSteps
+pub mod Sums
+pub mod Dealing
+pub mod RoundSteps
+pub mod Asked
+pub mod SeatSteps
+pub mod Splits

@@ -1,14 +1,18 @@
 -- Chunks that lanes claim by their numbers.
-use Rattle.std.specs.Prelude.{◌≡◌, ℕ, zero, suc, ◌<◌, List, [], ◌∷◌, length, Option, Some, None, cond, ltb}
+use Rattle.std.specs.Prelude.{◌≡◌, ℕ, zero, suc, ◌<◌, List, [], ◌∷◌, ◌++◌, length, Option, Some, None, cond, ltb}
 use Rattle.std.specs.List.{flat_map}
 use Rattle.atomic_table.specs.Seated.{TableId}
 use Rattle.pipe_frame.specs.Rows.{Row}
 use Rattle.pipe_frame.specs.declared.field.Field.{Field}
+use Rattle.pipe_ops.specs.declared.operator.Operator.{Ghosts as OperatorWords}
+use Rattle.pipe_ops.specs.declared.sink.Sink.{Ghosts as SinkWords}
 use Rattle.pipe_ops.specs.declared.source.Morsel.{Morsel}
 use Rattle.pipe_words.specs.Claims.{SeatClaims}
 use Rattle.pipe_words.specs.Sums.{total}
 use Rattle.pipe_lanes.specs.declared.lane.Lane.{Lane}
-use Rattle.pipe_lanes.specs.Lanes.{IsCalm}
+use Rattle.pipe_lanes.specs.declared.act.Act.{Act}
+use Rattle.pipe_lanes.specs.declared.act.Act.TheVariants.{Take, Done}
+use Rattle.pipe_lanes.specs.Lanes.{IsCalm, Ran}
 
 -- the rows of a chunk, and those of the chunk of a number, none past the last
 abbrev pub rows_in : Morsel → List Row
@@ -18,6 +22,15 @@ abbrev pub rows_at : List Morsel → ℕ → List Row
 rows_at [] n = []
 rows_at (m ∷ ms) zero = rows_in m
 rows_at (m ∷ ms) (suc n) = rows_at ms n
+
+-- what a lane notes of a chunk, and of that of a number, nothing past the last
+abbrev pub acts_for : Morsel → List Act
+acts_for m = Take m.part m.from (length m.chunk.frame.rows) ∷ Done ∷ []
+
+abbrev pub acts_at : List Morsel → ℕ → List Act
+acts_at [] n = []
+acts_at (m ∷ ms) zero = acts_for m
+acts_at (m ∷ ms) (suc n) = acts_at ms n
 
 -- the schema of the first chunk, and that a chunk has a schema
 abbrev pub schema_in : List Morsel → List Field
@@ -39,9 +52,11 @@ drawn_in lane = drawn_at lane.seat
 abbrev pub IsFresh : {O K : Type 0} → Lane O K → Type 0
 IsFresh lane = drawn_in lane ≡ []
 
--- the rows of the chunks that a lane claimed
-abbrev pub rows_taken : {O K : Type 0} → List Morsel → Lane O K → List Row
-rows_taken morsels lane = flat_map (rows_at morsels) (drawn_in lane)
+-- a lane worked on the chunks of these numbers, and noted them in this order
+pub record Took {O S K B C : Type 0} (op : OperatorWords O S) (sink : SinkWords K B C) (s : S)
+    (limit : ℕ) (ms : List Morsel) (ns : List ℕ) (old new : Lane O K) : Type 0 where
+  pub ran : Ran op sink s limit (schema_in ms) (flat_map (rows_at ms) ns) old new
+  pub acts : new.acts.items ≡ old.acts.items ++ flat_map (acts_at ms) ns
 
 -- a seat is there, and of these claims
 abbrev pub IsSeatOf : TableId → Option SeatClaims → Type 0

@@ -3,7 +3,9 @@ use Rattle.std.specs.Prelude.{◌≡◌, ℕ, ◌≤◌, List, ◌++◌, length,
 use Rattle.std.specs.List.{flat_map, AllByRecursion}
 use Rattle.pipe_frame.specs.Rows.{Row, Same}
 use Rattle.pipe_frame.specs.declared.field.Field.{Field}
-use Rattle.pipe_lanes.specs.Through.{through, steps_of, IsChain, AllServe, SameWork}
+use Rattle.pipe_ops.specs.declared.operator.Operator.{Ghosts as OperatorWords}
+use Rattle.pipe_ops.specs.declared.sink.Sink.{Ghosts as SinkWords}
+use Rattle.pipe_lanes.specs.Through.{through, steps_of, IsChain, AllServe, SameWork, KeepClosed}
 use Rattle.pipe_lanes.specs.Counts.{operators_of, nodes_of, counts, AllWithin, after, IsOver}
 use Rattle.pipe_lanes.specs.declared.stage.Refusal.{Refusal}
 use Rattle.pipe_lanes.specs.declared.lane.Lane.{Lane}
@@ -13,8 +15,9 @@ abbrev pub lane_operators : {O K : Type 0} → Lane O K → List O
 lane_operators lane = operators_of lane.stages.items
 
 -- the steps that a lane takes with each row of a schema
-abbrev pub lane_steps : {O K S : Type 0} → (O → List Field → S → Row → List Row) → (O → List Field → List Field) → List Field → Lane O K → List (S → Row → List Row)
-lane_steps each output schema lane = steps_of each output schema (lane_operators lane)
+abbrev pub lane_steps : {O K S : Type 0} → OperatorWords O S → List Field → Lane O K →
+    List (S → Row → List Row)
+lane_steps op schema lane = steps_of op schema (lane_operators lane)
 
 -- how many rows each of a lane's nodes was given, and which nodes they are
 abbrev pub lane_counts : {O K : Type 0} → Lane O K → List ℕ
@@ -36,12 +39,13 @@ abbrev pub IsCalm : {O K : Type 0} → Lane O K → Type 0
 IsCalm lane = lane.refused ≡ None
 
 -- a lane between two chunks
-pub record IsFit {O K S : Type 0} (takes : O → List Field → Type 0) (output : O → List Field → List Field) (serves : O → S → Type 0) (idle : O → Type 0) (schema : K → List Field) (held : K → List Row) (s : S) (limit : ℕ) (from : List Field) (lane : Lane O K) : Type 0 where
-  pub serve : AllServe serves s (lane_operators lane)
-  pub chain : IsChain takes output from (lane_operators lane) (schema lane.basin.sink)
-  pub still : IsCalm lane → AllByRecursion idle (lane_operators lane)
+pub record IsFit {O S K B C : Type 0} (op : OperatorWords O S) (sink : SinkWords K B C) (s : S)
+    (limit : ℕ) (from : List Field) (lane : Lane O K) : Type 0 where
+  pub serve : AllServe op s (lane_operators lane)
+  pub chain : IsChain op from (lane_operators lane) (sink.schema lane.basin.sink)
+  pub still : IsCalm lane → AllByRecursion op.idle (lane_operators lane)
   pub within : IsCalm lane → AllWithin limit (lane_counts lane)
-  pub room : IsCalm lane → length (held lane.basin.sink) ≤ lane.basin.given
+  pub room : IsCalm lane → length (sink.held lane.basin.sink) ≤ lane.basin.given
 
 -- why a lane stopped
 abbrev pub Stopped : ℕ → List ℕ → List ℕ → Option Refusal → Type 0
@@ -49,13 +53,19 @@ Stopped limit ns nodes None = Unit {0}
 Stopped limit ns nodes (Some r) = IsOver limit ns nodes r
 
 -- a lane pushed some rows of a schema, unless something was refused
-pub record Ran {O K S Setting : Type 0} (takes : O → List Field → Type 0) (output : O → List Field → List Field) (each : O → List Field → S → Row → List Row) (serves : O → S → Type 0) (setting : K → Setting) (schema gives : K → List Field) (held : K → List Row) (s : S) (limit : ℕ) (from : List Field) (rows : List Row) (old new : Lane O K) : Type 0 where
-  pub work : SameWork takes output each serves (lane_operators old) (lane_operators new)
+pub record Ran {O S K B C : Type 0} (op : OperatorWords O S) (sink : SinkWords K B C) (s : S)
+    (limit : ℕ) (from : List Field) (rows : List Row) (old new : Lane O K) : Type 0 where
+  pub work : SameWork op (lane_operators old) (lane_operators new)
+  pub closed : KeepClosed op (lane_operators old) (lane_operators new)
   pub nodes : lane_nodes new ≡ lane_nodes old
-  pub same_setting : setting new.basin.sink ≡ setting old.basin.sink
-  pub same_schema : schema new.basin.sink ≡ schema old.basin.sink
-  pub same_gives : gives new.basin.sink ≡ gives old.basin.sink
-  pub sunk : IsCalm new → Same (held new.basin.sink) (held old.basin.sink ++ flat_map (through s (lane_steps each output from old)) rows)
-  pub tally : IsCalm new → lane_counts new ≡ after s (lane_steps each output from old) rows (lane_counts old)
-  pub stopped : IsCalm old → Stopped limit (after s (lane_steps each output from old) rows (lane_counts old)) (lane_nodes old) new.refused
+  pub same_setting : sink.setting new.basin.sink ≡ sink.setting old.basin.sink
+  pub same_schema : sink.schema new.basin.sink ≡ sink.schema old.basin.sink
+  pub same_gives : sink.gives new.basin.sink ≡ sink.gives old.basin.sink
+  pub sunk : IsCalm new → Same (sink.held new.basin.sink)
+      (sink.held old.basin.sink ++ flat_map (through s (lane_steps op from old)) rows)
+  pub tally : IsCalm new →
+      lane_counts new ≡ after s (lane_steps op from old) rows (lane_counts old)
+  pub stopped : IsCalm old →
+      Stopped limit (after s (lane_steps op from old) rows (lane_counts old)) (lane_nodes old)
+      new.refused
   pub kept : IsCalm new → IsCalm old

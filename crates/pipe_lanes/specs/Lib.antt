@@ -6,3 +6,11 @@ pub mod Counts
 pub mod Lanes
 -- chunks that lanes claim
 pub mod Claimed
+-- lanes with a seat and without
+pub mod Seats
+-- all lanes together
+pub mod Dealt
+-- how often a stop check said yes
+pub mod Halts
+-- lanes at their start
+pub mod Opens

@@ -4,6 +4,7 @@ use Rattle.std.specs.List.{flat_map}
 use Rattle.pipe_frame.specs.Frame.{Table}
 use Rattle.pipe_frame.specs.Rows.{Row}
 use Rattle.pipe_frame.specs.declared.field.Field.{Field}
+use Rattle.pipe_ops.specs.declared.operator.Operator.{Ghosts as OperatorWords}
 
 -- what a row becomes, step by step
 abbrev pub through : {S : Type 0} → S → List (S → Row → List Row) → Row → List Row
@@ -11,28 +12,39 @@ through s [] row = row ∷ []
 through s (f ∷ fs) row = flat_map (through s fs) (f s row)
 
 -- the steps of some operators, from a schema on
-abbrev pub steps_of : {O S : Type 0} → (O → List Field → S → Row → List Row) → (O → List Field → List Field) → List Field → List O → List (S → Row → List Row)
-steps_of each output schema [] = []
-steps_of each output schema (op ∷ ops) = each op schema ∷ steps_of each output (output op schema) ops
+abbrev pub steps_of : {O S : Type 0} → OperatorWords O S → List Field → List O →
+    List (S → Row → List Row)
+steps_of op schema [] = []
+steps_of op schema (o ∷ os) = op.each o schema ∷ steps_of op (op.output o schema) os
 
 -- each operator takes the schema that the one before it gives, and the last gives that of the end
-abbrev pub IsChain : {O : Type 0} → (O → List Field → Type 0) → (O → List Field → List Field) → List Field → List O → List Field → Type 0
-IsChain takes output schema [] end = schema ≡ end
-IsChain takes output schema (op ∷ ops) end =
-    takes op schema × IsChain takes output (output op schema) ops end
+abbrev pub IsChain : {O S : Type 0} → OperatorWords O S → List Field → List O → List Field → Type 0
+IsChain op schema [] end = schema ≡ end
+IsChain op schema (o ∷ os) end = op.takes o schema × IsChain op (op.output o schema) os end
 
 -- each operator serves
-abbrev pub AllServe : {O S : Type 0} → (O → S → Type 0) → S → List O → Type 0
-AllServe serves s [] = Unit {0}
-AllServe serves s (op ∷ ops) = serves op s × AllServe serves s ops
+abbrev pub AllServe : {O S : Type 0} → OperatorWords O S → S → List O → Type 0
+AllServe op s [] = Unit {0}
+AllServe op s (o ∷ os) = op.serves o s × AllServe op s os
 
 -- operators do the same work as others
-pub record SameWork {O S : Type 0} (takes : O → List Field → Type 0) (output : O → List Field → List Field) (each : O → List Field → S → Row → List Row) (serves : O → S → Type 0) (old new : List O) : Type 0 where
-  pub outputs : map output new ≡ map output old
-  pub works : map each new ≡ map each old
-  pub chain : (schema end : List Field) → IsChain takes output schema old end → IsChain takes output schema new end
-  pub serve : (s : S) → AllServe serves s old → AllServe serves s new
+pub record SameWork {O S : Type 0} (op : OperatorWords O S) (old new : List O) : Type 0 where
+  pub outputs : map op.output new ≡ map op.output old
+  pub works : map op.each new ≡ map op.each old
+  pub chain : (schema end : List Field) → IsChain op schema old end → IsChain op schema new end
+  pub serve : (s : S) → AllServe op s old → AllServe op s new
+
+-- each operator is fit for a flush under each shared value under which it was
+abbrev pub EachClosed : {O S : Type 0} → OperatorWords O S → (old new : List O) → Type 0
+EachClosed op [] [] = Unit {0}
+EachClosed op [] (b ∷ new) = ⊥
+EachClosed op (a ∷ old) [] = ⊥
+EachClosed {S = S} op (a ∷ old) (b ∷ new) =
+    ((s : S) → op.closed a s → op.closed b s) × EachClosed op old new
+
+pub record KeepClosed {O S : Type 0} (op : OperatorWords O S) (old new : List O) : Type 0 where
+  pub each : EachClosed op old new
 
 -- what some operators make of a frame
-abbrev pub made_of : {O S : Type 0} → (O → List Field → S → Row → List Row) → (O → List Field → List Field) → S → List O → Table → List Row
-made_of each output s ops frame = flat_map (through s (steps_of each output frame.schema ops)) frame.rows
+abbrev pub made_of : {O S : Type 0} → OperatorWords O S → S → List O → Table → List Row
+made_of op s os frame = flat_map (through s (steps_of op frame.schema os)) frame.rows

@@ -38,10 +38,14 @@ pub(crate) fn run_chunk<O: Operator, K: Sink>(
     chunk: &DataChunk,
 )
     requires calm { IsCalm lane.old }
-    requires fit { IsFit O.takes O.output O.serves O.idle K.schema K.held shared.now context.now.row_limit chunk.now.frame.schema lane.old }
-    ensures fit { IsFit O.takes O.output O.serves O.idle K.schema K.held shared.now context.now.row_limit chunk.now.frame.schema lane.new }
-    ensures ran { Ran O.takes O.output O.each O.serves K.setting K.schema K.gives K.held shared.now context.now.row_limit chunk.now.frame.schema chunk.now.frame.rows lane.old lane.new }
+    requires fit { IsFit O.Operator K.Sink shared.now context.now.row_limit chunk.now.frame.schema
+        lane.old }
+    ensures fit { IsFit O.Operator K.Sink shared.now context.now.row_limit chunk.now.frame.schema
+        lane.new }
+    ensures ran { Ran O.Operator K.Sink shared.now context.now.row_limit chunk.now.frame.schema
+        chunk.now.frame.rows lane.old lane.new }
     ensures seat { lane.new.seat ≡ lane.old.seat }
+    ensures acts { lane.new.acts ≡ lane.old.acts }
 {
     let stages = lane.stages.as_mut_slice();
     match push_shared(alloc, context, shared, stages, chunk, &mut lane.basin) {

@@ -2,16 +2,25 @@
 #![tactic(auto)]
 
 mod act;
+mod all_lanes;
 mod claiming;
 mod draining;
+mod gathering;
+mod halt;
 mod lane;
+mod opening;
 mod pushing;
-mod round;
+mod seating;
 mod stage;
+mod telling;
 
 pub use act::Act;
+pub use all_lanes::round;
 pub use draining::drain;
+pub use gathering::gather;
+pub use halt::Halt;
 pub use lane::Lane;
+pub use opening::{open_lane, open_lanes};
 pub use pushing::{push, push_shared};
-pub use round::{gather, run_lanes};
 pub use stage::{Basin, Refusal, Stage};
+pub use telling::rows_given;

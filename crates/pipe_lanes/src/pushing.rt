@@ -4,7 +4,7 @@ ghost use Rattle.std.specs.Prelude.{◌≡◌, ◌+◌, ◌≤◌, List, [], ◌
 ghost use Rattle.std.specs.List.{AllByRecursion, flat_map};
 ghost use Rattle.pipe_frame.specs.Frame.{Table};
 ghost use Rattle.pipe_frame.specs.Rows.{Same};
-ghost use Rattle.pipe_lanes.specs.Through.{steps_of, IsChain, AllServe, SameWork, made_of};
+ghost use Rattle.pipe_lanes.specs.Through.{steps_of, IsChain, AllServe, SameWork, KeepClosed, made_of};
 ghost use Rattle.pipe_lanes.specs.Counts.{operators_of, nodes_of, counts, AllWithin, after, IsOver};
 
 use crate::stage::{Basin, Refusal, Stage, count};
@@ -25,21 +25,29 @@ pub fn push<O: Operator, K: Sink>(
     basin: &mut Basin<K>,
 ) -> Result<(), Refusal>
     requires idle { AllByRecursion O.idle (operators_of stages.old) }
-    requires serves { AllServe O.serves shared.now (operators_of stages.old) }
-    requires chain { IsChain O.takes O.output chunk.frame.schema (operators_of stages.old) (K.schema basin.old.sink) }
+    requires serves { AllServe O.Operator shared.now (operators_of stages.old) }
+    requires chain { IsChain O.Operator chunk.frame.schema (operators_of stages.old)
+        (K.schema basin.old.sink) }
     requires within { AllWithin context.now.row_limit (counts stages.old basin.old) }
     requires held { length (K.held basin.old.sink) ≤ basin.old.given }
-    ensures work { SameWork O.takes O.output O.each O.serves (operators_of stages.old) (operators_of stages.new) }
+    ensures work { SameWork O.Operator (operators_of stages.old) (operators_of stages.new) }
+    ensures closed { KeepClosed O.Operator (operators_of stages.old) (operators_of stages.new) }
     ensures nodes { nodes_of stages.new basin.new ≡ nodes_of stages.old basin.old }
     ensures setting { K.setting basin.new.sink ≡ K.setting basin.old.sink }
     ensures schema { K.schema basin.new.sink ≡ K.schema basin.old.sink }
     ensures gives { K.gives basin.new.sink ≡ K.gives basin.old.sink }
     ensures idle { IfOk result (λ _. AllByRecursion O.idle (operators_of stages.new)) }
-    ensures held { IfOk result (λ _. Same (K.held basin.new.sink) (K.held basin.old.sink ++ made_of O.each O.output shared.now (operators_of stages.old) chunk.frame)) }
-    ensures within { IfOk result (λ _. AllWithin context.now.row_limit (counts stages.new basin.new)) }
+    ensures held { IfOk result (λ _. Same (K.held basin.new.sink) (K.held basin.old.sink
+        ++ made_of O.Operator shared.now (operators_of stages.old) chunk.frame)) }
+    ensures within { IfOk result (λ _. AllWithin context.now.row_limit
+        (counts stages.new basin.new)) }
     ensures room { IfOk result (λ _. length (K.held basin.new.sink) ≤ basin.new.given) }
-    ensures tally { IfOk result (λ _. counts stages.new basin.new ≡ after shared.now (steps_of O.each O.output chunk.frame.schema (operators_of stages.old)) chunk.frame.rows (counts stages.old basin.old)) }
-    ensures over { IfErr result (IsOver context.now.row_limit (after shared.now (steps_of O.each O.output chunk.frame.schema (operators_of stages.old)) chunk.frame.rows (counts stages.old basin.old)) (nodes_of stages.old basin.old)) }
+    ensures tally { IfOk result (λ _. counts stages.new basin.new
+        ≡ after shared.now (steps_of O.Operator chunk.frame.schema
+        (operators_of stages.old)) chunk.frame.rows (counts stages.old basin.old)) }
+    ensures over { IfErr result (IsOver context.now.row_limit (after shared.now
+        (steps_of O.Operator chunk.frame.schema (operators_of stages.old)) chunk.frame.rows
+        (counts stages.old basin.old)) (nodes_of stages.old basin.old)) }
 {
     let Some((stage, rest)) = stages.split_first_mut() else {
         return fill(alloc, context, chunk, basin);
@@ -72,11 +80,13 @@ fn fill<K: Sink>(
     ensures setting { K.setting basin.new.sink ≡ K.setting basin.old.sink }
     ensures schema { K.schema basin.new.sink ≡ K.schema basin.old.sink }
     ensures gives { K.gives basin.new.sink ≡ K.gives basin.old.sink }
-    ensures held { IfOk result (λ _. Same (K.held basin.new.sink) (K.held basin.old.sink ++ chunk.frame.rows)) }
+    ensures held { IfOk result (λ _. Same (K.held basin.new.sink) (K.held basin.old.sink
+        ++ chunk.frame.rows)) }
     ensures within { IfOk result (λ _. basin.new.given ≤ context.now.row_limit) }
     ensures room { IfOk result (λ _. length (K.held basin.new.sink) ≤ basin.new.given) }
     ensures given { IfOk result (λ _. basin.new.given ≡ basin.old.given + length chunk.frame.rows) }
-    ensures over { IfErr result (IsOver context.now.row_limit ((basin.old.given + length chunk.frame.rows) ∷ []) (basin.old.node ∷ [])) }
+    ensures over { IfErr result (IsOver context.now.row_limit
+        ((basin.old.given + length chunk.frame.rows) ∷ []) (basin.old.node ∷ [])) }
 {
     if !count(context, &mut basin.given, chunk.frame.height()) {
         return Err(Refusal::TooMany(basin.node));
@@ -99,22 +109,34 @@ fn pump<O: Operator, K: Sink>(
     basin: &mut Basin<K>,
 ) -> Result<(), Refusal>
     requires idle { AllByRecursion O.idle (operator.old ∷ operators_of rest.old) }
-    requires serves { AllServe O.serves shared.now (operator.old ∷ operators_of rest.old) }
-    requires chain { IsChain O.takes O.output chunk.now.frame.schema (operator.old ∷ operators_of rest.old) (K.schema basin.old.sink) }
+    requires serves { AllServe O.Operator shared.now (operator.old ∷ operators_of rest.old) }
+    requires chain { IsChain O.Operator chunk.now.frame.schema
+        (operator.old ∷ operators_of rest.old) (K.schema basin.old.sink) }
     requires size { length chunk.now.frame.rows ≤ context.now.row_limit }
     requires within { AllWithin context.now.row_limit (counts rest.old basin.old) }
     requires held { length (K.held basin.old.sink) ≤ basin.old.given }
-    ensures work { SameWork O.takes O.output O.each O.serves (operator.old ∷ operators_of rest.old) (operator.new ∷ operators_of rest.new) }
+    ensures work { SameWork O.Operator (operator.old ∷ operators_of rest.old)
+        (operator.new ∷ operators_of rest.new) }
+    ensures closed { KeepClosed O.Operator (operator.old ∷ operators_of rest.old)
+        (operator.new ∷ operators_of rest.new) }
     ensures nodes { nodes_of rest.new basin.new ≡ nodes_of rest.old basin.old }
     ensures setting { K.setting basin.new.sink ≡ K.setting basin.old.sink }
     ensures schema { K.schema basin.new.sink ≡ K.schema basin.old.sink }
     ensures gives { K.gives basin.new.sink ≡ K.gives basin.old.sink }
     ensures idle { IfOk result (λ _. AllByRecursion O.idle (operator.new ∷ operators_of rest.new)) }
-    ensures held { IfOk result (λ _. Same (K.held basin.new.sink) (K.held basin.old.sink ++ made_of O.each O.output shared.now (operator.old ∷ operators_of rest.old) chunk.now.frame)) }
-    ensures within { IfOk result (λ _. AllWithin context.now.row_limit (counts rest.new basin.new)) }
+    ensures held { IfOk result (λ _. Same (K.held basin.new.sink) (K.held basin.old.sink
+        ++ made_of O.Operator shared.now (operator.old ∷ operators_of rest.old) chunk.now.frame)) }
+    ensures within { IfOk result (λ _. AllWithin context.now.row_limit
+        (counts rest.new basin.new)) }
     ensures room { IfOk result (λ _. length (K.held basin.new.sink) ≤ basin.new.given) }
-    ensures tally { IfOk result (λ _. counts rest.new basin.new ≡ after shared.now (steps_of O.each O.output (O.output operator.old chunk.now.frame.schema) (operators_of rest.old)) (flat_map (O.each operator.old chunk.now.frame.schema shared.now) chunk.now.frame.rows) (counts rest.old basin.old)) }
-    ensures over { IfErr result (IsOver context.now.row_limit (after shared.now (steps_of O.each O.output (O.output operator.old chunk.now.frame.schema) (operators_of rest.old)) (flat_map (O.each operator.old chunk.now.frame.schema shared.now) chunk.now.frame.rows) (counts rest.old basin.old)) (nodes_of rest.old basin.old)) }
+    ensures tally { IfOk result (λ _. counts rest.new basin.new
+        ≡ after shared.now (steps_of O.Operator (O.output operator.old chunk.now.frame.schema)
+        (operators_of rest.old)) (flat_map (O.each operator.old chunk.now.frame.schema shared.now)
+        chunk.now.frame.rows) (counts rest.old basin.old)) }
+    ensures over { IfErr result (IsOver context.now.row_limit (after shared.now
+        (steps_of O.Operator (O.output operator.old chunk.now.frame.schema)
+        (operators_of rest.old)) (flat_map (O.each operator.old chunk.now.frame.schema shared.now)
+        chunk.now.frame.rows) (counts rest.old basin.old)) (nodes_of rest.old basin.old)) }
 {
     loop {
         let Ok(answer) = operator.execute(alloc, context, shared, chunk) else {
@@ -142,21 +164,30 @@ pub fn push_shared<O: Operator, K: Sink>(
     basin: &mut Basin<K>,
 ) -> Result<(), Refusal>
     requires idle { AllByRecursion O.idle (operators_of stages.old) }
-    requires serves { AllServe O.serves shared.now (operators_of stages.old) }
-    requires chain { IsChain O.takes O.output chunk.now.frame.schema (operators_of stages.old) (K.schema basin.old.sink) }
+    requires serves { AllServe O.Operator shared.now (operators_of stages.old) }
+    requires chain { IsChain O.Operator chunk.now.frame.schema (operators_of stages.old)
+        (K.schema basin.old.sink) }
     requires within { AllWithin context.now.row_limit (counts stages.old basin.old) }
     requires held { length (K.held basin.old.sink) ≤ basin.old.given }
-    ensures work { SameWork O.takes O.output O.each O.serves (operators_of stages.old) (operators_of stages.new) }
+    ensures work { SameWork O.Operator (operators_of stages.old) (operators_of stages.new) }
+    ensures closed { KeepClosed O.Operator (operators_of stages.old) (operators_of stages.new) }
     ensures nodes { nodes_of stages.new basin.new ≡ nodes_of stages.old basin.old }
     ensures setting { K.setting basin.new.sink ≡ K.setting basin.old.sink }
     ensures schema { K.schema basin.new.sink ≡ K.schema basin.old.sink }
     ensures gives { K.gives basin.new.sink ≡ K.gives basin.old.sink }
     ensures idle { IfOk result (λ _. AllByRecursion O.idle (operators_of stages.new)) }
-    ensures held { IfOk result (λ _. Same (K.held basin.new.sink) (K.held basin.old.sink ++ made_of O.each O.output shared.now (operators_of stages.old) chunk.now.frame)) }
-    ensures within { IfOk result (λ _. AllWithin context.now.row_limit (counts stages.new basin.new)) }
+    ensures held { IfOk result (λ _. Same (K.held basin.new.sink) (K.held basin.old.sink
+        ++ made_of O.Operator shared.now (operators_of stages.old) chunk.now.frame)) }
+    ensures within { IfOk result (λ _. AllWithin context.now.row_limit
+        (counts stages.new basin.new)) }
     ensures room { IfOk result (λ _. length (K.held basin.new.sink) ≤ basin.new.given) }
-    ensures tally { IfOk result (λ _. counts stages.new basin.new ≡ after shared.now (steps_of O.each O.output chunk.now.frame.schema (operators_of stages.old)) chunk.now.frame.rows (counts stages.old basin.old)) }
-    ensures over { IfErr result (IsOver context.now.row_limit (after shared.now (steps_of O.each O.output chunk.now.frame.schema (operators_of stages.old)) chunk.now.frame.rows (counts stages.old basin.old)) (nodes_of stages.old basin.old)) }
+    ensures tally { IfOk result (λ _. counts stages.new basin.new
+        ≡ after shared.now (steps_of O.Operator chunk.now.frame.schema
+        (operators_of stages.old)) chunk.now.frame.rows (counts stages.old basin.old)) }
+    ensures over { IfErr result (IsOver context.now.row_limit (after shared.now
+        (steps_of O.Operator chunk.now.frame.schema
+        (operators_of stages.old)) chunk.now.frame.rows (counts stages.old basin.old))
+        (nodes_of stages.old basin.old)) }
 {
     let Some((stage, rest)) = stages.split_first_mut() else {
         let Ok(own) = chunk.try_clone() else {

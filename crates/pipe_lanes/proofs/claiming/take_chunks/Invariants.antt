@@ -1,6 +1,6 @@
 use Rattle.std.proofs.Common.{◌+◌, ◌-◌, ◌≤◌, length}
-use Rattle.pipe_lanes.specs.Claimed.{schema_in, drawn_in, rows_taken, IsSeated}
-use Rattle.pipe_lanes.specs.Lanes.{IsFit, Ran, IsCalm}
+use Rattle.pipe_lanes.specs.Claimed.{schema_in, drawn_in, IsSeated, Took}
+use Rattle.pipe_lanes.specs.Lanes.{IsFit, IsCalm}
 use Rattle.pipe_lanes.proofs.claiming.take_chunks.Given as goal
 
 abbrev pub invariant-loop-alloc : goal.invariant-loop-alloc
@@ -11,8 +11,8 @@ invariant-loop-alloc g l =
       seated : IsSeated l.claims.table l.lane;
       calm : IsCalm l.lane;
       few : length (drawn_in l.lane) ≤ length l.morsels;
-      fit : IsFit op.takes op.output op.serves op.idle sink.schema sink.held l.shared l.context.row_limit (schema_in l.morsels) l.lane;
-      ran : Ran op.takes op.output op.each op.serves sink.setting sink.schema sink.gives sink.held l.shared l.context.row_limit (schema_in l.morsels) (rows_taken l.morsels l.lane) l.fn.lane l.lane;
+      fit : IsFit op sink l.shared l.context.row_limit (schema_in l.morsels) l.lane;
+      took : Took op sink l.shared l.context.row_limit l.morsels (drawn_in l.lane) l.fn.lane l.lane;
     }
 
 abbrev pub decreases-loop-alloc : goal.decreases-loop-alloc

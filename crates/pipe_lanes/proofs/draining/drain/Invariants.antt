@@ -1,7 +1,7 @@
 use Rattle.std.proofs.Common.{length, ◌≡◌, ◌≤◌, ◌++◌, true}
 use Rattle.std.specs.List.{flat_map, AllByRecursion}
 use Rattle.pipe_frame.specs.Rows.{Same}
-use Rattle.pipe_lanes.specs.Through.{through, steps_of, SameWork}
+use Rattle.pipe_lanes.specs.Through.{through, steps_of, SameWork, KeepClosed}
 use Rattle.pipe_lanes.specs.Counts.{operators_of, nodes_of, counts, AllWithin, after}
 use Rattle.pipe_lanes.proofs.Work.{SameOne}
 use Rattle.pipe_lanes.proofs.draining.drain.Given as goal
@@ -9,13 +9,14 @@ use Rattle.pipe_lanes.proofs.draining.drain.Given as goal
 abbrev pub invariant-loop-answer : goal.invariant-loop-answer
 invariant-loop-answer g l =
     let op = g.O.Operator in
-    let behind = steps_of op.each op.output (op.flushed l.initial.operator) (operators_of l.initial.rest) in
+    let behind = steps_of op (op.flushed l.initial.operator) (operators_of l.initial.rest) in
     record {
-      one : SameOne op.takes op.output op.each op.serves l.initial.operator l.operator;
+      one : SameOne op l.initial.operator l.operator;
       begun : op.flushing l.operator ≡ true;
       closed : op.closed l.operator l.shared;
       flushed : op.flushed l.operator ≡ op.flushed l.initial.operator;
-      others : SameWork op.takes op.output op.each op.serves (operators_of l.initial.rest) (operators_of l.rest);
+      others : SameWork op (operators_of l.initial.rest) (operators_of l.rest);
+      still : KeepClosed op (operators_of l.initial.rest) (operators_of l.rest);
       idle : AllByRecursion op.idle (operators_of l.rest);
       nodes : nodes_of l.rest l.basin ≡ nodes_of l.initial.rest l.initial.basin;
       setting : g.K.Sink.setting l.basin.sink ≡ g.K.Sink.setting l.initial.basin.sink;

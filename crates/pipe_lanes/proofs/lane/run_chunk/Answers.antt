@@ -7,11 +7,11 @@ pub returns-in-Err-clause-fit : goal.returns-in-Err-clause-fit
 returns-in-Err-clause-fit g c =
     let same = with_items_is c.args.lane.now.stages c.push_shared.new.stages (omega (arith, c.push_shared.auto.stages, ap length c.as_mut_slice-stages.ensures.value, c.args.lane.now.stages.ok.0)) in
     let work = rw c.as_mut_slice-stages.ensures.value at c.push_shared.ensures.work in
-    fit-after g.O.Operator.takes g.O.Operator.output g.O.Operator.each g.O.Operator.serves g.O.Operator.idle g.K.Sink.setting g.K.Sink.schema g.K.Sink.gives g.K.Sink.held c.args.shared.now c.args.context.now.row_limit c.args.chunk.now.frame.schema _ _ c.requires.fit (rw same work) c.push_shared.ensures.schema (λ e. cc) (λ e. cc) (λ e. cc)
+    fit-after g.O.Operator g.K.Sink c.args.shared.now c.args.context.now.row_limit c.args.chunk.now.frame.schema _ _ c.requires.fit (rw same work) c.push_shared.ensures.schema (λ e. cc) (λ e. cc) (λ e. cc)
 
 pub returns-in-Ok-clause-fit : goal.returns-in-Ok-clause-fit
 returns-in-Ok-clause-fit g c =
     let p = c.in-Ok.ensures in
     let same = with_items_is c.args.lane.now.stages c.push_shared.new.stages (omega (arith, c.push_shared.auto.stages, ap length c.as_mut_slice-stages.ensures.value, c.args.lane.now.stages.ok.0)) in
     let work = rw c.as_mut_slice-stages.ensures.value at c.push_shared.ensures.work in
-    fit-after g.O.Operator.takes g.O.Operator.output g.O.Operator.each g.O.Operator.serves g.O.Operator.idle g.K.Sink.setting g.K.Sink.schema g.K.Sink.gives g.K.Sink.held c.args.shared.now c.args.context.now.row_limit c.args.chunk.now.frame.schema _ _ c.requires.fit (rw same work) c.push_shared.ensures.schema (λ e. rw same p.idle) (λ e. rw same p.within) (λ e. p.room)
+    fit-after g.O.Operator g.K.Sink c.args.shared.now c.args.context.now.row_limit c.args.chunk.now.frame.schema _ _ c.requires.fit (rw same work) c.push_shared.ensures.schema (λ e. rw same p.idle) (λ e. rw same p.within) (λ e. p.room)
