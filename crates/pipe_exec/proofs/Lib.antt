@@ -1,3 +1,4 @@
 pub mod FirstPlace
+pub mod FirstShape
 pub mod FirstMeaning
 pub mod Chunks
