@@ -22,7 +22,7 @@ use Rattle.pipe_job.specs.Line.{head_line, row_line, lines}
 use Rattle.pipe_job.specs.Reading.{Reading, ReadsJob, ReadsNoJob, ReadsNothing}
 use Rattle.pipe_job.proofs.Cut.{lines-frame}
 use Rattle.pipe_job.proofs.OneJob.{one_job}
-use Rattle.pipe_cli.specs.Answer.{Answered, FirstJob, IsFirstJob, IsRefusedJob, IsSoundJob, OtherJob, RefusedAs, SoundJob, ToldAs}
+use Rattle.pipe_cli.specs.Answer.{Answered, Explained, branch_lines, FirstJob, IsFirstJob, IsRefusedJob, IsSoundJob, OtherJob, RefusedAs, SoundJob, ToldAs}
 use Rattle.pipe_cli.specs.Causes.{Causes, JobCauses, Tells}
 use Rattle.pipe_cli.specs.declared.status.Refusal.{Refusal}
 use Rattle.pipe_cli.specs.declared.status.Refusal.TheVariants as refusal
@@ -111,6 +111,13 @@ answered bytes text job frame read sound first schema same e = record {
 
 pub sound_read : (bytes : List ℕ) (job : Task) → ReadsJob bytes job → IsSoundJob job → SoundJob bytes
 sound_read bytes job read sound = record { job = job; read = read; sound = sound }
+
+-- the lines of a job that was read are the explanation of its bytes
+pub explained : (bytes text : List ℕ) (job : Task) → ReadsJob bytes job → IsSoundJob job → text ≡ branch_lines job → Explained bytes text
+explained bytes text job read sound e = record { job = job; read = read; sound = sound; lines_are = e }
+
+pub explained_sound : (bytes text : List ℕ) → Explained bytes text → SoundJob bytes
+explained_sound bytes text e = record { job = e.job; read = e.read; sound = e.sound }
 
 -- an error of the check of a job is told of the job
 pub told_job : (r : Refusal) (job : Task) (e : PipeError) → CheckCauses job.plan job.root job.config e → Tells r e → JobCauses r job

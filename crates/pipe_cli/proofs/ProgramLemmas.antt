@@ -5,13 +5,14 @@ use Rattle.std.specs.Prelude.{IfSome, OnErr, OnOk}
 use Rattle.pipe_frame.specs.Counts.{Rises}
 use Rattle.pipe_outside.specs.Outside.{AtEnd, CountedAbove, InputSeen, OutputSeen, WriteFails, Writes, WritesFront}
 use Rattle.pipe_outside.specs.Whole.{IsAll}
-use Rattle.pipe_cli.specs.Answer.{Answered, OtherJob, SoundJob}
+use Rattle.pipe_cli.specs.Answer.{Answered, Explained, OtherJob, SoundJob}
 use Rattle.pipe_cli.specs.Causes.{Causes}
-use Rattle.pipe_cli.specs.Headline.{IsAnswer, IsTooMany, IsWhole, Passed, PassedInPart, Ran, RanInPart, SoundOn, limit}
+use Rattle.pipe_cli.specs.Headline.{IsAnswer, IsExplanation, WasExplained, WasExplainedInPart, IsTooMany, IsWhole, Passed, PassedInPart, Ran, RanInPart, SoundOn, limit}
 use Rattle.pipe_cli.specs.Noted.{Noted}
 use Rattle.pipe_cli.specs.Refused.{NotJobOn, NotJsonOn, OfReading, OfText, OfWriting, ToldOn, UnbuiltOf, UnbuiltOn}
 use Rattle.pipe_cli.specs.Status.{OneOf, status_of}
-use Rattle.pipe_cli.specs.Words.{Opened, Run, bytes_at, ok_text, request}
+use Rattle.pipe_cli.specs.Texts.{ok_text}
+use Rattle.pipe_cli.specs.Words.{Opened, Run, bytes_at, request}
 use Rattle.pipe_cli.specs.declared.status.Refusal.{Refusal}
 use Rattle.pipe_cli.specs.declared.status.Refusal.TheVariants as refusal
 
@@ -89,6 +90,25 @@ sound_short (Some bytes) rest s whole = record { short = whole.short; sound = s 
 
 pub passed_part_told : (input rest : InputSeen) (out now : OutputSeen) → IfSome input.left SoundJob → IsWhole input.left rest → WritesFront ok_text out now → PassedInPart input.left out now
 passed_part_told input rest out now s whole w = (sound_short input.left rest s whole, w)
+
+-- the explanation of a job
+pub explanation_told : (bytes text : List ℕ) (told : Option (List ℕ)) → IfSome told (λ all. bytes ≡ all) → Explained bytes text → IsExplanation text told
+explanation_told bytes text None same e = tt
+explanation_told bytes text (Some all) same e = subst (λ (s : List ℕ). Explained s text) same e
+
+explained_with : (text : List ℕ) (told : Option (List ℕ)) (out now : OutputSeen) → IsExplanation text told → Writes text out now → WasExplained told out now
+explained_with text None out now e w = tt
+explained_with text (Some bytes) out now e w = record { text = text; explained = e; wrote = w }
+
+pub explained_told : (text : List ℕ) (input : InputSeen) (out now : OutputSeen) → IsExplanation text input.left → Writes text out now → WasExplained input.left out now
+explained_told text input out now e w = explained_with text input.left out now e w
+
+explained_part_with : (text : List ℕ) (told : Option (List ℕ)) (rest : InputSeen) (out now : OutputSeen) → IsExplanation text told → IsWhole told rest → WritesFront text out now → WasExplainedInPart told out now
+explained_part_with text None rest out now e whole w = tt
+explained_part_with text (Some bytes) rest out now e whole w = record { short = whole.short; text = text; explained = e; wrote = w }
+
+pub explained_part_told : (text : List ℕ) (input rest : InputSeen) (out now : OutputSeen) → IsExplanation text input.left → IsWhole input.left rest → WritesFront text out now → WasExplainedInPart input.left out now
+explained_part_told text input rest out now e whole w = explained_part_with text input.left rest out now e whole w
 
 -- ---- the job under a name: what is left once it was opened is what was told of it
 

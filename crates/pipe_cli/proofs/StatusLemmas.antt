@@ -4,14 +4,14 @@ use Rattle.std.specs.Prelude.{IfSome, IsSomeAnd}
 use Rattle.pipe_job.specs.Reading.{ReadsNoJob}
 use Rattle.pipe_outside.specs.Outside.{InputSeen, OutputSeen}
 use Rattle.pipe_cli.specs.Answer.{OtherJob, RefusedAs, SoundJob, ToldAs}
-use Rattle.pipe_cli.specs.Headline.{GoodRun, IsGood, IsGoodFor, IsOther, IsOtherFor, IsTooMany, IsUnbuiltFor, RanInPartOn, RanOn, ReadOn, SoundOn, WasRead, Wrote, WroteFor, WroteFrontFor, limit}
+use Rattle.pipe_cli.specs.Headline.{ExplainedOn, ExplainedInPartOn, GoodRun, IsGood, IsGoodFor, IsOther, IsOtherFor, IsTooMany, IsUnbuiltFor, RanInPartOn, RanOn, ReadOn, SoundOn, WasRead, Wrote, WroteFor, WroteFrontFor, limit}
 use Rattle.pipe_cli.specs.Noted.{Noted, NotedFault}
 use Rattle.pipe_cli.specs.Refused.{NotJobOn, NotJsonOn, OfWords, ReadingOf, TextOf, ToldOn, UnbuiltOf, UnbuiltOn, WritingOf}
 use Rattle.pipe_cli.specs.Status.{IsFixed, OneOf, line_of, status_line, status_of}
 use Rattle.pipe_cli.specs.declared.status.Refusal.{Refusal}
 use Rattle.pipe_cli.specs.declared.status.Refusal.TheVariants as refusal
-use Rattle.pipe_cli.specs.Words.{IsJob, Request, Run, Check, Help, Version, bytes_at, job_asked, job_bytes, request}
-use Rattle.pipe_cli.proofs.AnswerLemmas.{answered_first, answered_sound, first_sound, none_job, nothing_job, nothing_none, one_status, other_first, other_sound, refused_as, sound_as}
+use Rattle.pipe_cli.specs.Words.{IsJob, Request, Run, Check, Explain, Help, Version, bytes_at, job_asked, job_bytes, request}
+use Rattle.pipe_cli.proofs.AnswerLemmas.{answered_first, answered_sound, explained_sound, first_sound, none_job, nothing_job, nothing_none, one_status, other_first, other_sound, refused_as, sound_as}
 
 -- ---- facts of the bytes that are told
 
@@ -42,6 +42,7 @@ unknown_job None input fact e h = h
 sound_of : (asked : Option Request) (input : InputSeen) (out now : OutputSeen) → WroteFor asked input out now → IfSome (job_asked asked input) SoundJob
 sound_of (Some (Run name)) input out now h = follows (bytes_at name input) (λ b. RanOn b out now) SoundJob (λ b p. answered_sound b p.text p.answered) h
 sound_of (Some Check) input out now h = h.0
+sound_of (Some Explain) input out now h = follows input.left (λ b. ExplainedOn b out now) SoundJob (λ b p. explained_sound b p.text p.explained) h
 sound_of (Some Help) input out now h = tt
 sound_of (Some Version) input out now h = tt
 sound_of None input out now h = absurd h
@@ -49,6 +50,7 @@ sound_of None input out now h = absurd h
 sound_part : (asked : Option Request) (input : InputSeen) (out now : OutputSeen) → WroteFrontFor asked input out now → IfSome (job_asked asked input) SoundOn
 sound_part (Some (Run name)) input out now h = follows (bytes_at name input) (λ b. RanInPartOn b out now) SoundOn (λ b p. record { short = p.short; sound = answered_sound b p.text p.answered }) h
 sound_part (Some Check) input out now h = h.0
+sound_part (Some Explain) input out now h = follows input.left (λ b. ExplainedInPartOn b out now) SoundOn (λ b p. record { short = p.short; sound = explained_sound b p.text p.explained }) h
 sound_part (Some Help) input out now h = tt
 sound_part (Some Version) input out now h = tt
 sound_part None input out now h = absurd h
@@ -124,6 +126,7 @@ before_run = 2 ∷ 3 ∷ 10 ∷ 11 ∷ []
 other_told : (asked : Option Request) (input : InputSeen) → IsOtherFor asked input → IsSomeAnd (job_asked asked input) OtherJob
 other_told (Some (Run name)) input o = o
 other_told (Some Check) input o = absurd o
+other_told (Some Explain) input o = absurd o
 other_told (Some Help) input o = absurd o
 other_told (Some Version) input o = absurd o
 other_told None input o = absurd o
@@ -131,6 +134,7 @@ other_told None input o = absurd o
 other_wrote : (asked : Option Request) (input : InputSeen) (out now : OutputSeen) → WroteFor asked input out now → IsOtherFor asked input → ⊥
 other_wrote (Some (Run name)) input out now h o = clash (bytes_at name input) (λ b. RanOn b out now) OtherJob (λ b p q. other_first b q (answered_first b p.text p.answered)) h o
 other_wrote (Some Check) input out now h o = o
+other_wrote (Some Explain) input out now h o = o
 other_wrote (Some Help) input out now h o = o
 other_wrote (Some Version) input out now h o = o
 other_wrote None input out now h o = o
@@ -138,6 +142,7 @@ other_wrote None input out now h o = o
 other_front : (asked : Option Request) (input : InputSeen) (out now : OutputSeen) → WroteFrontFor asked input out now → IsOtherFor asked input → ⊥
 other_front (Some (Run name)) input out now h o = clash (bytes_at name input) (λ b. RanInPartOn b out now) OtherJob (λ b p q. other_first b q (answered_first b p.text p.answered)) h o
 other_front (Some Check) input out now h o = o
+other_front (Some Explain) input out now h o = o
 other_front (Some Help) input out now h o = o
 other_front (Some Version) input out now h o = o
 other_front None input out now h o = o
@@ -165,6 +170,7 @@ of_good = 0 ∷ 2 ∷ 9 ∷ 10 ∷ []
 good_told : (asked : Option Request) (input : InputSeen) → IsGoodFor asked input → IsSomeAnd (job_asked asked input) SoundOn
 good_told (Some (Run name)) input g = and_follows (bytes_at name input) GoodRun SoundOn (λ b p. record { short = p.short; sound = first_sound b p.job }) g
 good_told (Some Check) input g = g
+good_told (Some Explain) input g = g
 good_told (Some Help) input g = absurd g
 good_told (Some Version) input g = absurd g
 good_told None input g = absurd g
@@ -172,6 +178,7 @@ good_told None input g = absurd g
 good_built : (asked : Option Request) (input : InputSeen) → IsUnbuiltFor asked input → IsGoodFor asked input → ⊥
 good_built (Some (Run name)) input u g = clash (bytes_at name input) OtherJob GoodRun (λ b p q. other_first b p q.job) u g
 good_built (Some Check) input u g = u
+good_built (Some Explain) input u g = u
 good_built (Some Help) input u g = u
 good_built (Some Version) input u g = u
 good_built None input u g = u

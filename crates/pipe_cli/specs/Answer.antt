@@ -1,5 +1,8 @@
 -- The answer to a job: the line of its plan's column names, and the lines of its plan's rows; and which jobs have one.
-use Rattle.std.specs.Prelude.{ℕ, ◌≡◌, List, ◌∷◌, map}
+-- The explanation of a job: a line for each branch of its plan.
+use Rattle.std.specs.Prelude.{ℕ, ◌≡◌, List, [], ◌∷◌, ◌++◌, map}
+use Rattle.std.specs.List.{flat_map}
+use Rattle.pipe_branches.specs.Texts.{texts}
 use Rattle.pipe_frame.specs.Rows.{SameLines}
 use Rattle.pipe_faults.specs.FaultLine.{fault_line, fault_status}
 use Rattle.pipe_exec.specs.First.{IsFirst}
@@ -69,3 +72,18 @@ pub record Answered (bytes text : List ℕ) : Type 0 where
   pub row_lines : List (List ℕ)
   pub cut : lines text ≡ head_line (schema_of job.plan job.root) ∷ row_lines
   pub same : SameLines row_lines (map row_line (rows_of job.plan job.root))
+
+-- a text and the end of its line
+abbrev pub ended : List ℕ → List ℕ
+ended text = text ++ 10 ∷ []
+
+-- the lines of a job: the texts of its plan's branches, in their order
+abbrev pub branch_lines : Task → List ℕ
+branch_lines job = flat_map ended (texts job.plan job.root)
+
+-- the bytes spell a job that may be run, and the text is its lines
+pub record Explained (bytes text : List ℕ) : Type 0 where
+  pub job : Task
+  pub read : ReadsJob bytes job
+  pub sound : IsSoundJob job
+  pub lines_are : text ≡ branch_lines job

@@ -1,8 +1,9 @@
 -- What a run of the program says of its input and its output.
 use Rattle.std.specs.Prelude.{ℕ, ◌≡◌, ◌<◌, ◌≤◌, List, [], length, Option, Some, None, IfSome, IsSomeAnd}
 use Rattle.pipe_outside.specs.Outside.{CountedAbove, InputSeen, OutputSeen, Writes, WritesFront}
-use Rattle.pipe_cli.specs.Answer.{Answered, FirstJob, OtherJob, SoundJob}
-use Rattle.pipe_cli.specs.Words.{Request, Run, Check, Help, Version, bytes_at, help_text, job_bytes, ok_text, request, version_text}
+use Rattle.pipe_cli.specs.Answer.{Answered, Explained, FirstJob, OtherJob, SoundJob}
+use Rattle.pipe_cli.specs.Texts.{help_text, ok_text, version_text}
+use Rattle.pipe_cli.specs.Words.{Request, Run, Check, Explain, Help, Version, bytes_at, job_bytes, request}
 
 -- how many bytes a job has at most
 abbrev pub limit : ℕ
@@ -60,10 +61,34 @@ pub record SoundOn (bytes : List ℕ) : Type 0 where
 abbrev pub PassedInPart : Option (List ℕ) → OutputSeen → OutputSeen → Type 0
 PassedInPart told out now = IfSome told SoundOn × WritesFront ok_text out now
 
--- what was asked for was written: the answer to the job, that it is good, or a text
+-- a text is the explanation of the bytes of a job, where they are told
+abbrev pub IsExplanation : List ℕ → Option (List ℕ) → Type 0
+IsExplanation text told = IfSome told (λ bytes. Explained bytes text)
+
+-- the explanation of bytes was written
+pub record ExplainedOn (bytes : List ℕ) (out now : OutputSeen) : Type 0 where
+  pub text : List ℕ
+  pub explained : Explained bytes text
+  pub wrote : Writes text out now
+
+abbrev pub WasExplained : Option (List ℕ) → OutputSeen → OutputSeen → Type 0
+WasExplained told out now = IfSome told (λ bytes. ExplainedOn bytes out now)
+
+-- a front of it was written, to bytes of which a job may have so many
+pub record ExplainedInPartOn (bytes : List ℕ) (out now : OutputSeen) : Type 0 where
+  pub short : length bytes ≤ limit
+  pub text : List ℕ
+  pub explained : Explained bytes text
+  pub wrote : WritesFront text out now
+
+abbrev pub WasExplainedInPart : Option (List ℕ) → OutputSeen → OutputSeen → Type 0
+WasExplainedInPart told out now = IfSome told (λ bytes. ExplainedInPartOn bytes out now)
+
+-- what was asked for was written: the answer to the job, that it is good, its branches, or a text
 abbrev pub WroteFor : Option Request → InputSeen → OutputSeen → OutputSeen → Type 0
 WroteFor (Some (Run name)) input out now = Ran (bytes_at name input) out now
 WroteFor (Some Check) input out now = Passed input.left out now
+WroteFor (Some Explain) input out now = WasExplained input.left out now
 WroteFor (Some Help) input out now = Writes help_text out now
 WroteFor (Some Version) input out now = Writes version_text out now
 WroteFor None input out now = ⊥
@@ -75,6 +100,7 @@ Wrote words input out now = WroteFor (request words) input out now
 abbrev pub WroteFrontFor : Option Request → InputSeen → OutputSeen → OutputSeen → Type 0
 WroteFrontFor (Some (Run name)) input out now = RanInPart (bytes_at name input) out now
 WroteFrontFor (Some Check) input out now = PassedInPart input.left out now
+WroteFrontFor (Some Explain) input out now = WasExplainedInPart input.left out now
 WroteFrontFor (Some Help) input out now = WritesFront help_text out now
 WroteFrontFor (Some Version) input out now = WritesFront version_text out now
 WroteFrontFor None input out now = ⊥
@@ -90,10 +116,11 @@ pub record IsLongOn (told : Option (List ℕ)) (input now : InputSeen) : Type 0 
 abbrev pub IsTooLong : List (List ℕ) → InputSeen → InputSeen → Type 0
 IsTooLong words input now = IsLongOn (job_bytes words input) input now
 
--- a job is to be run, and can't be so far; none that is looked at is told so
+-- a job is to be run, and can't be so far; none that is looked at or explained is told so
 abbrev pub IsUnbuiltFor : Option Request → InputSeen → Type 0
 IsUnbuiltFor (Some (Run name)) input = IfSome (bytes_at name input) OtherJob
 IsUnbuiltFor (Some Check) input = ⊥
+IsUnbuiltFor (Some Explain) input = ⊥
 IsUnbuiltFor (Some Help) input = ⊥
 IsUnbuiltFor (Some Version) input = ⊥
 IsUnbuiltFor None input = ⊥
@@ -105,6 +132,7 @@ IsUnbuilt words input = IsUnbuiltFor (request words) input
 abbrev pub IsOtherFor : Option Request → InputSeen → Type 0
 IsOtherFor (Some (Run name)) input = IsSomeAnd (bytes_at name input) OtherJob
 IsOtherFor (Some Check) input = ⊥
+IsOtherFor (Some Explain) input = ⊥
 IsOtherFor (Some Help) input = ⊥
 IsOtherFor (Some Version) input = ⊥
 IsOtherFor None input = ⊥
@@ -117,10 +145,11 @@ pub record GoodRun (bytes : List ℕ) : Type 0 where
   pub short : length bytes ≤ limit
   pub job : FirstJob bytes
 
--- a job whose bytes are told is to be run and can be, or is to be looked at and is sound
+-- a job whose bytes are told is to be run and can be, or is to be looked at or explained and is sound
 abbrev pub IsGoodFor : Option Request → InputSeen → Type 0
 IsGoodFor (Some (Run name)) input = IsSomeAnd (bytes_at name input) GoodRun
 IsGoodFor (Some Check) input = IsSomeAnd input.left SoundOn
+IsGoodFor (Some Explain) input = IsSomeAnd input.left SoundOn
 IsGoodFor (Some Help) input = ⊥
 IsGoodFor (Some Version) input = ⊥
 IsGoodFor None input = ⊥

@@ -1,5 +1,7 @@
 -- commands
 pub mod Words
+-- texts that are written as they stand
+pub mod Texts
 -- statuses and their lines
 pub mod Status
 -- the answer to a job

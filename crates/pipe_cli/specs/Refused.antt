@@ -3,7 +3,7 @@ use Rattle.std.specs.Prelude.{ℕ, ◌≡◌, ◌≤◌, List, length, Option, N
 use Rattle.pipe_job.specs.Reading.{ReadsNoJob, ReadsNothing}
 use Rattle.pipe_outside.specs.Outside.{InputSeen, OutputSeen, ReadFails, WriteFails}
 use Rattle.pipe_cli.specs.Answer.{OtherJob, ToldAs}
-use Rattle.pipe_cli.specs.Headline.{IsLongOn, IsUnbuilt, PassedInPart, RanInPart, WroteFront, limit}
+use Rattle.pipe_cli.specs.Headline.{IsLongOn, IsUnbuilt, PassedInPart, RanInPart, WasExplainedInPart, WroteFront, limit}
 use Rattle.pipe_cli.specs.Words.{job_bytes, request}
 use Rattle.pipe_cli.specs.declared.status.Refusal.{Refusal}
 use Rattle.pipe_cli.specs.declared.status.Refusal.TheVariants as refusal
@@ -90,6 +90,9 @@ WritingLeft r input out now = OfWriting r (RanInPart input.left out now) out now
 
 abbrev pub CheckedLeft : Refusal → InputSeen → OutputSeen → OutputSeen → Type 0
 CheckedLeft r input out now = OfWriting r (PassedInPart input.left out now) out now
+
+abbrev pub ExplainedLeft : Refusal → InputSeen → OutputSeen → OutputSeen → Type 0
+ExplainedLeft r input out now = OfWriting r (WasExplainedInPart input.left out now) out now
 
 -- ---- the same of the job that words ask for
 

@@ -6,11 +6,12 @@ use Rattle.pipe_outside.specs.Outside.{InputSeen}
 use Rattle.pipe_cli.specs.declared.words.Command.{Command}
 use Rattle.pipe_cli.specs.declared.words.Command.TheVariants as command
 
--- what is asked for: that a job is run, on standard input or under a name; that the job on standard input is looked at;
--- or that a text is told
+-- what is asked for: that a job is run, on standard input or under a name; that the job on standard input is looked at,
+-- or that its branches are told; or that a text is told
 pub data Request : Type 0 where
   Run : (name : Option (List ℕ)) → Request
   Check : Request
+  Explain : Request
   Help : Request
   Version : Request
 
@@ -18,6 +19,7 @@ pub data Request : Type 0 where
 abbrev pub request_of : Command → Request
 request_of (command.Run name) = Run (option_copied name)
 request_of command.Check = Check
+request_of command.Explain = Explain
 request_of command.Help = Help
 request_of command.Version = Version
 
@@ -26,6 +28,7 @@ abbrev pub word_request : List ℕ → Option Request
 word_request word =
     if bytes_eq word (codes "run") then Some (Run None)
     else if bytes_eq word (codes "check") then Some Check
+    else if bytes_eq word (codes "explain") then Some Explain
     else if bytes_eq word (codes "--help") then Some Help
     else if bytes_eq word (codes "--version") then Some Version
     else None
@@ -54,6 +57,7 @@ Opened name input now = IfSome (bytes_at name input) (λ bytes. now.left ≡ Som
 abbrev pub job_asked : Option Request → InputSeen → Option (List ℕ)
 job_asked (Some (Run name)) input = bytes_at name input
 job_asked (Some Check) input = input.left
+job_asked (Some Explain) input = input.left
 job_asked (Some Help) input = None
 job_asked (Some Version) input = None
 job_asked None input = None
@@ -74,16 +78,7 @@ IsJob words input fact = IsSomeAnd (job_bytes words input) fact
 abbrev pub IsText : Option Request → Type 0
 IsText (Some (Run name)) = ⊥
 IsText (Some Check) = ⊥
+IsText (Some Explain) = ⊥
 IsText (Some Help) = ⊤
 IsText (Some Version) = ⊤
 IsText None = ⊥
-
-abbrev pub help_text : List ℕ
-help_text = codes "liskevar: runs jobs on tables and writes their rows.\n\nliskevar run        runs the job on standard input\nliskevar run FILE   runs the job in a file\nliskevar check      says whether the job on standard input is good\nliskevar --help     writes this text\nliskevar --version  writes the name and the version\n\nA job is a JSON object; docs/FORMATS.md gives its form. Its rows are\nwritten to standard output, one JSON array a line, after a line of the\ncolumn names; of a good job check writes ok. A refusal is a line on\nstandard error and a status:\n\n 0  done\n 1  the words are no command\n 2  reading failed\n 3  the job has more than 33,554,432 bytes\n 4  the text is not JSON\n 5  the value is no job\n 6  a number is out of its range, or the plan has a fault\n 7  the plan has more than 4,096 nodes\n 9  writing failed\n10  out of memory\n11  the plan is of no form that can be run so far\n"
-
--- what is written of a good job that is looked at
-abbrev pub ok_text : List ℕ
-ok_text = codes "ok\n"
-
-abbrev pub version_text : List ℕ
-version_text = codes "liskevar 0.1.0\n"

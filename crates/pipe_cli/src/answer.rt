@@ -1,4 +1,5 @@
-//! From the bytes of a job to the text of its rows, or the reason why there is none. It reads and writes nothing.
+//! From the bytes of a job to the text of its rows or of its branches, or the reason why there is none. It reads and
+//! writes nothing.
 
 ghost use Rattle.std.specs.Prelude.{◌≡◌, ◌++◌, IfOk, IfErr, IsErrOf, OnOk};
 ghost use Rattle.std.specs.List.{flat_map};
@@ -10,10 +11,12 @@ ghost use Rattle.pipe_job.specs.Reading.{Reading, ReadsJob};
 ghost use Rattle.pipe_plan.specs.Plan.{plan_of};
 ghost use Rattle.pipe_plan.specs.PlanRows.{rows_of};
 ghost use Rattle.pipe_plan.specs.Schemas.{schema_of};
-ghost use Rattle.pipe_cli.specs.Answer.{Answered, IsFirstJob, IsSoundJob, SoundJob};
+ghost use Rattle.pipe_cli.specs.Answer.{Answered, Explained, IsFirstJob, IsSoundJob, SoundJob, branch_lines};
 ghost use Rattle.pipe_cli.specs.Causes.{Causes, JobCauses, Tells};
 
+use crate::branch_lines::branch_lines;
 use crate::status::Refusal;
+use pipe_check::CheckedPlan;
 use pipe_exec::{RunError, check_job, run_plan};
 use pipe_faults::fault_line;
 use pipe_frame::{DataFrame, NeverStop, OpenGate};
@@ -94,20 +97,40 @@ fn frame_of(alloc: Global, job: &Job) -> Result<DataFrame, Refusal>
     }
 }
 
-/// Whether a job may be run.
+/// The plan of a job that may be run, checked.
 #[tactic(auto, using(crate::proofs::AnswerLemmas::told_job, crate::proofs::AnswerLemmas::told_built))]
-fn check_of(alloc: Global, job: &Job) -> Result<(), Refusal>
+fn checked(alloc: Global, job: &Job) -> Result<CheckedPlan<'_>, Refusal>
+    ensures plan { IfOk result (λ plan. plan ≡ record { arena = job.now.arena; root = job.now.root }) }
     ensures sound { OnOk result (IsSoundJob (task_of job.now)) }
     ensures err { IfErr result (λ refusal. JobCauses refusal (task_of job.now)) }
     ensures built { IsErrOf result Refusal.Unbuilt → ⊥ }
 {
     match check_job(alloc, &job.arena, job.root, &job.config) {
-        Ok(plan) => {
-            drop(plan);
-            Ok(())
-        }
+        Ok(plan) => Ok(plan),
         Err(error) => Err(refused(alloc, error)),
     }
+}
+
+/// Whether a job may be run.
+fn check_of(alloc: Global, job: &Job) -> Result<(), Refusal>
+    ensures sound { OnOk result (IsSoundJob (task_of job.now)) }
+    ensures err { IfErr result (λ refusal. JobCauses refusal (task_of job.now)) }
+    ensures built { IsErrOf result Refusal.Unbuilt → ⊥ }
+{
+    drop(checked(alloc, job)?);
+    Ok(())
+}
+
+/// The lines of the branches of a job that may be run.
+fn lines_of(alloc: Global, job: &Job) -> Result<Vec<u8>, Refusal>
+    ensures sound { OnOk result (IsSoundJob (task_of job.now)) }
+    ensures lines { IfOk result (λ text. text.items ≡ branch_lines (task_of job.now)) }
+    ensures err { IfErr result (λ refusal. JobCauses refusal (task_of job.now)) }
+    ensures built { IsErrOf result Refusal.Unbuilt → ⊥ }
+{
+    let plan = checked(alloc, job)?;
+    let text = branch_lines(alloc, &plan)?;
+    Ok(text)
 }
 
 /// The line of the column names, and the lines of the rows.
@@ -141,4 +164,16 @@ pub fn check(alloc: Global, bytes: Vec<u8>) -> Result<(), Refusal>
     let job = job_in(alloc, bytes)?;
     check_of(alloc, &job)?;
     Ok(())
+}
+
+/// The text of the branches of the plan of the job that the bytes are.
+#[tactic(auto, using(crate::proofs::AnswerLemmas::explained))]
+pub fn explanation(alloc: Global, bytes: Vec<u8>) -> Result<Vec<u8>, Refusal>
+    ensures ok { IfOk result (λ text. Explained bytes.items text.items) }
+    ensures err { IfErr result (λ refusal. Causes refusal bytes.items) }
+    ensures built { IsErrOf result Refusal.Unbuilt → ⊥ }
+{
+    let job = job_in(alloc, bytes)?;
+    let text = lines_of(alloc, &job)?;
+    Ok(text)
 }

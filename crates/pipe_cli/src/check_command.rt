@@ -1,17 +1,24 @@
 //! `check`: the job is read and looked at, and that it is good is written.
 
-ghost use Rattle.std.specs.Prelude.{◌∷◌, [], IfErr, IfSome, IsErrOf, OnOk};
+ghost use Rattle.std.specs.Prelude.{◌≡◌, ◌∷◌, [], IfErr, IfSome, IsErrOf, OnOk};
 ghost use Rattle.pipe_cli.specs.Answer.{SoundJob};
 ghost use Rattle.pipe_cli.specs.Headline.{IsWhole, Passed};
 ghost use Rattle.pipe_cli.specs.Refused.{CheckedLeft, OfText, ReadingLeft};
 ghost use Rattle.pipe_cli.specs.Status.{OneOf, status_of};
+ghost use Rattle.pipe_cli.specs.Texts.{ok_text};
 
 use crate::answer::check;
 use crate::status::Refusal;
 use crate::streams::{bytes_left, tell};
-use crate::words::ok;
 use pipe_outside::{JobReader, RowWriter};
 use std::alloc::Global;
+
+/// What is written of a good job.
+fn ok_text() -> &'static str
+    ensures { result.now ≡ ok_text }
+{
+    "ok\n"
+}
 
 /// Looks at the job that is left.
 #[tactic(auto, using(crate::proofs::ProgramLemmas::sound_told, crate::proofs::ProgramLemmas::text_told, crate::proofs::ProgramLemmas::caused_only))]
@@ -43,5 +50,5 @@ pub(crate) fn check_left<R: JobReader, W: RowWriter>(
     ensures built { IsErrOf result Refusal.Unbuilt → ⊥ }
 {
     look_at(alloc, input)?;
-    tell(out, ok().as_bytes())
+    tell(out, ok_text().as_bytes())
 }

@@ -5,11 +5,15 @@
 #![tactic(auto)]
 
 mod answer;
+mod branch_lines;
 mod check_command;
+mod explain_command;
+mod help;
 mod program;
 mod run_command;
 mod status;
 mod streams;
+mod version;
 mod words;
 
 pub use pipe_job::{Job, JobError, head_line, job_of, read_job, row_line};

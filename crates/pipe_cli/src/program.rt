@@ -11,10 +11,13 @@ ghost use Rattle.pipe_cli.specs.Status.{IsFixed, OneOf, line_of, status_line};
 ghost use Rattle.pipe_cli.specs.Words.{IfJob, IsJob, IsText, request};
 
 use crate::check_command::check_left;
+use crate::explain_command::explain_left;
+use crate::help::help_text;
 use crate::run_command::run_left;
 use crate::status::Refusal;
 use crate::streams::{open, tell};
-use crate::words::{Command, command_of, help, version};
+use crate::version::version_text;
+use crate::words::{Command, command_of};
 use pipe_frame::{Gate, StopCheck, Text};
 use pipe_outside::{JobReader, RowWriter, write_whole};
 use std::alloc::Global;
@@ -45,8 +48,9 @@ fn attempt<R: JobReader, W: RowWriter>(
             run_left(alloc, input, out)
         }
         Some(Command::Check) => check_left(alloc, input, out),
-        Some(Command::Help) => tell(out, help().as_bytes()),
-        Some(Command::Version) => tell(out, version().as_bytes()),
+        Some(Command::Explain) => explain_left(alloc, input, out),
+        Some(Command::Help) => tell(out, help_text().as_bytes()),
+        Some(Command::Version) => tell(out, version_text().as_bytes()),
         None => Err(Refusal::BadWords),
     }
 }
@@ -60,7 +64,7 @@ fn note<N: RowWriter>(notes: &mut N, refusal: &Refusal)
 }
 
 /// Does what the words ask for: reads a job from `input`, or from the file that is named, and writes its rows to
-/// `out`, or that it is good, or writes a text that was asked for. It answers the status that the program ends with;
+/// `out`, or that it is good, or the branches of its plan; or writes a text that was asked for. It answers the status that the program ends with;
 /// for a status other than 0 its line is written to `notes`.
 #[tactic(auto, using(crate::proofs::StatusLemmas::long_ran, crate::proofs::StatusLemmas::long_status, crate::proofs::StatusLemmas::no_job_ran, crate::proofs::StatusLemmas::no_job_status, crate::proofs::StatusLemmas::refused_ran, crate::proofs::StatusLemmas::refused_status, crate::proofs::StatusLemmas::other_ran, crate::proofs::StatusLemmas::other_status, crate::proofs::StatusLemmas::good_status, crate::proofs::StatusLemmas::noted_fault, crate::proofs::StatusLemmas::no_fault, crate::proofs::StatusLemmas::noted_fixed))]
 pub fn run_program<R: JobReader, W: RowWriter, N: RowWriter, C: StopCheck, G: Gate + Sync>(

@@ -135,3 +135,24 @@ pub(crate) fn with_the_suffix(alloc: Global) -> Result<Ended, AllocError> {
         },
     )
 }
+
+/// Row a's frames behind one that isn't scanned, and its join between nodes that the root doesn't read: the right scan
+/// is node 0, the left one node 2, and the root node 3.
+const ELSEWHERE: &str = r#"{"version":1,"workers":3,"chunk_rows":2,"row_limit":100,
+"frames":[
+{"columns":[{"name":"t","type":"String","values":["p"]}]},
+{"columns":[{"name":"k","type":"Int64","values":[1,1,3]},{"name":"y","type":"Int64","values":[7,8,9]}]},
+{"columns":[{"name":"k","type":"Int64","values":[1,1,2]},{"name":"x","type":"Int64","values":[10,20,30]}]}],
+"plan":[
+{"node":"DataFrameScan","frame":1,"columns":null},
+{"node":"Union","inputs":[7,7]},
+{"node":"DataFrameScan","frame":2,"columns":null},
+{"node":"Join","left":2,"right":0,"left_on":[{"col":"k"}],"right_on":[{"col":"k"}],
+"how":"inner","join_nulls":false,"coalesce":"JoinSpecific","suffix":"_right",
+"rows_left":[null,0],"rows_right":[null,0]},
+{"node":"DataFrameScan","frame":0,"columns":["t"]}],
+"root":3}"#;
+
+pub(crate) fn elsewhere_in_the_arena(alloc: Global) -> Result<Ended, AllocError> {
+    run_text(alloc, ELSEWHERE)
+}

@@ -2,6 +2,7 @@
 #![tactic(auto)]
 
 mod commands;
+mod explained;
 mod faults;
 mod faulty;
 mod first_jobs;

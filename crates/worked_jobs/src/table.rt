@@ -2,8 +2,8 @@
 
 use crate::runs::{tell, tell_length, tell_run, tell_text};
 use crate::{
-    commands, faults, faulty, first_jobs, frames, held, length, lines, looked_at, nodes, parts,
-    prefixes, reading, refused, row_one,
+    commands, explained, faults, faulty, first_jobs, frames, held, length, lines, looked_at, nodes,
+    parts, prefixes, reading, refused, row_one,
 };
 use std::alloc::{AllocError, Global};
 
@@ -32,6 +32,12 @@ fn tell_first_jobs(a: Global, answers: &mut String) -> Result<(), AllocError> {
         answers,
         "as many pairs as the limit",
         first_jobs::within_the_limit(a)?,
+    )?;
+    tell_run(
+        a,
+        answers,
+        "elsewhere in the arena",
+        first_jobs::elsewhere_in_the_arena(a)?,
     )
 }
 
@@ -128,6 +134,12 @@ fn tell_words(a: Global, answers: &mut String) -> Result<(), AllocError> {
         answers,
         "check and a name",
         refused::words(a, &["check", "job.json"])?,
+    )?;
+    tell_run(
+        a,
+        answers,
+        "explain and a name",
+        refused::words(a, &["explain", "job.json"])?,
     )?;
     tell_run(
         a,
@@ -266,6 +278,7 @@ pub(crate) fn answers(alloc: Global) -> Result<String, AllocError> {
     tell_commands(alloc, &mut answers)?;
     tell_faults(alloc, &mut answers)?;
     tell_looked_at(alloc, &mut answers)?;
+    explained::tell_explained(alloc, &mut answers)?;
     tell_texts(alloc, &mut answers)?;
     tell_read(alloc, &mut answers)?;
     Ok(answers)
