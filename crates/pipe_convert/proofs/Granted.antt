@@ -26,6 +26,8 @@ pub record Granted (plan : Plan) (root n : ℕ) (x : Node) : Type 0 where
   pub fed : (i : ℕ) → member i (inputs_of x) ≡ true → (i < n) × (is_under plan.nodes root i ≡ true)
   pub made : schema_of plan n ≡ node_schema plan.frames (schema_of plan) x
   pub staged : stage_at plan root n ≡ stage_of plan.frames (schema_of plan) x
+  pub once : repeats (inputs_of x) ≡ false
+  pub unread : list_any (is_read_below plan.nodes root n) (inputs_of x) ≡ false
   pub whole : is_void plan.frames x ≡ false
   pub known : unknown_in plan.frames (schema_of plan) x ≡ None
   pub typed : is_mistyped (schema_of plan) x ≡ false
@@ -118,6 +120,8 @@ granted_own plan root n good under =
       fed = λ i m. (below i m, under-input nodes root n i rooted there under (below i m) m);
       made = schema-own plan n there ∙ schema-agree plan.frames (schemas_to plan n) (schema_of plan) x same;
       staged = staged ∙ stage-agree plan.frames (schemas_to plan n) (schema_of plan) x same;
+      once = second_false (list_any (nat_le n) (inputs_of x)) (repeats (inputs_of x)) (first_false _ (list_any (is_read_below nodes root n) (inputs_of x)) three);
+      unread = second_false _ (list_any (is_read_below nodes root n) (inputs_of x)) three;
       whole = second_false _ (is_void plan.frames x) sound;
       known = unnamed (error.UnknownColumn n) (unknown_in plan.frames (schema_of plan) x) (first_none (told_name (error.UnknownColumn n) (unknown_in plan.frames (schema_of plan) x)) _ from_names);
       typed = untold (is_mistyped (schema_of plan) x) (error.TypeMismatch n) (first_none (told (is_mistyped (schema_of plan) x) (error.TypeMismatch n)) _ from_types);

@@ -21,7 +21,7 @@ use Rattle.pipe_sort.specs.declared.key.SortSlice.{SortSlice}
 use Rattle.pipe_ops.proofs.NamedFields.{selected_by}
 use Rattle.pipe_events.specs.Stages.{Sort}
 use Rattle.pipe_check.specs.Checked.{Checked}
-use Rattle.pipe_convert.specs.Converted.{IsNode, IsSinkOf, IsSourceOf, schema_in, scanned_table}
+use Rattle.pipe_convert.specs.Converted.{IsNode, IsSinkOf, IsScanOf, schema_in, scanned_table}
 use Rattle.pipe_convert.proofs.Granted.{first_false}
 use Rattle.pipe_convert.proofs.Types.{named-names}
 use Rattle.pipe_convert.proofs.Operators.{grants, no_fault}
@@ -52,10 +52,10 @@ frame_there plan n frame columns good at_n =
 pub frame_same : (plan : Checked) (frame : ℕ) (arena : Arena) (frames : List Table) {table : Table} → arena ≡ plan.arena → frames ≡ arena.frames → table ≡ frame_at frames frame → table ≡ frame_of plan frame
 frame_same plan frame arena frames a f t = t ∙ ap (λ l. frame_at l frame) (f ∙ ap (λ x. x.frames) a)
 
-pub scan_all : (plan : Checked) (n frame : ℕ) (table : Table) → IsWellFormed (plan_of plan.arena) plan.root → IsNode plan n (node.DataFrameScan frame None) → table ≡ frame_of plan frame → IsSourceOf plan n (record { from = 0; schema = table.schema; rows = table.rows })
+pub scan_all : (plan : Checked) (n frame : ℕ) (table : Table) → IsWellFormed (plan_of plan.arena) plan.root → IsNode plan n (node.DataFrameScan frame None) → table ≡ frame_of plan frame → IsScanOf plan n table
 scan_all plan n frame table good at_n is =
     let g = grants plan n (node.DataFrameScan frame None) good at_n in
-    rw is (record { whole = refl; gives_output = sym g.made; rows = g.staged })
+    rw is (record { gives_output = sym g.made; rows = g.staged })
 
 pub names_scanned : (plan : Checked) (n frame : ℕ) (names : List (List ℕ)) (table : Table) → IsWellFormed (plan_of plan.arena) plan.root → IsNode plan n (node.DataFrameScan frame (Some names)) → IsSchema (schema_in plan n) → table ≡ frame_of plan frame → select_fault table.schema names ≡ None
 names_scanned plan n frame names table good at_n whole is =
@@ -66,7 +66,7 @@ names_scanned plan n frame names table good at_n whole is =
 pub names_selected : (names : List (List ℕ)) (frame made : Table) (columns : List Cells) → made ≡ selected frame names → select_fault frame.schema names ≡ None → length columns ≡ length frame.schema → frame.rows ≡ column_rows columns (length frame.rows) → made ≡ scanned_table names frame
 names_selected names frame made columns e good wide rows = selected_by names names frame made columns refl e good wide rows
 
-pub scan_named : (plan : Checked) (n frame : ℕ) (names : List (List ℕ)) (table made : Table) → IsWellFormed (plan_of plan.arena) plan.root → IsNode plan n (node.DataFrameScan frame (Some names)) → table ≡ frame_of plan frame → made ≡ scanned_table names table → IsSourceOf plan n (record { from = 0; schema = made.schema; rows = made.rows })
+pub scan_named : (plan : Checked) (n frame : ℕ) (names : List (List ℕ)) (table made : Table) → IsWellFormed (plan_of plan.arena) plan.root → IsNode plan n (node.DataFrameScan frame (Some names)) → table ≡ frame_of plan frame → made ≡ scanned_table names table → IsScanOf plan n made
 scan_named plan n frame names table made good at_n is same =
     let g = grants plan n (node.DataFrameScan frame (Some names)) good at_n in
-    rw same (rw is (record { whole = refl; gives_output = sym g.made; rows = g.staged }))
+    rw same (rw is (record { gives_output = sym g.made; rows = g.staged }))

@@ -44,12 +44,16 @@ abbrev pub AreMadeFor : {P A : Type 0} → (P → List Field) → List Field →
 AreMadeFor schema_of schema shared = AllByRecursion (IsMadeFor schema_of schema) shared
 
 -- an operator is that of a node which reads one input: it takes what the input gives, gives what the
--- node gives, and makes of each row what the node makes of it
+-- node gives, makes of each row what the node makes of it, needs nothing that lanes share, and has
+-- begun nothing
 pub record IsOperatorOf (plan : Checked) (n input : ℕ) (takes : List Field → Type 0)
-    (output : List Field → List Field) (each : List Field → Row → List Row) : Type 0 where
+    (output : List Field → List Field) (each : List Field → Row → List Row)
+    (serves idle : Type 0) : Type 0 where
   pub takes_input : takes (schema_in plan input)
   pub gives_output : output (schema_in plan input) ≡ schema_in plan n
   pub row_by_row : stage_at (plan_of plan.arena) plan.root n ≡ Each input (each (schema_in plan input))
+  pub served : serves
+  pub begins : idle
 
 -- the key of a name, the i-th of a sort
 abbrev pub key_of : List Field → List ℕ → SortOptions → ℕ → SortBy
@@ -74,6 +78,11 @@ scanned_table names frame = record {
   schema = fields_named frame.schema names;
   rows = map (row_named frame.schema names) frame.rows;
 }
+
+-- a frame is that of a scan: its rows and their schema are the node's
+pub record IsScanOf (plan : Checked) (n : ℕ) (frame : Table) : Type 0 where
+  pub gives_output : frame.schema ≡ schema_in plan n
+  pub rows : stage_at (plan_of plan.arena) plan.root n ≡ Scan frame.rows
 
 -- a source is that of a scan: nothing was taken, and its rows and their schema are the node's
 pub record IsSourceOf (plan : Checked) (n : ℕ) (source : Left) : Type 0 where

@@ -19,6 +19,6 @@ pub use function::function_operator;
 pub use hstack::hstack_operator;
 pub use projection::projection_operator;
 pub use row_by_row::{Filter, Hstack, Projection, RowByRow};
-pub use scan::scan_source;
+pub use scan::{scan_frame, scan_source};
 pub use simple_projection::simple_projection_operator;
 pub use sort::sort_sink;

@@ -15,12 +15,12 @@ pub trait RowByRow: Operator<Shared = ()> {
     ghost use Rattle.std.specs.Prelude.{ℕ};
     ghost use Rattle.pipe_check.specs.Checked.{Checked};
 
-    /// It is the operator of a node of a plan, which reads one input.
+    /// It is the operator of a node of a plan, which reads one input, and has begun nothing.
     ghost is_of: { (plan : Checked) → (n input : ℕ) → Self → Type 0 };
 }
 
 impl<O: Operator<Shared = ()>> RowByRow for O {
     ghost use Rattle.pipe_convert.specs.Converted.{IsOperatorOf};
 
-    ghost is_of = { λ plan n input op. IsOperatorOf plan n input (O.takes op) (O.output op) (λ s. O.each op s tt) };
+    ghost is_of = { λ plan n input op. IsOperatorOf plan n input (O.takes op) (O.output op) (λ s. O.each op s tt) (O.serves op tt) (O.idle op) };
 }

@@ -4,7 +4,7 @@ ghost use Rattle.std.specs.Prelude.{◌≡◌, ◌<◌, length, None, IfOk};
 ghost use Rattle.pipe_frame.specs.Frame.{select_fault};
 ghost use Rattle.pipe_plan.specs.Node as node;
 ghost use Rattle.pipe_plan.specs.Schemas.{frame_at};
-ghost use Rattle.pipe_convert.specs.Converted.{IsNode, IsSourceOf, scanned_table};
+ghost use Rattle.pipe_convert.specs.Converted.{IsNode, IsScanOf, IsSourceOf, scanned_table};
 
 use pipe_check::CheckedPlan;
 use pipe_frame::{DataFrame, FrameError, List, Text, TryClone};
@@ -33,7 +33,26 @@ fn numbered(frames: &[DataFrame], frame: u32) -> &DataFrame
     &frames[frame as usize]
 }
 
-/// The source of a scan: a copy of its frame, or of the columns that it names.
+/// The frame of a scan: a copy of its frame, or of the columns that it names.
+pub fn scan_frame(
+    plan: &CheckedPlan,
+    n: u32,
+    frame: u32,
+    columns: &Option<List<Text>>,
+) -> Result<DataFrame, AllocError>
+    requires { IsNode plan.now n (node.DataFrameScan frame columns.now) }
+    ensures { IfOk result (IsScanOf plan.now n) }
+{
+    let _ = plan.root();
+    let _ = plan.schema(n).fields();
+    let frame = numbered(plan.arena().frames.as_slice(), frame);
+    match columns {
+        None => Ok(frame.try_clone()?),
+        Some(names) => Ok(named_columns(frame, names.as_slice())?),
+    }
+}
+
+/// The source of a scan.
 pub fn scan_source(
     plan: &CheckedPlan,
     n: u32,
@@ -43,14 +62,6 @@ pub fn scan_source(
     requires { IsNode plan.now n (node.DataFrameScan frame columns.now) }
     ensures { IfOk result (IsSourceOf plan.now n) }
 {
-    let _ = plan.root();
-    let _ = plan.schema(n).fields();
-    let frame = numbered(plan.arena().frames.as_slice(), frame);
-    match columns {
-        None => Ok(DataFrameSource::from_df(frame.try_clone()?)),
-        Some(names) => {
-            let made = named_columns(frame, names.as_slice())?;
-            Ok(DataFrameSource::from_df(made))
-        }
-    }
+    let frame = scan_frame(plan, n, frame, columns)?;
+    Ok(DataFrameSource::from_df(frame))
 }
