@@ -1,0 +1,2 @@
+-- what becomes of a whole frame
+pub mod Applied
