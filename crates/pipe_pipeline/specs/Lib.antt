@@ -1,0 +1,2 @@
+-- what a pipeline makes of rows, and why it ends early
+pub mod Pipelines
