@@ -4,3 +4,4 @@ pub mod Applying
 pub mod Operators
 pub mod Sources
 pub mod Places
+pub mod Joined

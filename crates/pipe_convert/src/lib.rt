@@ -7,6 +7,7 @@
 mod filter;
 mod function;
 mod hstack;
+mod join;
 mod physical;
 mod projection;
 mod row_by_row;
@@ -17,6 +18,7 @@ mod sort;
 pub use filter::filter_operator;
 pub use function::function_operator;
 pub use hstack::hstack_operator;
+pub use join::join_spec;
 pub use projection::projection_operator;
 pub use row_by_row::{Filter, Hstack, Projection, RowByRow};
 pub use scan::{scan_frame, scan_source};
