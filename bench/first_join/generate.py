@@ -2,8 +2,6 @@
 """Prints a job: the inner join of two frames of two Int64 columns, with about one match a row.
 
     generate.py [LEFT_ROWS [RIGHT_ROWS]] > job.json
-
-LEFT_ROWS times RIGHT_ROWS must be at most 4294967294, since a first job's row limit bounds all pairs.
 """
 
 import json
@@ -12,7 +10,7 @@ import sys
 MODULUS = 2**64
 MULTIPLIER = 6364136223846793005
 INCREMENT = 1442695040888963407
-MOST_PAIRS = 4294967294
+ROW_LIMIT = 4294967294
 
 
 def keys(seed, count, distinct):
@@ -43,10 +41,8 @@ def join():
 
 
 def main(left_rows=65000, right_rows=65000):
-    if left_rows * right_rows > MOST_PAIRS:
-        sys.exit(f"the two heights' product must be at most {MOST_PAIRS}")
     job = {
-        "version": 1, "workers": 4, "chunk_rows": 65536, "row_limit": MOST_PAIRS,
+        "version": 1, "workers": 4, "chunk_rows": 65536, "row_limit": ROW_LIMIT,
         "frames": [
             frame(list(keys(1, left_rows, left_rows)), "a"),
             frame(list(keys(2, right_rows, left_rows)), "b"),

@@ -1,18 +1,18 @@
 -- From what a run says of its words, its input and its output to its status.
-use Rattle.std.proofs.Common.{◌≡◌, ℕ, List, [], ◌∷◌, length, ◌≤◌, Option, Some, None, Result, Ok, Err, inl, inr, refl, subst, arith}
+use Rattle.std.proofs.Common.{◌≡◌, ℕ, Bool, true, false, List, [], ◌∷◌, length, ◌≤◌, Option, Some, None, Result, Ok, Err, inl, inr, refl, subst, arith}
 use Rattle.std.proofs.Math.Seq.{take-length}
-use Rattle.std.specs.Prelude.{IfSome, OnErr, OnOk}
-use Rattle.pipe_frame.specs.Counts.{Rises}
+use Rattle.std.specs.Prelude.{IfErr, IfSome, OnErr, OnOk}
+use Rattle.pipe_frame.specs.Counts.{Counts, Rises}
 use Rattle.pipe_outside.specs.Outside.{AtEnd, CountedAbove, InputSeen, OutputSeen, WriteFails, Writes, WritesFront}
 use Rattle.pipe_outside.specs.Whole.{IsAll}
-use Rattle.pipe_cli.specs.Answer.{Answered, Explained, OtherJob, SoundJob}
+use Rattle.pipe_cli.specs.Answer.{Answered, Explained, SoundJob}
 use Rattle.pipe_cli.specs.Causes.{Causes}
 use Rattle.pipe_cli.specs.Headline.{IsAnswer, IsExplanation, WasExplained, WasExplainedInPart, IsTooMany, IsWhole, Passed, PassedInPart, Ran, RanInPart, SoundOn, limit}
 use Rattle.pipe_cli.specs.Noted.{Noted}
-use Rattle.pipe_cli.specs.Refused.{NotJobOn, NotJsonOn, OfReading, OfText, OfWriting, ToldOn, UnbuiltOf, UnbuiltOn}
-use Rattle.pipe_cli.specs.Status.{OneOf, status_of}
+use Rattle.pipe_cli.specs.Refused.{NotJobOn, NotJsonOn, OfReading, OfText, OfWriting, ToldOn}
+use Rattle.pipe_cli.specs.Status.{OneOf, status_of, yes_in}
 use Rattle.pipe_cli.specs.Texts.{ok_text}
-use Rattle.pipe_cli.specs.Words.{Opened, Run, bytes_at, request}
+use Rattle.pipe_cli.specs.Words.{Opened}
 use Rattle.pipe_cli.specs.declared.status.Refusal.{Refusal}
 use Rattle.pipe_cli.specs.declared.status.Refusal.TheVariants as refusal
 
@@ -44,22 +44,22 @@ pub answer_told : (bytes text : List ℕ) (told : Option (List ℕ)) → IfSome 
 answer_told bytes text None same a = tt
 answer_told bytes text (Some all) same a = subst (λ (s : List ℕ). Answered s text) same a
 
-pub text_told : (r : Refusal) (bytes : List ℕ) (told : Option (List ℕ)) → IfSome told (λ all. bytes ≡ all) → length bytes ≤ limit → Causes r bytes → OfText r told
-text_told refusal.NotJson bytes None same short cause = tt
-text_told refusal.NotJson bytes (Some all) same short cause = subst (λ (s : List ℕ). NotJsonOn s) same (record { short = short; cause = cause })
-text_told refusal.NotJob bytes None same short cause = tt
-text_told refusal.NotJob bytes (Some all) same short cause = subst (λ (s : List ℕ). NotJobOn s) same (record { short = short; cause = cause })
-text_told (refusal.Fault line) bytes None same short cause = tt
-text_told (refusal.Fault line) bytes (Some all) same short cause = subst (λ (s : List ℕ). ToldOn 6 line s) same (record { short = short; cause = cause })
-text_told (refusal.TooMany line) bytes None same short cause = tt
-text_told (refusal.TooMany line) bytes (Some all) same short cause = subst (λ (s : List ℕ). ToldOn 7 line s) same (record { short = short; cause = cause })
-text_told refusal.Unbuilt bytes None same short cause = tt
-text_told refusal.Unbuilt bytes (Some all) same short cause = subst (λ (s : List ℕ). UnbuiltOn s) same (record { short = short; cause = cause })
-text_told refusal.BadWords bytes told same short cause = tt
-text_told refusal.ReadFault bytes told same short cause = tt
-text_told refusal.TooLong bytes told same short cause = tt
-text_told refusal.WriteFault bytes told same short cause = tt
-text_told refusal.Memory bytes told same short cause = tt
+pub text_told : (runs : Bool) (r : Refusal) (bytes : List ℕ) (told : Option (List ℕ)) → IfSome told (λ all. bytes ≡ all) → length bytes ≤ limit → Causes runs r bytes → OfText runs r told
+text_told runs refusal.NotJson bytes None same short cause = tt
+text_told runs refusal.NotJson bytes (Some all) same short cause = subst (λ (s : List ℕ). NotJsonOn s) same (record { short = short; cause = cause })
+text_told runs refusal.NotJob bytes None same short cause = tt
+text_told runs refusal.NotJob bytes (Some all) same short cause = subst (λ (s : List ℕ). NotJobOn s) same (record { short = short; cause = cause })
+text_told runs (refusal.Fault line) bytes None same short cause = tt
+text_told runs (refusal.Fault line) bytes (Some all) same short cause = subst (λ (s : List ℕ). ToldOn runs 6 line s) same (record { short = short; cause = cause })
+text_told runs (refusal.TooMany line) bytes None same short cause = tt
+text_told runs (refusal.TooMany line) bytes (Some all) same short cause = subst (λ (s : List ℕ). ToldOn runs 7 line s) same (record { short = short; cause = cause })
+text_told runs refusal.Stopped bytes None same short cause = tt
+text_told runs refusal.Stopped bytes (Some all) same short cause = subst (λ (s : List ℕ). SoundOn s) same (record { short = short; sound = cause })
+text_told runs refusal.BadWords bytes told same short cause = tt
+text_told runs refusal.ReadFault bytes told same short cause = tt
+text_told runs refusal.TooLong bytes told same short cause = tt
+text_told runs refusal.WriteFault bytes told same short cause = tt
+text_told runs refusal.Memory bytes told same short cause = tt
 
 -- the answer that was written
 ran_with : (text : List ℕ) (told : Option (List ℕ)) (out now : OutputSeen) → IsAnswer text told → Writes text out now → Ran told out now
@@ -142,40 +142,40 @@ writing_named refusal.NotJson told mid out now h k = k
 writing_named refusal.NotJob told mid out now h k = k
 writing_named (refusal.Fault line) told mid out now h k = k
 writing_named (refusal.TooMany line) told mid out now h k = k
-writing_named refusal.Unbuilt told mid out now h k = k
+writing_named refusal.Stopped told mid out now h k = k
 writing_named refusal.Memory told mid out now h k = k
 
-pub text_named : (r : Refusal) (told : Option (List ℕ)) (mid : InputSeen) → IfSome told (λ all. mid.left ≡ Some all) → OfText r mid.left → OfText r told
-text_named refusal.NotJson None mid h k = tt
-text_named refusal.NotJson (Some all) mid h k =
-    let P : Option (List ℕ) → Type 0 = λ o. OfText refusal.NotJson o in
+pub text_named : (runs : Bool) (r : Refusal) (told : Option (List ℕ)) (mid : InputSeen) → IfSome told (λ all. mid.left ≡ Some all) → OfText runs r mid.left → OfText runs r told
+text_named runs refusal.NotJson None mid h k = tt
+text_named runs refusal.NotJson (Some all) mid h k =
+    let P : Option (List ℕ) → Type 0 = λ o. OfText runs refusal.NotJson o in
     let told : P (Some all) = subst P h k in
     told
-text_named refusal.NotJob None mid h k = tt
-text_named refusal.NotJob (Some all) mid h k =
-    let P : Option (List ℕ) → Type 0 = λ o. OfText refusal.NotJob o in
+text_named runs refusal.NotJob None mid h k = tt
+text_named runs refusal.NotJob (Some all) mid h k =
+    let P : Option (List ℕ) → Type 0 = λ o. OfText runs refusal.NotJob o in
     let told : P (Some all) = subst P h k in
     told
-text_named (refusal.Fault line) None mid h k = tt
-text_named (refusal.Fault line) (Some all) mid h k =
-    let P : Option (List ℕ) → Type 0 = λ o. OfText (refusal.Fault line) o in
+text_named runs (refusal.Fault line) None mid h k = tt
+text_named runs (refusal.Fault line) (Some all) mid h k =
+    let P : Option (List ℕ) → Type 0 = λ o. OfText runs (refusal.Fault line) o in
     let told : P (Some all) = subst P h k in
     told
-text_named (refusal.TooMany line) None mid h k = tt
-text_named (refusal.TooMany line) (Some all) mid h k =
-    let P : Option (List ℕ) → Type 0 = λ o. OfText (refusal.TooMany line) o in
+text_named runs (refusal.TooMany line) None mid h k = tt
+text_named runs (refusal.TooMany line) (Some all) mid h k =
+    let P : Option (List ℕ) → Type 0 = λ o. OfText runs (refusal.TooMany line) o in
     let told : P (Some all) = subst P h k in
     told
-text_named refusal.Unbuilt None mid h k = tt
-text_named refusal.Unbuilt (Some all) mid h k =
-    let P : Option (List ℕ) → Type 0 = λ o. OfText refusal.Unbuilt o in
+text_named runs refusal.Stopped None mid h k = tt
+text_named runs refusal.Stopped (Some all) mid h k =
+    let P : Option (List ℕ) → Type 0 = λ o. OfText runs refusal.Stopped o in
     let told : P (Some all) = subst P h k in
     told
-text_named refusal.BadWords told mid h k = tt
-text_named refusal.ReadFault told mid h k = tt
-text_named refusal.TooLong told mid h k = tt
-text_named refusal.WriteFault told mid h k = tt
-text_named refusal.Memory told mid h k = tt
+text_named runs refusal.BadWords told mid h k = tt
+text_named runs refusal.ReadFault told mid h k = tt
+text_named runs refusal.TooLong told mid h k = tt
+text_named runs refusal.WriteFault told mid h k = tt
+text_named runs refusal.Memory told mid h k = tt
 
 long_named : (told : Option (List ℕ)) (mid : InputSeen) → IfSome told (λ all. mid.left ≡ Some all) → IfSome mid.left IsTooMany → IfSome told IsTooMany
 long_named None mid h k = tt
@@ -200,37 +200,42 @@ reading_named refusal.NotJson told input mid now h taken faults k = tt
 reading_named refusal.NotJob told input mid now h taken faults k = tt
 reading_named (refusal.Fault line) told input mid now h taken faults k = tt
 reading_named (refusal.TooMany line) told input mid now h taken faults k = tt
-reading_named refusal.Unbuilt told input mid now h taken faults k = tt
+reading_named refusal.Stopped told input mid now h taken faults k = tt
 reading_named refusal.WriteFault told input mid now h taken faults k = tt
 reading_named refusal.Memory told input mid now h taken faults k = tt
 
--- ---- that a job can't be run so far is told only where it is to be run
+-- ---- the statuses of a job that is run, and of one that is looked at
 
-other_told : (told : Option (List ℕ)) → IfSome told UnbuiltOn → IfSome told OtherJob
-other_told None h = tt
-other_told (Some bytes) h = h.cause
+pub caused_run : (r : Refusal) (bytes : List ℕ) → Causes true r bytes → OneOf (2 ∷ 3 ∷ 4 ∷ 5 ∷ 6 ∷ 7 ∷ 8 ∷ 10 ∷ []) (status_of r)
+caused_run refusal.NotJson bytes c = inr (inr (inl refl))
+caused_run refusal.NotJob bytes c = inr (inr (inr (inl refl)))
+caused_run (refusal.Fault line) bytes c = inr (inr (inr (inr (inl refl))))
+caused_run (refusal.TooMany line) bytes c = inr (inr (inr (inr (inr (inl refl)))))
+caused_run refusal.Stopped bytes c = inr (inr (inr (inr (inr (inr (inl refl))))))
+caused_run refusal.Memory bytes c = inr (inr (inr (inr (inr (inr (inr (inl refl)))))))
+caused_run refusal.BadWords bytes c = absurd c
+caused_run refusal.ReadFault bytes c = absurd c
+caused_run refusal.TooLong bytes c = absurd c
+caused_run refusal.WriteFault bytes c = absurd c
 
-pub unbuilt_run : (r : Refusal) (words : List (List ℕ)) (name : Option (List ℕ)) (input mid : InputSeen) → request words ≡ Some (Run name) → Opened name input mid → OfText r mid.left → UnbuiltOf r words input
-unbuilt_run refusal.Unbuilt words name input mid e opened t = rw e (other_told (bytes_at name input) (text_named refusal.Unbuilt (bytes_at name input) mid opened t))
-unbuilt_run (refusal.Fault line) words name input mid e opened t = tt
-unbuilt_run (refusal.TooMany line) words name input mid e opened t = tt
-unbuilt_run refusal.BadWords words name input mid e opened t = tt
-unbuilt_run refusal.ReadFault words name input mid e opened t = tt
-unbuilt_run refusal.TooLong words name input mid e opened t = tt
-unbuilt_run refusal.NotJson words name input mid e opened t = tt
-unbuilt_run refusal.NotJob words name input mid e opened t = tt
-unbuilt_run refusal.WriteFault words name input mid e opened t = tt
-unbuilt_run refusal.Memory words name input mid e opened t = tt
-
--- the statuses of a job that is looked at
-pub caused_only : (r : Refusal) (bytes : List ℕ) → Causes r bytes → (r ≡ refusal.Unbuilt → ⊥) → OneOf (2 ∷ 3 ∷ 4 ∷ 5 ∷ 6 ∷ 7 ∷ 10 ∷ []) (status_of r)
+pub caused_only : (r : Refusal) (bytes : List ℕ) → Causes false r bytes → (r ≡ refusal.Stopped → ⊥) → OneOf (2 ∷ 3 ∷ 4 ∷ 5 ∷ 6 ∷ 7 ∷ 10 ∷ []) (status_of r)
 caused_only refusal.NotJson bytes c b = inr (inr (inl refl))
 caused_only refusal.NotJob bytes c b = inr (inr (inr (inl refl)))
 caused_only (refusal.Fault line) bytes c b = inr (inr (inr (inr (inl refl))))
 caused_only (refusal.TooMany line) bytes c b = inr (inr (inr (inr (inr (inl refl)))))
-caused_only refusal.Unbuilt bytes c b = absurd (b refl)
+caused_only refusal.Stopped bytes c b = absurd (b refl)
 caused_only refusal.Memory bytes c b = inr (inr (inr (inr (inr (inr (inl refl))))))
 caused_only refusal.BadWords bytes c b = absurd c
 caused_only refusal.ReadFault bytes c b = absurd c
 caused_only refusal.TooLong bytes c b = absurd c
 caused_only refusal.WriteFault bytes c b = absurd c
+
+-- ---- how often the stop check said yes
+
+-- a text that is told says none
+told_none : {T : Type 0} (r : Result T Refusal) → IfErr r (λ f. f ≡ refusal.WriteFault) → yes_in r ≡ 0
+told_none (Ok x) h = refl
+told_none (Err f) h = rw h refl
+
+pub yes_told : {T : Type 0} (r : Result T Refusal) (old new : ℕ) → IfErr r (λ f. f ≡ refusal.WriteFault) → Counts 0 old new → Counts (yes_in r) old new
+yes_told r old new h c = rw (told_none r h) c

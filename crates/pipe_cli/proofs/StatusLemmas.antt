@@ -1,17 +1,17 @@
 -- Which statuses may come, by what the bytes of the job that is asked for are.
-use Rattle.std.proofs.Common.{◌≡◌, ◌≤◌, ℕ, List, [], ◌∷◌, length, Option, Some, None, inl, inr, refl, arith}
+use Rattle.std.proofs.Common.{◌≡◌, ◌≤◌, ℕ, Bool, true, false, List, [], ◌∷◌, length, Option, Some, None, inl, inr, refl, arith}
 use Rattle.std.specs.Prelude.{IfSome, IsSomeAnd}
 use Rattle.pipe_job.specs.Reading.{ReadsNoJob}
 use Rattle.pipe_outside.specs.Outside.{InputSeen, OutputSeen}
-use Rattle.pipe_cli.specs.Answer.{OtherJob, RefusedAs, SoundJob, ToldAs}
-use Rattle.pipe_cli.specs.Headline.{ExplainedOn, ExplainedInPartOn, GoodRun, IsGood, IsGoodFor, IsOther, IsOtherFor, IsTooMany, IsUnbuiltFor, RanInPartOn, RanOn, ReadOn, SoundOn, WasRead, Wrote, WroteFor, WroteFrontFor, limit}
+use Rattle.pipe_cli.specs.Answer.{GoodJob, HasMany, RefusedAs, SoundJob, ToldAs, WideJob}
+use Rattle.pipe_cli.specs.Headline.{ExplainedOn, ExplainedInPartOn, GoodOn, IsTooMany, RanInPartOn, RanOn, ReadOn, SoundOn, WasRead, Wrote, WroteFor, WroteFrontFor, limit}
 use Rattle.pipe_cli.specs.Noted.{Noted, NotedFault}
-use Rattle.pipe_cli.specs.Refused.{NotJobOn, NotJsonOn, OfWords, ReadingOf, TextOf, ToldOn, UnbuiltOf, UnbuiltOn, WritingOf}
+use Rattle.pipe_cli.specs.Refused.{NotJobOn, NotJsonOn, OfText, OfWords, ReadingOf, TextOf, ToldOn, WritingOf}
 use Rattle.pipe_cli.specs.Status.{IsFixed, OneOf, line_of, status_line, status_of}
 use Rattle.pipe_cli.specs.declared.status.Refusal.{Refusal}
 use Rattle.pipe_cli.specs.declared.status.Refusal.TheVariants as refusal
-use Rattle.pipe_cli.specs.Words.{IsJob, Request, Run, Check, Explain, Help, Version, bytes_at, job_asked, job_bytes, request}
-use Rattle.pipe_cli.proofs.AnswerLemmas.{answered_first, answered_sound, explained_sound, first_sound, none_job, nothing_job, nothing_none, one_status, other_first, other_sound, refused_as, sound_as}
+use Rattle.pipe_cli.specs.Words.{IfJob, IsJob, Request, Run, Check, Explain, Help, Version, asks_run, bytes_at, is_run, job_asked, job_bytes, request}
+use Rattle.pipe_cli.proofs.AnswerLemmas.{answered_good, answered_sound, explained_sound, fault_sound, fault_told, good_sound, many_told, many_told_good, many_told_sound, none_job, nothing_job, nothing_none, one_status, sound_as, wide_good, wide_sound}
 
 -- ---- facts of the bytes that are told
 
@@ -72,9 +72,9 @@ long_status refusal.ReadFault words input out now w t k long = inl refl
 long_status refusal.TooLong words input out now w t k long = inr (inl refl)
 long_status refusal.NotJson words input out now w t k long = absurd (clash (job_bytes words input) NotJsonOn IsTooMany (λ b p q. too_many b p.short q) t long)
 long_status refusal.NotJob words input out now w t k long = absurd (clash (job_bytes words input) NotJobOn IsTooMany (λ b p q. too_many b p.short q) t long)
-long_status (refusal.Fault line) words input out now w t k long = absurd (clash (job_bytes words input) (ToldOn 6 line) IsTooMany (λ b p q. too_many b p.short q) t long)
-long_status (refusal.TooMany line) words input out now w t k long = absurd (clash (job_bytes words input) (ToldOn 7 line) IsTooMany (λ b p q. too_many b p.short q) t long)
-long_status refusal.Unbuilt words input out now w t k long = absurd (clash (job_bytes words input) UnbuiltOn IsTooMany (λ b p q. too_many b p.short q) t long)
+long_status (refusal.Fault line) words input out now w t k long = absurd (clash (job_bytes words input) (ToldOn (asks_run words) 6 line) IsTooMany (λ b p q. too_many b p.short q) t long)
+long_status (refusal.TooMany line) words input out now w t k long = absurd (clash (job_bytes words input) (ToldOn (asks_run words) 7 line) IsTooMany (λ b p q. too_many b p.short q) t long)
+long_status refusal.Stopped words input out now w t k long = absurd (clash (job_bytes words input) SoundOn IsTooMany (λ b p q. too_many b p.short q) t long)
 long_status refusal.WriteFault words input out now w t k long = absurd (clash (job_bytes words input) SoundOn IsTooMany (λ b p q. too_many b p.short q) (sound_part (request words) input out now k.1) long)
 long_status refusal.Memory words input out now w t k long = inr (inr (inl refl))
 
@@ -92,9 +92,9 @@ no_job_status refusal.ReadFault words input out now w t k none = inl refl
 no_job_status refusal.TooLong words input out now w t k none = inr (inl refl)
 no_job_status refusal.NotJson words input out now w t k none = absurd (clash (job_bytes words input) NotJsonOn ReadsNoJob (λ b p q. nothing_none b p.cause q) t none)
 no_job_status refusal.NotJob words input out now w t k none = inr (inr (inl refl))
-no_job_status (refusal.Fault line) words input out now w t k none = absurd (clash (job_bytes words input) (ToldOn 6 line) ReadsNoJob (λ b p q. none_job b p.cause.job q p.cause.read) t none)
-no_job_status (refusal.TooMany line) words input out now w t k none = absurd (clash (job_bytes words input) (ToldOn 7 line) ReadsNoJob (λ b p q. none_job b p.cause.job q p.cause.read) t none)
-no_job_status refusal.Unbuilt words input out now w t k none = absurd (clash (job_bytes words input) UnbuiltOn ReadsNoJob (λ b p q. none_job b p.cause.job q p.cause.read) t none)
+no_job_status (refusal.Fault line) words input out now w t k none = absurd (clash (job_bytes words input) (ToldOn (asks_run words) 6 line) ReadsNoJob (λ b p q. none_job b p.cause.job q p.cause.read) t none)
+no_job_status (refusal.TooMany line) words input out now w t k none = absurd (clash (job_bytes words input) (ToldOn (asks_run words) 7 line) ReadsNoJob (λ b p q. none_job b p.cause.job q p.cause.read) t none)
+no_job_status refusal.Stopped words input out now w t k none = absurd (clash (job_bytes words input) SoundOn ReadsNoJob (λ b p q. none_job b p.sound.job q p.sound.read) t none)
 no_job_status refusal.WriteFault words input out now w t k none = absurd (clash (job_bytes words input) SoundOn ReadsNoJob (λ b p q. none_job b p.sound.job q p.sound.read) (sound_part (request words) input out now k.1) none)
 no_job_status refusal.Memory words input out now w t k none = inr (inr (inr (inl refl)))
 
@@ -112,88 +112,143 @@ refused_status n refusal.ReadFault words input out now w t k f = inl refl
 refused_status n refusal.TooLong words input out now w t k f = inr (inl refl)
 refused_status n refusal.NotJson words input out now w t k f = absurd (clash (job_bytes words input) NotJsonOn (RefusedAs n) (λ b p q. nothing_job b q.job p.cause q.read) t f)
 refused_status n refusal.NotJob words input out now w t k f = absurd (clash (job_bytes words input) NotJobOn (RefusedAs n) (λ b p q. none_job b q.job p.cause q.read) t f)
-refused_status n (refusal.Fault line) words input out now w t k f = inr (inr (inl (both (job_bytes words input) (ToldOn 6 line) (RefusedAs n) (6 ≡ n) (λ b p q. one_status b 6 n (refused_as b line 6 p.cause) q) t f)))
-refused_status n (refusal.TooMany line) words input out now w t k f = inr (inr (inl (both (job_bytes words input) (ToldOn 7 line) (RefusedAs n) (7 ≡ n) (λ b p q. one_status b 7 n (refused_as b line 7 p.cause) q) t f)))
-refused_status n refusal.Unbuilt words input out now w t k f = absurd (clash (job_bytes words input) UnbuiltOn (RefusedAs n) (λ b p q. sound_as b n (other_sound b p.cause) q) t f)
+refused_status n (refusal.Fault line) words input out now w t k f = inr (inr (inl (both (job_bytes words input) (ToldOn (asks_run words) 6 line) (RefusedAs n) (6 ≡ n) (λ b p q. one_status (asks_run words) line b 6 n p.cause q) t f)))
+refused_status n (refusal.TooMany line) words input out now w t k f = inr (inr (inl (both (job_bytes words input) (ToldOn (asks_run words) 7 line) (RefusedAs n) (7 ≡ n) (λ b p q. one_status (asks_run words) line b 7 n p.cause q) t f)))
+refused_status n refusal.Stopped words input out now w t k f = absurd (clash (job_bytes words input) SoundOn (RefusedAs n) (λ b p q. sound_as b n p.sound q) t f)
 refused_status n refusal.WriteFault words input out now w t k f = absurd (clash (job_bytes words input) SoundOn (RefusedAs n) (λ b p q. sound_as b n p.sound q) (sound_part (request words) input out now k.1) f)
 refused_status n refusal.Memory words input out now w t k f = inr (inr (inr (inl refl)))
 
--- ---- a job that is to be run and can't be so far
+-- ---- a job with a node of too many rows that is to be run
 
-abbrev before_run : List ℕ
-before_run = 2 ∷ 3 ∷ 10 ∷ 11 ∷ []
+abbrev before_rows : List ℕ
+before_rows = 2 ∷ 3 ∷ 7 ∷ 8 ∷ 10 ∷ []
 
-other_told : (asked : Option Request) (input : InputSeen) → IsOtherFor asked input → IsSomeAnd (job_asked asked input) OtherJob
-other_told (Some (Run name)) input o = o
-other_told (Some Check) input o = absurd o
-other_told (Some Explain) input o = absurd o
-other_told (Some Help) input o = absurd o
-other_told (Some Version) input o = absurd o
-other_told None input o = absurd o
+wide_wrote : (asked : Option Request) (input : InputSeen) (out now : OutputSeen) → is_run asked ≡ true → WroteFor asked input out now → IsSomeAnd (job_asked asked input) WideJob → ⊥
+wide_wrote (Some (Run name)) input out now e h w = clash (bytes_at name input) (λ b. RanOn b out now) WideJob (λ b p q. wide_good b q (answered_good b p.text p.answered)) h w
+wide_wrote (Some Check) input out now e h w = cc
+wide_wrote (Some Explain) input out now e h w = cc
+wide_wrote (Some Help) input out now e h w = w
+wide_wrote (Some Version) input out now e h w = w
+wide_wrote None input out now e h w = w
 
-other_wrote : (asked : Option Request) (input : InputSeen) (out now : OutputSeen) → WroteFor asked input out now → IsOtherFor asked input → ⊥
-other_wrote (Some (Run name)) input out now h o = clash (bytes_at name input) (λ b. RanOn b out now) OtherJob (λ b p q. other_first b q (answered_first b p.text p.answered)) h o
-other_wrote (Some Check) input out now h o = o
-other_wrote (Some Explain) input out now h o = o
-other_wrote (Some Help) input out now h o = o
-other_wrote (Some Version) input out now h o = o
-other_wrote None input out now h o = o
+wide_front : (asked : Option Request) (input : InputSeen) (out now : OutputSeen) → is_run asked ≡ true → WroteFrontFor asked input out now → IsSomeAnd (job_asked asked input) WideJob → ⊥
+wide_front (Some (Run name)) input out now e h w = clash (bytes_at name input) (λ b. RanInPartOn b out now) WideJob (λ b p q. wide_good b q (answered_good b p.text p.answered)) h w
+wide_front (Some Check) input out now e h w = cc
+wide_front (Some Explain) input out now e h w = cc
+wide_front (Some Help) input out now e h w = w
+wide_front (Some Version) input out now e h w = w
+wide_front None input out now e h w = w
 
-other_front : (asked : Option Request) (input : InputSeen) (out now : OutputSeen) → WroteFrontFor asked input out now → IsOtherFor asked input → ⊥
-other_front (Some (Run name)) input out now h o = clash (bytes_at name input) (λ b. RanInPartOn b out now) OtherJob (λ b p q. other_first b q (answered_first b p.text p.answered)) h o
-other_front (Some Check) input out now h o = o
-other_front (Some Explain) input out now h o = o
-other_front (Some Help) input out now h o = o
-other_front (Some Version) input out now h o = o
-other_front None input out now h o = o
+pub wide_ran : (words : List (List ℕ)) (input : InputSeen) (out now : OutputSeen) → asks_run words ≡ true → Wrote words input out now → IsJob words input WideJob → OneOf before_rows 0
+wide_ran words input out now e h w = absurd (wide_wrote (request words) input out now e h w)
 
-pub other_ran : (words : List (List ℕ)) (input : InputSeen) (out now : OutputSeen) → Wrote words input out now → IsOther words input → OneOf before_run 0
-other_ran words input out now h o = absurd (other_wrote (request words) input out now h o)
-
-pub other_status : (r : Refusal) (words : List (List ℕ)) (input : InputSeen) (out now : OutputSeen) → OfWords r words → TextOf r words input → WritingOf r words input out now → IsOther words input → OneOf before_run (status_of r)
-other_status refusal.BadWords words input out now w t k o = absurd (unknown_job (request words) input OtherJob w (other_told (request words) input o))
-other_status refusal.ReadFault words input out now w t k o = inl refl
-other_status refusal.TooLong words input out now w t k o = inr (inl refl)
-other_status refusal.NotJson words input out now w t k o = absurd (clash (job_bytes words input) NotJsonOn OtherJob (λ b p q. nothing_job b q.job p.cause q.read) t (other_told (request words) input o))
-other_status refusal.NotJob words input out now w t k o = absurd (clash (job_bytes words input) NotJobOn OtherJob (λ b p q. none_job b q.job p.cause q.read) t (other_told (request words) input o))
-other_status (refusal.Fault line) words input out now w t k o = absurd (clash (job_bytes words input) (ToldOn 6 line) OtherJob (λ b p q. sound_as b 6 (other_sound b q) (refused_as b line 6 p.cause)) t (other_told (request words) input o))
-other_status (refusal.TooMany line) words input out now w t k o = absurd (clash (job_bytes words input) (ToldOn 7 line) OtherJob (λ b p q. sound_as b 7 (other_sound b q) (refused_as b line 7 p.cause)) t (other_told (request words) input o))
-other_status refusal.Unbuilt words input out now w t k o = inr (inr (inr (inl refl)))
-other_status refusal.WriteFault words input out now w t k o = absurd (other_front (request words) input out now k.1 o)
-other_status refusal.Memory words input out now w t k o = inr (inr (inl refl))
+pub wide_status : (r : Refusal) (words : List (List ℕ)) (input : InputSeen) (out now : OutputSeen) → OfWords r words → TextOf r words input → WritingOf r words input out now → asks_run words ≡ true → IsJob words input WideJob → OneOf before_rows (status_of r)
+wide_status refusal.BadWords words input out now w t k e o = absurd (unknown_job (request words) input WideJob w o)
+wide_status refusal.ReadFault words input out now w t k e o = inl refl
+wide_status refusal.TooLong words input out now w t k e o = inr (inl refl)
+wide_status refusal.NotJson words input out now w t k e o = absurd (clash (job_bytes words input) NotJsonOn WideJob (λ b p q. nothing_job b q.job p.cause q.read) t o)
+wide_status refusal.NotJob words input out now w t k e o = absurd (clash (job_bytes words input) NotJobOn WideJob (λ b p q. none_job b q.job p.cause q.read) t o)
+wide_status (refusal.Fault line) words input out now w t k e o = absurd (clash (job_bytes words input) (ToldOn (asks_run words) 6 line) WideJob (λ b p q. fault_sound (asks_run words) line b p.cause (wide_sound b q)) t o)
+wide_status (refusal.TooMany line) words input out now w t k e o = inr (inr (inl refl))
+wide_status refusal.Stopped words input out now w t k e o = inr (inr (inr (inl refl)))
+wide_status refusal.WriteFault words input out now w t k e o = absurd (wide_front (request words) input out now e k.1 o)
+wide_status refusal.Memory words input out now w t k e o = inr (inr (inr (inr (inl refl))))
 
 -- ---- a good job
 
 abbrev of_good : List ℕ
-of_good = 0 ∷ 2 ∷ 9 ∷ 10 ∷ []
+of_good = 0 ∷ 2 ∷ 8 ∷ 9 ∷ 10 ∷ []
 
-good_told : (asked : Option Request) (input : InputSeen) → IsGoodFor asked input → IsSomeAnd (job_asked asked input) SoundOn
-good_told (Some (Run name)) input g = and_follows (bytes_at name input) GoodRun SoundOn (λ b p. record { short = p.short; sound = first_sound b p.job }) g
-good_told (Some Check) input g = g
-good_told (Some Explain) input g = g
-good_told (Some Help) input g = absurd g
-good_told (Some Version) input g = absurd g
-good_told None input g = absurd g
+pub good_status : (r : Refusal) (words : List (List ℕ)) (input rest : InputSeen) → OfWords r words → ReadingOf r words input rest → TextOf r words input → IsJob words input GoodOn → OneOf of_good (status_of r)
+good_status refusal.BadWords words input rest w read t g = absurd (unknown_job (request words) input GoodOn w g)
+good_status refusal.ReadFault words input rest w read t g = inr (inl refl)
+good_status refusal.TooLong words input rest w read t g = absurd (clash (job_bytes words input) IsTooMany GoodOn (λ b p q. too_many b q.short p) read.many g)
+good_status refusal.NotJson words input rest w read t g = absurd (clash (job_bytes words input) NotJsonOn GoodOn (λ b p q. nothing_job b q.job.job p.cause q.job.read) t g)
+good_status refusal.NotJob words input rest w read t g = absurd (clash (job_bytes words input) NotJobOn GoodOn (λ b p q. none_job b q.job.job p.cause q.job.read) t g)
+good_status (refusal.Fault line) words input rest w read t g = absurd (clash (job_bytes words input) (ToldOn (asks_run words) 6 line) GoodOn (λ b p q. fault_sound (asks_run words) line b p.cause (good_sound b q.job)) t g)
+good_status (refusal.TooMany line) words input rest w read t g = absurd (clash (job_bytes words input) (ToldOn (asks_run words) 7 line) GoodOn (λ b p q. many_told_good (asks_run words) line b p.cause q.job) t g)
+good_status refusal.Stopped words input rest w read t g = inr (inr (inl refl))
+good_status refusal.WriteFault words input rest w read t g = inr (inr (inr (inl refl)))
+good_status refusal.Memory words input rest w read t g = inr (inr (inr (inr (inl refl))))
 
-good_built : (asked : Option Request) (input : InputSeen) → IsUnbuiltFor asked input → IsGoodFor asked input → ⊥
-good_built (Some (Run name)) input u g = clash (bytes_at name input) OtherJob GoodRun (λ b p q. other_first b p q.job) u g
-good_built (Some Check) input u g = u
-good_built (Some Explain) input u g = u
-good_built (Some Help) input u g = u
-good_built (Some Version) input u g = u
-good_built None input u g = u
+-- ---- a sound job that is only looked at
 
-pub good_status : (r : Refusal) (words : List (List ℕ)) (input rest : InputSeen) → OfWords r words → ReadingOf r words input rest → TextOf r words input → UnbuiltOf r words input → IsGood words input → OneOf of_good (status_of r)
-good_status refusal.BadWords words input rest w read t u g = absurd (unknown_job (request words) input SoundOn w (good_told (request words) input g))
-good_status refusal.ReadFault words input rest w read t u g = inr (inl refl)
-good_status refusal.TooLong words input rest w read t u g = absurd (clash (job_bytes words input) IsTooMany SoundOn (λ b p q. too_many b q.short p) read.many (good_told (request words) input g))
-good_status refusal.NotJson words input rest w read t u g = absurd (clash (job_bytes words input) NotJsonOn SoundOn (λ b p q. nothing_job b q.sound.job p.cause q.sound.read) t (good_told (request words) input g))
-good_status refusal.NotJob words input rest w read t u g = absurd (clash (job_bytes words input) NotJobOn SoundOn (λ b p q. none_job b q.sound.job p.cause q.sound.read) t (good_told (request words) input g))
-good_status (refusal.Fault line) words input rest w read t u g = absurd (clash (job_bytes words input) (ToldOn 6 line) SoundOn (λ b p q. sound_as b 6 q.sound (refused_as b line 6 p.cause)) t (good_told (request words) input g))
-good_status (refusal.TooMany line) words input rest w read t u g = absurd (clash (job_bytes words input) (ToldOn 7 line) SoundOn (λ b p q. sound_as b 7 q.sound (refused_as b line 7 p.cause)) t (good_told (request words) input g))
-good_status refusal.Unbuilt words input rest w read t u g = absurd (good_built (request words) input u g)
-good_status refusal.WriteFault words input rest w read t u g = inr (inr (inl refl))
-good_status refusal.Memory words input rest w read t u g = inr (inr (inr (inl refl)))
+abbrev of_sound : List ℕ
+of_sound = 0 ∷ 2 ∷ 9 ∷ 10 ∷ []
+
+pub sound_status : (r : Refusal) (words : List (List ℕ)) (input rest : InputSeen) → OfWords r words → ReadingOf r words input rest → TextOf r words input → (r ≡ refusal.Stopped → asks_run words ≡ true) → asks_run words ≡ false → IsJob words input SoundOn → OneOf of_sound (status_of r)
+sound_status refusal.BadWords words input rest w read t k e g = absurd (unknown_job (request words) input SoundOn w g)
+sound_status refusal.ReadFault words input rest w read t k e g = inr (inl refl)
+sound_status refusal.TooLong words input rest w read t k e g = absurd (clash (job_bytes words input) IsTooMany SoundOn (λ b p q. too_many b q.short p) read.many g)
+sound_status refusal.NotJson words input rest w read t k e g = absurd (clash (job_bytes words input) NotJsonOn SoundOn (λ b p q. nothing_job b q.sound.job p.cause q.sound.read) t g)
+sound_status refusal.NotJob words input rest w read t k e g = absurd (clash (job_bytes words input) NotJobOn SoundOn (λ b p q. none_job b q.sound.job p.cause q.sound.read) t g)
+sound_status (refusal.Fault line) words input rest w read t k e g = absurd (clash (job_bytes words input) (ToldOn (asks_run words) 6 line) SoundOn (λ b p q. fault_sound (asks_run words) line b p.cause q.sound) t g)
+sound_status (refusal.TooMany line) words input rest w read t k e g = absurd (clash (job_bytes words input) (ToldOn (asks_run words) 7 line) SoundOn (λ b p q. many_told_sound (asks_run words) line b e p.cause q.sound) t g)
+sound_status refusal.Stopped words input rest w read t k e g = absurd (let yes = k refl in cc)
+sound_status refusal.WriteFault words input rest w read t k e g = inr (inr (inl refl))
+sound_status refusal.Memory words input rest w read t k e g = inr (inr (inr (inl refl)))
+
+-- ---- what a status says of the bytes
+
+pub told_fault : (r : Refusal) (words : List (List ℕ)) (input : InputSeen) → TextOf r words input → status_of r ≡ 6 → IfJob words input (RefusedAs 6)
+told_fault (refusal.Fault line) words input t e = follows (job_bytes words input) (ToldOn (asks_run words) 6 line) (RefusedAs 6) (λ b p. fault_told (asks_run words) line b p.cause) t
+told_fault (refusal.TooMany line) words input t e = absurd (omega (arith, e))
+told_fault refusal.Stopped words input t e = absurd (omega (arith, e))
+told_fault refusal.BadWords words input t e = absurd (omega (arith, e))
+told_fault refusal.ReadFault words input t e = absurd (omega (arith, e))
+told_fault refusal.TooLong words input t e = absurd (omega (arith, e))
+told_fault refusal.NotJson words input t e = absurd (omega (arith, e))
+told_fault refusal.NotJob words input t e = absurd (omega (arith, e))
+told_fault refusal.WriteFault words input t e = absurd (omega (arith, e))
+told_fault refusal.Memory words input t e = absurd (omega (arith, e))
+
+pub told_many : (r : Refusal) (words : List (List ℕ)) (input : InputSeen) → TextOf r words input → status_of r ≡ 7 → IfJob words input (HasMany (asks_run words))
+told_many (refusal.TooMany line) words input t e = follows (job_bytes words input) (ToldOn (asks_run words) 7 line) (HasMany (asks_run words)) (λ b p. many_told (asks_run words) line b p.cause) t
+told_many (refusal.Fault line) words input t e = absurd (omega (arith, e))
+told_many refusal.Stopped words input t e = absurd (omega (arith, e))
+told_many refusal.BadWords words input t e = absurd (omega (arith, e))
+told_many refusal.ReadFault words input t e = absurd (omega (arith, e))
+told_many refusal.TooLong words input t e = absurd (omega (arith, e))
+told_many refusal.NotJson words input t e = absurd (omega (arith, e))
+told_many refusal.NotJob words input t e = absurd (omega (arith, e))
+told_many refusal.WriteFault words input t e = absurd (omega (arith, e))
+told_many refusal.Memory words input t e = absurd (omega (arith, e))
+
+pub told_stop : (r : Refusal) (words : List (List ℕ)) (input : InputSeen) → TextOf r words input → status_of r ≡ 8 → IfJob words input SoundJob
+told_stop refusal.Stopped words input t e = follows (job_bytes words input) SoundOn SoundJob (λ b p. p.sound) t
+told_stop (refusal.Fault line) words input t e = absurd (omega (arith, e))
+told_stop (refusal.TooMany line) words input t e = absurd (omega (arith, e))
+told_stop refusal.BadWords words input t e = absurd (omega (arith, e))
+told_stop refusal.ReadFault words input t e = absurd (omega (arith, e))
+told_stop refusal.TooLong words input t e = absurd (omega (arith, e))
+told_stop refusal.NotJson words input t e = absurd (omega (arith, e))
+told_stop refusal.NotJob words input t e = absurd (omega (arith, e))
+told_stop refusal.WriteFault words input t e = absurd (omega (arith, e))
+told_stop refusal.Memory words input t e = absurd (omega (arith, e))
+
+pub is_stop : (r : Refusal) → status_of r ≡ 8 → r ≡ refusal.Stopped
+is_stop refusal.Stopped e = refl
+is_stop (refusal.Fault line) e = absurd (omega (arith, e))
+is_stop (refusal.TooMany line) e = absurd (omega (arith, e))
+is_stop refusal.BadWords e = absurd (omega (arith, e))
+is_stop refusal.ReadFault e = absurd (omega (arith, e))
+is_stop refusal.TooLong e = absurd (omega (arith, e))
+is_stop refusal.NotJson e = absurd (omega (arith, e))
+is_stop refusal.NotJob e = absurd (omega (arith, e))
+is_stop refusal.WriteFault e = absurd (omega (arith, e))
+is_stop refusal.Memory e = absurd (omega (arith, e))
+
+pub status_within : (r : Refusal) → status_of r ≤ 10
+status_within refusal.BadWords = omega arith
+status_within refusal.ReadFault = omega arith
+status_within refusal.TooLong = omega arith
+status_within refusal.NotJson = omega arith
+status_within refusal.NotJob = omega arith
+status_within (refusal.Fault line) = omega arith
+status_within (refusal.TooMany line) = omega arith
+status_within refusal.Stopped = omega arith
+status_within refusal.WriteFault = omega arith
+status_within refusal.Memory = omega arith
 
 -- ---- lines
 
@@ -204,14 +259,14 @@ other_line n six seven (inr (inr h)) = h
 
 -- the line of a fault is noted
 pub noted_fault : (r : Refusal) (words : List (List ℕ)) (input : InputSeen) (notes now : OutputSeen) → TextOf r words input → Noted (line_of r) notes now → NotedFault (status_of r) words input notes now
-noted_fault (refusal.Fault line) words input notes now t h = λ _. record { line = line; told = follows (job_bytes words input) (ToldOn 6 line) (ToldAs 6 line) (λ b p. p.cause) t; noted = h }
-noted_fault (refusal.TooMany line) words input notes now t h = λ _. record { line = line; told = follows (job_bytes words input) (ToldOn 7 line) (ToldAs 7 line) (λ b p. p.cause) t; noted = h }
+noted_fault (refusal.Fault line) words input notes now t h = λ _. record { line = line; told = follows (job_bytes words input) (ToldOn (asks_run words) 6 line) (ToldAs (asks_run words) 6 line) (λ b p. p.cause) t; noted = h }
+noted_fault (refusal.TooMany line) words input notes now t h = λ _. record { line = line; told = follows (job_bytes words input) (ToldOn (asks_run words) 7 line) (ToldAs (asks_run words) 7 line) (λ b p. p.cause) t; noted = h }
 noted_fault refusal.BadWords words input notes now t h = λ f. absurd (other_line 1 (λ e. omega (arith, e)) (λ e. omega (arith, e)) f)
 noted_fault refusal.ReadFault words input notes now t h = λ f. absurd (other_line 2 (λ e. omega (arith, e)) (λ e. omega (arith, e)) f)
 noted_fault refusal.TooLong words input notes now t h = λ f. absurd (other_line 3 (λ e. omega (arith, e)) (λ e. omega (arith, e)) f)
 noted_fault refusal.NotJson words input notes now t h = λ f. absurd (other_line 4 (λ e. omega (arith, e)) (λ e. omega (arith, e)) f)
 noted_fault refusal.NotJob words input notes now t h = λ f. absurd (other_line 5 (λ e. omega (arith, e)) (λ e. omega (arith, e)) f)
-noted_fault refusal.Unbuilt words input notes now t h = λ f. absurd (other_line 11 (λ e. omega (arith, e)) (λ e. omega (arith, e)) f)
+noted_fault refusal.Stopped words input notes now t h = λ f. absurd (other_line 8 (λ e. omega (arith, e)) (λ e. omega (arith, e)) f)
 noted_fault refusal.WriteFault words input notes now t h = λ f. absurd (other_line 9 (λ e. omega (arith, e)) (λ e. omega (arith, e)) f)
 noted_fault refusal.Memory words input notes now t h = λ f. absurd (other_line 10 (λ e. omega (arith, e)) (λ e. omega (arith, e)) f)
 
@@ -233,6 +288,6 @@ noted_fixed refusal.ReadFault notes now h f = h
 noted_fixed refusal.TooLong notes now h f = h
 noted_fixed refusal.NotJson notes now h f = h
 noted_fixed refusal.NotJob notes now h f = h
-noted_fixed refusal.Unbuilt notes now h f = h
+noted_fixed refusal.Stopped notes now h f = h
 noted_fixed refusal.WriteFault notes now h f = h
 noted_fixed refusal.Memory notes now h f = h

@@ -1,7 +1,7 @@
 -- What a run of the program says of its input and its output.
-use Rattle.std.specs.Prelude.{ℕ, ◌≡◌, ◌<◌, ◌≤◌, List, [], length, Option, Some, None, IfSome, IsSomeAnd}
+use Rattle.std.specs.Prelude.{ℕ, ◌≡◌, ◌<◌, ◌≤◌, List, [], length, Option, Some, None, IfSome}
 use Rattle.pipe_outside.specs.Outside.{CountedAbove, InputSeen, OutputSeen, Writes, WritesFront}
-use Rattle.pipe_cli.specs.Answer.{Answered, Explained, FirstJob, OtherJob, SoundJob}
+use Rattle.pipe_cli.specs.Answer.{Answered, Explained, GoodJob, SoundJob}
 use Rattle.pipe_cli.specs.Texts.{help_text, ok_text, version_text}
 use Rattle.pipe_cli.specs.Words.{Request, Run, Check, Explain, Help, Version, bytes_at, job_bytes, request}
 
@@ -116,43 +116,7 @@ pub record IsLongOn (told : Option (List ℕ)) (input now : InputSeen) : Type 0 
 abbrev pub IsTooLong : List (List ℕ) → InputSeen → InputSeen → Type 0
 IsTooLong words input now = IsLongOn (job_bytes words input) input now
 
--- a job is to be run, and can't be so far; none that is looked at or explained is told so
-abbrev pub IsUnbuiltFor : Option Request → InputSeen → Type 0
-IsUnbuiltFor (Some (Run name)) input = IfSome (bytes_at name input) OtherJob
-IsUnbuiltFor (Some Check) input = ⊥
-IsUnbuiltFor (Some Explain) input = ⊥
-IsUnbuiltFor (Some Help) input = ⊥
-IsUnbuiltFor (Some Version) input = ⊥
-IsUnbuiltFor None input = ⊥
-
-abbrev pub IsUnbuilt : List (List ℕ) → InputSeen → Type 0
-IsUnbuilt words input = IsUnbuiltFor (request words) input
-
--- a job is to be run whose bytes are told, and it can't be so far
-abbrev pub IsOtherFor : Option Request → InputSeen → Type 0
-IsOtherFor (Some (Run name)) input = IsSomeAnd (bytes_at name input) OtherJob
-IsOtherFor (Some Check) input = ⊥
-IsOtherFor (Some Explain) input = ⊥
-IsOtherFor (Some Help) input = ⊥
-IsOtherFor (Some Version) input = ⊥
-IsOtherFor None input = ⊥
-
-abbrev pub IsOther : List (List ℕ) → InputSeen → Type 0
-IsOther words input = IsOtherFor (request words) input
-
--- bytes within the limit that spell a job that can be run so far
-pub record GoodRun (bytes : List ℕ) : Type 0 where
+-- bytes within the limit that spell a good job
+pub record GoodOn (bytes : List ℕ) : Type 0 where
   pub short : length bytes ≤ limit
-  pub job : FirstJob bytes
-
--- a job whose bytes are told is to be run and can be, or is to be looked at or explained and is sound
-abbrev pub IsGoodFor : Option Request → InputSeen → Type 0
-IsGoodFor (Some (Run name)) input = IsSomeAnd (bytes_at name input) GoodRun
-IsGoodFor (Some Check) input = IsSomeAnd input.left SoundOn
-IsGoodFor (Some Explain) input = IsSomeAnd input.left SoundOn
-IsGoodFor (Some Help) input = ⊥
-IsGoodFor (Some Version) input = ⊥
-IsGoodFor None input = ⊥
-
-abbrev pub IsGood : List (List ℕ) → InputSeen → Type 0
-IsGood words input = IsGoodFor (request words) input
+  pub job : GoodJob bytes

@@ -1,10 +1,10 @@
 -- Why a run ends with a refusal.
-use Rattle.std.specs.Prelude.{ℕ, ◌≡◌, ◌≤◌, List, length, Option, None, IfSome, IsSome}
+use Rattle.std.specs.Prelude.{ℕ, ◌≡◌, ◌≤◌, List, Bool, length, Option, None, IfSome, IsSome}
 use Rattle.pipe_job.specs.Reading.{ReadsNoJob, ReadsNothing}
 use Rattle.pipe_outside.specs.Outside.{InputSeen, OutputSeen, ReadFails, WriteFails}
-use Rattle.pipe_cli.specs.Answer.{OtherJob, ToldAs}
-use Rattle.pipe_cli.specs.Headline.{IsLongOn, IsUnbuilt, PassedInPart, RanInPart, WasExplainedInPart, WroteFront, limit}
-use Rattle.pipe_cli.specs.Words.{job_bytes, request}
+use Rattle.pipe_cli.specs.Answer.{ToldAs}
+use Rattle.pipe_cli.specs.Headline.{IsLongOn, PassedInPart, RanInPart, SoundOn, WasExplainedInPart, WroteFront, limit}
+use Rattle.pipe_cli.specs.Words.{asks_run, job_bytes, request}
 use Rattle.pipe_cli.specs.declared.status.Refusal.{Refusal}
 use Rattle.pipe_cli.specs.declared.status.Refusal.TheVariants as refusal
 
@@ -17,7 +17,7 @@ OfWords refusal.NotJson words = IsSome (request words)
 OfWords refusal.NotJob words = IsSome (request words)
 OfWords (refusal.Fault line) words = IsSome (request words)
 OfWords (refusal.TooMany line) words = IsSome (request words)
-OfWords refusal.Unbuilt words = IsSome (request words)
+OfWords refusal.Stopped words = IsSome (request words)
 OfWords refusal.WriteFault words = IsSome (request words)
 OfWords refusal.Memory words = IsSome (request words)
 
@@ -30,7 +30,7 @@ OfReading refusal.NotJson told input now = Unit {0}
 OfReading refusal.NotJob told input now = Unit {0}
 OfReading (refusal.Fault line) told input now = Unit {0}
 OfReading (refusal.TooMany line) told input now = Unit {0}
-OfReading refusal.Unbuilt told input now = Unit {0}
+OfReading refusal.Stopped told input now = Unit {0}
 OfReading refusal.WriteFault told input now = Unit {0}
 OfReading refusal.Memory told input now = Unit {0}
 
@@ -44,28 +44,23 @@ pub record NotJobOn (bytes : List ℕ) : Type 0 where
   pub short : length bytes ≤ limit
   pub cause : ReadsNoJob bytes
 
--- a job may have so many bytes, and the value that is read of them spells one that is refused, with this status and line
-pub record ToldOn (status : ℕ) (line bytes : List ℕ) : Type 0 where
+-- a job may have so many bytes, and the value that is read of them spells one that ends with this status and line
+pub record ToldOn (runs : Bool) (status : ℕ) (line bytes : List ℕ) : Type 0 where
   pub short : length bytes ≤ limit
-  pub cause : ToldAs status line bytes
+  pub cause : ToldAs runs status line bytes
 
--- a job may have so many bytes, and the value that is read of them spells one that can't be run so far
-pub record UnbuiltOn (bytes : List ℕ) : Type 0 where
-  pub short : length bytes ≤ limit
-  pub cause : OtherJob bytes
-
--- what a refusal says of the text of the job
-abbrev pub OfText : Refusal → Option (List ℕ) → Type 0
-OfText refusal.NotJson told = IfSome told NotJsonOn
-OfText refusal.NotJob told = IfSome told NotJobOn
-OfText (refusal.Fault line) told = IfSome told (ToldOn 6 line)
-OfText (refusal.TooMany line) told = IfSome told (ToldOn 7 line)
-OfText refusal.Unbuilt told = IfSome told UnbuiltOn
-OfText refusal.BadWords told = Unit {0}
-OfText refusal.ReadFault told = Unit {0}
-OfText refusal.TooLong told = Unit {0}
-OfText refusal.WriteFault told = Unit {0}
-OfText refusal.Memory told = Unit {0}
+-- what a refusal says of the text of the job, which is run or only looked at
+abbrev pub OfText : Bool → Refusal → Option (List ℕ) → Type 0
+OfText runs refusal.NotJson told = IfSome told NotJsonOn
+OfText runs refusal.NotJob told = IfSome told NotJobOn
+OfText runs (refusal.Fault line) told = IfSome told (ToldOn runs 6 line)
+OfText runs (refusal.TooMany line) told = IfSome told (ToldOn runs 7 line)
+OfText runs refusal.Stopped told = IfSome told SoundOn
+OfText runs refusal.BadWords told = Unit {0}
+OfText runs refusal.ReadFault told = Unit {0}
+OfText runs refusal.TooLong told = Unit {0}
+OfText runs refusal.WriteFault told = Unit {0}
+OfText runs refusal.Memory told = Unit {0}
 
 -- what a refusal says of the output, of which some front may be written
 abbrev pub OfWriting : Refusal → Type 0 → OutputSeen → OutputSeen → Type 0
@@ -77,7 +72,7 @@ OfWriting refusal.NotJson front out now = now.written ≡ out.written
 OfWriting refusal.NotJob front out now = now.written ≡ out.written
 OfWriting (refusal.Fault line) front out now = now.written ≡ out.written
 OfWriting (refusal.TooMany line) front out now = now.written ≡ out.written
-OfWriting refusal.Unbuilt front out now = now.written ≡ out.written
+OfWriting refusal.Stopped front out now = now.written ≡ out.written
 OfWriting refusal.Memory front out now = now.written ≡ out.written
 
 -- ---- the same of the job that is left
@@ -100,20 +95,7 @@ abbrev pub ReadingOf : Refusal → List (List ℕ) → InputSeen → InputSeen �
 ReadingOf r words input now = OfReading r (job_bytes words input) input now
 
 abbrev pub TextOf : Refusal → List (List ℕ) → InputSeen → Type 0
-TextOf r words input = OfText r (job_bytes words input)
+TextOf r words input = OfText (asks_run words) r (job_bytes words input)
 
 abbrev pub WritingOf : Refusal → List (List ℕ) → InputSeen → OutputSeen → OutputSeen → Type 0
 WritingOf r words input out now = OfWriting r (WroteFront words input out now) out now
-
--- that a job can't be run so far is told only where it is to be run
-abbrev pub UnbuiltOf : Refusal → List (List ℕ) → InputSeen → Type 0
-UnbuiltOf refusal.Unbuilt words input = IsUnbuilt words input
-UnbuiltOf (refusal.Fault line) words input = Unit {0}
-UnbuiltOf (refusal.TooMany line) words input = Unit {0}
-UnbuiltOf refusal.BadWords words input = Unit {0}
-UnbuiltOf refusal.ReadFault words input = Unit {0}
-UnbuiltOf refusal.TooLong words input = Unit {0}
-UnbuiltOf refusal.NotJson words input = Unit {0}
-UnbuiltOf refusal.NotJob words input = Unit {0}
-UnbuiltOf refusal.WriteFault words input = Unit {0}
-UnbuiltOf refusal.Memory words input = Unit {0}

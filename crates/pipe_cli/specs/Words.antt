@@ -1,5 +1,5 @@
 -- Commands.
-use Rattle.std.specs.Prelude.{ℕ, ◌≡◌, List, [], ◌∷◌, codes, Option, Some, None, IfSome, IsSomeAnd, ⊤, if◌then◌else◌}
+use Rattle.std.specs.Prelude.{ℕ, ◌≡◌, List, [], ◌∷◌, codes, Bool, true, false, Option, Some, None, IfSome, IsSomeAnd, ⊤, if◌then◌else◌}
 use Rattle.std.specs.Option.{option_copied}
 use Rattle.std.specs.Str.{bytes_eq}
 use Rattle.pipe_outside.specs.Outside.{InputSeen}
@@ -73,6 +73,19 @@ IfJob words input fact = IfSome (job_bytes words input) fact
 -- words ask for a job whose bytes are told, and of which this is a fact
 abbrev pub IsJob : List (List ℕ) → InputSeen → (List ℕ → Type 0) → Type 0
 IsJob words input fact = IsSomeAnd (job_bytes words input) fact
+
+-- whether a job is to be run
+abbrev pub is_run : Option Request → Bool
+is_run (Some (Run name)) = true
+is_run (Some Check) = false
+is_run (Some Explain) = false
+is_run (Some Help) = false
+is_run (Some Version) = false
+is_run None = false
+
+-- words ask that a job be run
+abbrev pub asks_run : List (List ℕ) → Bool
+asks_run words = is_run (request words)
 
 -- no job is asked for, but a text
 abbrev pub IsText : Option Request → Type 0

@@ -1,6 +1,6 @@
 //! `check`: the job is read and looked at, and that it is good is written.
 
-ghost use Rattle.std.specs.Prelude.{◌≡◌, ◌∷◌, [], IfErr, IfSome, IsErrOf, OnOk};
+ghost use Rattle.std.specs.Prelude.{◌≡◌, ◌∷◌, [], false, IfErr, IfSome, IsErrOf, OnOk};
 ghost use Rattle.pipe_cli.specs.Answer.{SoundJob};
 ghost use Rattle.pipe_cli.specs.Headline.{IsWhole, Passed};
 ghost use Rattle.pipe_cli.specs.Refused.{CheckedLeft, OfText, ReadingLeft};
@@ -26,7 +26,7 @@ fn look_at<R: JobReader>(alloc: Global, input: &mut R) -> Result<(), Refusal>
     ensures read { OnOk result (IsWhole (R.seen input.old).left (R.seen input.new)) }
     ensures sound { OnOk result (IfSome (R.seen input.old).left SoundJob) }
     ensures reading { IfErr result (λ r. ReadingLeft r (R.seen input.old) (R.seen input.new)) }
-    ensures text { IfErr result (λ r. OfText r (R.seen input.old).left) }
+    ensures text { IfErr result (λ r. OfText false r (R.seen input.old).left) }
     ensures only { IfErr result (λ r. OneOf (2 ∷ 3 ∷ 4 ∷ 5 ∷ 6 ∷ 7 ∷ 10 ∷ []) (status_of r)) }
 {
     let bytes = bytes_left(alloc, input)?;
@@ -44,10 +44,10 @@ pub(crate) fn check_left<R: JobReader, W: RowWriter>(
     ensures read { OnOk result (IsWhole (R.seen input.old).left (R.seen input.new)) }
     ensures passed { OnOk result (Passed (R.seen input.old).left (W.seen out.old) (W.seen out.new)) }
     ensures reading { IfErr result (λ r. ReadingLeft r (R.seen input.old) (R.seen input.new)) }
-    ensures text { IfErr result (λ r. OfText r (R.seen input.old).left) }
+    ensures text { IfErr result (λ r. OfText false r (R.seen input.old).left) }
     ensures writing { IfErr result (λ r. CheckedLeft r (R.seen input.old) (W.seen out.old) (W.seen out.new)) }
     ensures known { IsErrOf result Refusal.BadWords → ⊥ }
-    ensures built { IsErrOf result Refusal.Unbuilt → ⊥ }
+    ensures going { IsErrOf result Refusal.Stopped → ⊥ }
 {
     look_at(alloc, input)?;
     tell(out, ok_text().as_bytes())

@@ -1,6 +1,6 @@
 //! `explain`: the job is read and looked at, and the branches of its plan are written.
 
-ghost use Rattle.std.specs.Prelude.{◌∷◌, [], IfOk, IfErr, IsErrOf, OnOk};
+ghost use Rattle.std.specs.Prelude.{◌≡◌, ◌∷◌, [], false, IfOk, IfErr, IsErrOf, OnOk};
 ghost use Rattle.pipe_cli.specs.Headline.{IsExplanation, IsWhole, WasExplained};
 ghost use Rattle.pipe_cli.specs.Refused.{ExplainedLeft, OfText, ReadingLeft};
 ghost use Rattle.pipe_cli.specs.Status.{OneOf, status_of};
@@ -17,7 +17,7 @@ fn lines_left<R: JobReader>(alloc: Global, input: &mut R) -> Result<Vec<u8>, Ref
     ensures read { OnOk result (IsWhole (R.seen input.old).left (R.seen input.new)) }
     ensures lines { IfOk result (λ text. IsExplanation text.items (R.seen input.old).left) }
     ensures reading { IfErr result (λ r. ReadingLeft r (R.seen input.old) (R.seen input.new)) }
-    ensures text { IfErr result (λ r. OfText r (R.seen input.old).left) }
+    ensures text { IfErr result (λ r. OfText false r (R.seen input.old).left) }
     ensures only { IfErr result (λ r. OneOf (2 ∷ 3 ∷ 4 ∷ 5 ∷ 6 ∷ 7 ∷ 10 ∷ []) (status_of r)) }
 {
     let bytes = bytes_left(alloc, input)?;
@@ -35,10 +35,10 @@ pub(crate) fn explain_left<R: JobReader, W: RowWriter>(
     ensures read { OnOk result (IsWhole (R.seen input.old).left (R.seen input.new)) }
     ensures explained { OnOk result (WasExplained (R.seen input.old).left (W.seen out.old) (W.seen out.new)) }
     ensures reading { IfErr result (λ r. ReadingLeft r (R.seen input.old) (R.seen input.new)) }
-    ensures text { IfErr result (λ r. OfText r (R.seen input.old).left) }
+    ensures text { IfErr result (λ r. OfText false r (R.seen input.old).left) }
     ensures writing { IfErr result (λ r. ExplainedLeft r (R.seen input.old) (W.seen out.old) (W.seen out.new)) }
     ensures known { IsErrOf result Refusal.BadWords → ⊥ }
-    ensures built { IsErrOf result Refusal.Unbuilt → ⊥ }
+    ensures going { IsErrOf result Refusal.Stopped → ⊥ }
 {
     let text = lines_left(alloc, input)?;
     tell(out, text.as_slice())

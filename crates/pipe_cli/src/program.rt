@@ -1,14 +1,15 @@
 //! The top call: the words are read, what they ask for is done, and where it is refused, why is noted.
 
-ghost use Rattle.std.specs.Prelude.{◌≡◌, ◌≢◌, ◌↔◌, ◌∷◌, [], IfErr, IsErrOf, IsSome, OnOk, None};
+ghost use Rattle.std.specs.Prelude.{◌≡◌, ◌≢◌, ◌↔◌, ◌≤◌, ◌∷◌, [], true, false, IfErr, IsErrOf, IsSome, OnOk, None};
+ghost use Rattle.pipe_frame.specs.Counts.{Counts, Rises};
 ghost use Rattle.pipe_job.specs.Reading.{ReadsNoJob, ReadsNothing};
 ghost use Rattle.pipe_outside.specs.Outside.{ReadFails, WriteFails};
-ghost use Rattle.pipe_cli.specs.Answer.{RefusedAs};
-ghost use Rattle.pipe_cli.specs.Headline.{IsGood, IsOther, IsTooLong, IsTooMany, IsUnbuilt, WasRead, Wrote, WroteFront};
+ghost use Rattle.pipe_cli.specs.Answer.{HasMany, RefusedAs, SoundJob, WideJob};
+ghost use Rattle.pipe_cli.specs.Headline.{GoodOn, IsTooLong, IsTooMany, SoundOn, WasRead, Wrote, WroteFront};
 ghost use Rattle.pipe_cli.specs.Noted.{Noted, NotedFault};
-ghost use Rattle.pipe_cli.specs.Refused.{OfWords, ReadingOf, TextOf, UnbuiltOf, WritingOf};
-ghost use Rattle.pipe_cli.specs.Status.{IsFixed, OneOf, line_of, status_line};
-ghost use Rattle.pipe_cli.specs.Words.{IfJob, IsJob, IsText, request};
+ghost use Rattle.pipe_cli.specs.Refused.{OfWords, ReadingOf, TextOf, WritingOf};
+ghost use Rattle.pipe_cli.specs.Status.{IsFixed, OneOf, line_of, status_line, yes_in, yes_of};
+ghost use Rattle.pipe_cli.specs.Words.{IfJob, IsJob, IsText, asks_run, request};
 
 use crate::check_command::check_left;
 use crate::explain_command::explain_left;
@@ -23,12 +24,14 @@ use pipe_outside::{JobReader, RowWriter, write_whole};
 use std::alloc::Global;
 
 /// Does what the words ask for.
-#[tactic(auto, using(crate::proofs::ProgramLemmas::unbuilt_run))]
-fn attempt<R: JobReader, W: RowWriter>(
+#[tactic(auto, using(crate::proofs::AnswerLemmas::counts_none))]
+fn attempt<R: JobReader, W: RowWriter, C: StopCheck, G: Gate + Sync>(
     alloc: Global,
     words: &[Text],
     input: &mut R,
     out: &mut W,
+    stop: &mut C,
+    gate: &G,
 ) -> Result<(), Refusal>
     ensures known { OnOk result (IsSome (request words.now)) }
     ensures read { OnOk result (WasRead words.now (R.seen input.old) (R.seen input.new)) }
@@ -37,15 +40,19 @@ fn attempt<R: JobReader, W: RowWriter>(
     ensures reading { IfErr result (λ r. ReadingOf r words.now (R.seen input.old) (R.seen input.new)) }
     ensures text { IfErr result (λ r. TextOf r words.now (R.seen input.old)) }
     ensures writing { IfErr result (λ r. WritingOf r words.now (R.seen input.old) (W.seen out.old) (W.seen out.new)) }
-    ensures unbuilt { IfErr result (λ r. UnbuiltOf r words.now (R.seen input.old)) }
     ensures only_told { IsText (request words.now) → IfErr result (λ refusal. refusal ≡ Refusal.WriteFault) }
     ensures unread { IsErrOf result Refusal.BadWords → input.new ≡ input.old }
     ensures untouched { IsText (request words.now) → input.new ≡ input.old }
+    ensures runs { IsErrOf result Refusal.Stopped → asks_run words.now ≡ true }
+    ensures unasked { asks_run words.now ≡ false → stop.new ≡ stop.old }
+    ensures asked { asks_run words.now ≡ true → OnOk result (Rises (C.asked stop.old) (C.asked stop.new)) }
+    ensures yes { Counts (yes_in result) (C.yes stop.old) (C.yes stop.new) }
+    ensures last { IsErrOf result Refusal.Stopped → C.last_answer stop.new ≡ true }
 {
     match command_of(words) {
         Some(Command::Run(name)) => {
             open(name, input)?;
-            run_left(alloc, input, out)
+            run_left(alloc, input, out, stop, gate)
         }
         Some(Command::Check) => check_left(alloc, input, out),
         Some(Command::Explain) => explain_left(alloc, input, out),
@@ -64,21 +71,23 @@ fn note<N: RowWriter>(notes: &mut N, refusal: &Refusal)
 }
 
 /// Does what the words ask for: reads a job from `input`, or from the file that is named, and writes its rows to
-/// `out`, or that it is good, or the branches of its plan; or writes a text that was asked for. It answers the status that the program ends with;
-/// for a status other than 0 its line is written to `notes`.
-#[tactic(auto, using(crate::proofs::StatusLemmas::long_ran, crate::proofs::StatusLemmas::long_status, crate::proofs::StatusLemmas::no_job_ran, crate::proofs::StatusLemmas::no_job_status, crate::proofs::StatusLemmas::refused_ran, crate::proofs::StatusLemmas::refused_status, crate::proofs::StatusLemmas::other_ran, crate::proofs::StatusLemmas::other_status, crate::proofs::StatusLemmas::good_status, crate::proofs::StatusLemmas::noted_fault, crate::proofs::StatusLemmas::no_fault, crate::proofs::StatusLemmas::noted_fixed))]
+/// `out`, or that it is good, or the branches of its plan; or writes a text that was asked for. A run asks `stop`
+/// before each node. It answers the status that the program ends with; for a status other than 0 its line is written
+/// to `notes`.
+#[tactic(auto, using(crate::proofs::StatusLemmas::long_ran, crate::proofs::StatusLemmas::long_status, crate::proofs::StatusLemmas::no_job_ran, crate::proofs::StatusLemmas::no_job_status, crate::proofs::StatusLemmas::refused_ran, crate::proofs::StatusLemmas::refused_status, crate::proofs::StatusLemmas::wide_ran, crate::proofs::StatusLemmas::wide_status, crate::proofs::StatusLemmas::good_status, crate::proofs::StatusLemmas::sound_status, crate::proofs::StatusLemmas::told_fault, crate::proofs::StatusLemmas::told_many, crate::proofs::StatusLemmas::told_stop, crate::proofs::StatusLemmas::noted_fault, crate::proofs::StatusLemmas::no_fault, crate::proofs::StatusLemmas::noted_fixed, crate::proofs::StatusLemmas::status_within, crate::proofs::StatusLemmas::is_stop))]
 pub fn run_program<R: JobReader, W: RowWriter, N: RowWriter, C: StopCheck, G: Gate + Sync>(
     alloc: Global,
     words: &[Text],
     input: &mut R,
     out: &mut W,
     notes: &mut N,
-    _stop: &mut C,
-    _gate: &G,
+    stop: &mut C,
+    gate: &G,
 ) -> u8
     // The headline.
     ensures read { result ≡ 0 → WasRead words.now (R.seen input.old) (R.seen input.new) }
-    ensures wrote { result ≡ 0 → Wrote words.now (R.seen input.old) (W.seen out.old) (W.seen out.new) }
+    ensures wrote { result ≡ 0
+        → Wrote words.now (R.seen input.old) (W.seen out.old) (W.seen out.new) }
 
     // Why there is another status.
     ensures bad_words { (result ≡ 1) ↔ (request words.now ≡ None) }
@@ -87,30 +96,51 @@ pub fn run_program<R: JobReader, W: RowWriter, N: RowWriter, C: StopCheck, G: Ga
     ensures not_json { result ≡ 4 → IfJob words.now (R.seen input.old) ReadsNothing }
     ensures not_job { result ≡ 5 → IfJob words.now (R.seen input.old) ReadsNoJob }
     ensures refused { result ≡ 6 → IfJob words.now (R.seen input.old) (RefusedAs 6) }
-    ensures too_many { result ≡ 7 → IfJob words.now (R.seen input.old) (RefusedAs 7) }
+    ensures too_many { result ≡ 7
+        → IfJob words.now (R.seen input.old) (HasMany (asks_run words.now)) }
+    ensures stopped { result ≡ 8 → IfJob words.now (R.seen input.old) SoundJob }
     ensures write_fault { result ≡ 9 → WriteFails (W.seen out.old) (W.seen out.new) }
-    ensures unbuilt { result ≡ 11 → IsUnbuilt words.now (R.seen input.old) }
-    ensures status { OneOf (0 ∷ 1 ∷ 2 ∷ 3 ∷ 4 ∷ 5 ∷ 6 ∷ 7 ∷ 9 ∷ 10 ∷ 11 ∷ []) result }
+    ensures status { result ≤ 10 }
 
-    // When a status comes, where nothing before it does. A good job ends with 0, or by a fault, or for want of memory.
-    ensures if_long { IsJob words.now (R.seen input.old) IsTooMany → OneOf (2 ∷ 3 ∷ 10 ∷ []) result }
-    ensures if_no_job { IsJob words.now (R.seen input.old) ReadsNoJob → OneOf (2 ∷ 3 ∷ 5 ∷ 10 ∷ []) result }
-    ensures if_fault { IsJob words.now (R.seen input.old) (RefusedAs 6) → OneOf (2 ∷ 3 ∷ 6 ∷ 10 ∷ []) result }
-    ensures if_many { IsJob words.now (R.seen input.old) (RefusedAs 7) → OneOf (2 ∷ 3 ∷ 7 ∷ 10 ∷ []) result }
-    ensures if_other { IsOther words.now (R.seen input.old) → OneOf (2 ∷ 3 ∷ 10 ∷ 11 ∷ []) result }
-    ensures complete { IsGood words.now (R.seen input.old) → OneOf (0 ∷ 2 ∷ 9 ∷ 10 ∷ []) result }
+    // When a status comes, where nothing before it does. A good job ends with 0, or by a fault, a stop, or for want of
+    // memory.
+    ensures if_long { IsJob words.now (R.seen input.old) IsTooMany
+        → OneOf (2 ∷ 3 ∷ 10 ∷ []) result }
+    ensures if_no_job { IsJob words.now (R.seen input.old) ReadsNoJob
+        → OneOf (2 ∷ 3 ∷ 5 ∷ 10 ∷ []) result }
+    ensures if_fault { IsJob words.now (R.seen input.old) (RefusedAs 6)
+        → OneOf (2 ∷ 3 ∷ 6 ∷ 10 ∷ []) result }
+    ensures if_many { IsJob words.now (R.seen input.old) (RefusedAs 7)
+        → OneOf (2 ∷ 3 ∷ 7 ∷ 10 ∷ []) result }
+    ensures if_wide { asks_run words.now ≡ true → IsJob words.now (R.seen input.old) WideJob
+        → OneOf (2 ∷ 3 ∷ 7 ∷ 8 ∷ 10 ∷ []) result }
+    ensures complete { IsJob words.now (R.seen input.old) GoodOn
+        → OneOf (0 ∷ 2 ∷ 8 ∷ 9 ∷ 10 ∷ []) result }
+    ensures if_looked { asks_run words.now ≡ false → IsJob words.now (R.seen input.old) SoundOn
+        → OneOf (0 ∷ 2 ∷ 9 ∷ 10 ∷ []) result }
     ensures if_text { IsText (request words.now) → OneOf (0 ∷ 9 ∷ []) result }
+
+    // The stop check is asked in a run. It says yes in one that ends with 8, and in no other.
+    ensures runs { result ≡ 8 → asks_run words.now ≡ true }
+    ensures yes { Counts (yes_of result) (C.yes stop.old) (C.yes stop.new) }
+    ensures last { result ≡ 8 → C.last_answer stop.new ≡ true }
+    ensures asked { asks_run words.now ≡ true → result ≡ 0
+        → Rises (C.asked stop.old) (C.asked stop.new) }
+    ensures unasked { asks_run words.now ≡ false → stop.new ≡ stop.old }
 
     // What is read and written.
     ensures unread { result ≡ 1 → input.new ≡ input.old }
     ensures untouched { IsText (request words.now) → input.new ≡ input.old }
-    ensures front { result ≡ 9 → WroteFront words.now (R.seen input.old) (W.seen out.old) (W.seen out.new) }
-    ensures nothing { result ≢ 0 → result ≢ 9 → (W.seen out.new).written ≡ (W.seen out.old).written }
-    ensures noted { IsFixed result → Noted (status_line result) (N.seen notes.old) (N.seen notes.new) }
+    ensures front { result ≡ 9
+        → WroteFront words.now (R.seen input.old) (W.seen out.old) (W.seen out.new) }
+    ensures nothing { result ≢ 0 → result ≢ 9
+        → (W.seen out.new).written ≡ (W.seen out.old).written }
+    ensures noted { IsFixed result
+        → Noted (status_line result) (N.seen notes.old) (N.seen notes.new) }
     ensures told { NotedFault result words.now (R.seen input.old) (N.seen notes.old) (N.seen notes.new) }
     ensures quiet { result ≡ 0 → (N.seen notes.new).written ≡ (N.seen notes.old).written }
 {
-    match attempt(alloc, words, input, out) {
+    match attempt(alloc, words, input, out, stop, gate) {
         Ok(()) => 0,
         Err(refusal) => {
             note(notes, &refusal);

@@ -21,10 +21,10 @@ pub enum Refusal {
     NotJob,
     /// A number of the job is out of its range, or its plan has a fault: the line tells which.
     Fault(Bytes),
-    /// The plan has too many nodes: the line tells it.
+    /// The plan has too many nodes, or a node too many rows: the line tells which.
     TooMany(Bytes),
-    /// The plan is of no form that can be run so far.
-    Unbuilt,
+    /// The stop check said yes.
+    Stopped,
     /// A call on the output failed.
     WriteFault,
     /// Want of memory.
@@ -55,9 +55,9 @@ impl Refusal {
             Refusal::NotJob => 5,
             Refusal::Fault(_) => 6,
             Refusal::TooMany(_) => 7,
+            Refusal::Stopped => 8,
             Refusal::WriteFault => 9,
             Refusal::Memory => 10,
-            Refusal::Unbuilt => 11,
         }
     }
 
@@ -73,9 +73,9 @@ impl Refusal {
             Refusal::NotJob => "error 5: not a job\n".as_bytes(),
             Refusal::Fault(line) => line.as_slice(),
             Refusal::TooMany(line) => line.as_slice(),
+            Refusal::Stopped => "error 8: stopped\n".as_bytes(),
             Refusal::WriteFault => "error 9: write fault\n".as_bytes(),
             Refusal::Memory => "error 10: out of memory\n".as_bytes(),
-            Refusal::Unbuilt => "error 11: unbuilt\n".as_bytes(),
         }
     }
 }

@@ -1,4 +1,2 @@
-pub mod FirstPlace
-pub mod FirstShape
-pub mod FirstMeaning
-pub mod Chunks
+pub mod Unstopped
+pub mod Complete

@@ -3,14 +3,10 @@
 
 mod answer;
 mod check;
-mod first;
-mod joining;
-mod run_error;
+mod numbers;
 mod running;
-mod sides;
 
 pub use answer::RunAnswer;
 pub use check::check_job;
 pub use pipe_plan::PipeConfig;
-pub use run_error::RunError;
 pub use running::{run_plan, run_plan_with};

@@ -1,71 +1,50 @@
 //! Running a plan.
 
-ghost use Rattle.std.specs.Prelude.{◌≡◌, IfOk, IfErr, OnOk};
-ghost use Rattle.pipe_frame.specs.Rows.{Same};
-ghost use Rattle.pipe_join.specs.Probed.{settings_of, probed_rows};
-ghost use Rattle.pipe_exec.specs.First.{IsFirst};
+ghost use Rattle.std.specs.Prelude.{◌≡◌, Err, IfOk, IfErr, OnOk, true};
+ghost use Rattle.pipe_frame.specs.Counts.{Counts, Rises};
 ghost use Rattle.pipe_plan.specs.Plan.{plan_of};
-ghost use Rattle.pipe_plan.specs.PlanRows.{rows_of};
 ghost use Rattle.pipe_plan.specs.Schemas.{schema_of};
-ghost use Rattle.pipe_exec.specs.FirstRun.{IsRun};
-ghost use Rattle.pipe_exec.specs.Refusals.{RunCauses};
+ghost use Rattle.pipe_eval.specs.Evaluated.{AllWithin, HasRowsOf, stops};
+ghost use Rattle.pipe_exec.specs.Runs.{IsMemory, RunCauses, Stays};
 ghost use Rattle.pipe_exec.specs.Sound.{IsSound};
 
 use crate::answer::RunAnswer;
 use crate::check::check_job;
-use crate::joining::{FirstJoin, first_join};
-use crate::run_error::RunError;
-use crate::sides::{build_side, probe_side};
-use pipe_frame::{DataFrame, Gate, StopCheck};
-use pipe_join::GenericJoinProbe;
-use pipe_plan::{Arena, PipeConfig};
+use crate::numbers::context_of;
+use pipe_eval::evaluate;
+use pipe_frame::{Gate, StopCheck};
+use pipe_plan::{Arena, PipeConfig, PipeError};
 use pipe_rows::{Fnv, KeyHasher};
-use std::alloc::{AllocError, Global};
+use std::alloc::Global;
 
-/// The rows of a first job's join: its left frame is built, its right frame is probed.
-fn run_join<H: KeyHasher>(
-    alloc: Global,
-    join: FirstJoin<'_>,
-    arena: &Arena,
-    root: u32,
-    config: &PipeConfig,
-    hasher: H,
-) -> Result<DataFrame, AllocError>
-    requires { IsRun (plan_of arena.now) root config.now join }
-    ensures schema { IfOk result (λ frame. frame.schema ≡ schema_of (plan_of arena.now) root) }
-    ensures rows { IfOk result (λ frame. Same frame.rows (rows_of (plan_of arena.now) root)) }
-{
-    let FirstJoin { left, right, spec } = join;
-    let table = build_side(alloc, left, spec.left_on, config.chunk_rows, hasher)?;
-    let probe = GenericJoinProbe::new(alloc, spec)?;
-    let frame = probe_side(alloc, &probe, &table, right, config.chunk_rows)?;
-    Ok(frame)
-}
-
-/// The rows of a plan, by a hasher of the caller's own: `Refused` by what `check_job` refuses, `Unbuilt` exactly where
-/// it refuses nothing and the plan is of no form that can be run so far. The run is on the caller, and neither the
-/// stop check nor the gate is called.
+/// The rows of a plan, by a hasher of the caller's own. First what `check_job` refuses is refused. Then `TooMany` where
+/// a node under the root has more rows than the limit; `Stopped` exactly where the stop check says yes; `Memory`. The
+/// stop check is asked before each node. The run is on the caller, and nothing goes through the gate.
 pub fn run_plan_with<H: KeyHasher, C: StopCheck, G: Gate + Sync>(
     alloc: Global,
     arena: &Arena,
     root: u32,
     config: &PipeConfig,
     hasher: H,
-    _stop: &mut C,
+    stop: &mut C,
     _gate: &G,
-) -> Result<RunAnswer, RunError>
+) -> Result<RunAnswer, PipeError>
     ensures sound { OnOk result (IsSound (plan_of arena.now) root config.now) }
-    ensures first { OnOk result (IsFirst (plan_of arena.now) root config.now) }
-    ensures schema { IfOk result (λ answer. answer.frame.schema ≡ schema_of (plan_of arena.now) root) }
-    ensures rows { IfOk result (λ answer. Same answer.frame.rows (rows_of (plan_of arena.now) root)) }
+    ensures within { OnOk result (AllWithin config.now.row_limit (plan_of arena.now) root) }
+    ensures schema { let plan = plan_of arena.now in
+        IfOk result (λ answer. answer.frame.schema ≡ schema_of plan root) }
+    ensures rows { IfOk result (λ answer. HasRowsOf (plan_of arena.now) root answer.frame.rows) }
     ensures err { IfErr result (RunCauses (plan_of arena.now) root config.now) }
+    ensures asked { OnOk result (Rises (C.asked stop.old) (C.asked stop.new)) }
+    ensures yes { Counts (stops result) (C.yes stop.old) (C.yes stop.new) }
+    ensures last { result ≡ Err PipeError.Stopped → C.last_answer stop.new ≡ true }
+    ensures complete { IsSound (plan_of arena.now) root config.now
+        → AllWithin config.now.row_limit (plan_of arena.now) root
+        → Stays (C.yes stop.old) (C.yes stop.new) → IfErr result IsMemory }
 {
     let plan = check_job(alloc, arena, root, config)?;
-    drop(plan);
-    let Some(join) = first_join(alloc, arena, root, config)? else {
-        return Err(RunError::Unbuilt);
-    };
-    let frame = run_join(alloc, join, arena, root, config, hasher)?;
+    let context = context_of(config);
+    let frame = evaluate(alloc, &plan, &context, hasher, stop)?;
     Ok(RunAnswer { frame })
 }
 
@@ -77,12 +56,19 @@ pub fn run_plan<C: StopCheck, G: Gate + Sync>(
     config: &PipeConfig,
     stop: &mut C,
     gate: &G,
-) -> Result<RunAnswer, RunError>
+) -> Result<RunAnswer, PipeError>
     ensures sound { OnOk result (IsSound (plan_of arena.now) root config.now) }
-    ensures first { OnOk result (IsFirst (plan_of arena.now) root config.now) }
-    ensures schema { IfOk result (λ answer. answer.frame.schema ≡ schema_of (plan_of arena.now) root) }
-    ensures rows { IfOk result (λ answer. Same answer.frame.rows (rows_of (plan_of arena.now) root)) }
+    ensures within { OnOk result (AllWithin config.now.row_limit (plan_of arena.now) root) }
+    ensures schema { let plan = plan_of arena.now in
+        IfOk result (λ answer. answer.frame.schema ≡ schema_of plan root) }
+    ensures rows { IfOk result (λ answer. HasRowsOf (plan_of arena.now) root answer.frame.rows) }
     ensures err { IfErr result (RunCauses (plan_of arena.now) root config.now) }
+    ensures asked { OnOk result (Rises (C.asked stop.old) (C.asked stop.new)) }
+    ensures yes { Counts (stops result) (C.yes stop.old) (C.yes stop.new) }
+    ensures last { result ≡ Err PipeError.Stopped → C.last_answer stop.new ≡ true }
+    ensures complete { IsSound (plan_of arena.now) root config.now
+        → AllWithin config.now.row_limit (plan_of arena.now) root
+        → Stays (C.yes stop.old) (C.yes stop.new) → IfErr result IsMemory }
 {
     run_plan_with(alloc, arena, root, config, Fnv, stop, gate)
 }
