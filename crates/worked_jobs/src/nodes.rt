@@ -1,135 +1,110 @@
-//! Nodes that are spelled as they should be, and others.
+//! Filters, further columns, unpivots and sorts.
 
-use crate::reading::{node, tell_answer};
-use std::alloc::{AllocError, Global};
+use crate::row::Row;
 
-const SPELLED: [(&str, &str); 14] = [
-    (
-        "a scan of chosen columns",
-        r#"{"node":"DataFrameScan","frame":4294967295,"columns":["a","b"]}"#,
-    ),
-    (
-        "a filter",
-        r#"{"node":"Filter","input":0,"predicate":{"and":[{"not":{"is_null":{"col":"k"}}},{"or":[{"lt":[{"col":"k"},{"lit":{"type":"Int64","value":-1}}]},{"is_not_null":{"lit":{"type":"Binary","value":null}}}]}]}}"#,
-    ),
-    (
-        "a projection of no column",
-        r#"{"node":"SimpleProjection","input":0,"columns":[]}"#,
-    ),
-    (
-        "a selection",
-        r#"{"node":"Select","input":0,"exprs":[{"name":"a","expr":{"add":[{"sub":[{"col":"a"},{"col":"b"}]},{"mul":[{"col":"a"},{"col":"b"}]}]}}]}"#,
-    ),
-    (
-        "columns added",
-        r#"{"node":"HStack","input":0,"exprs":[{"expr":{"eq":[{"not_eq":[{"col":"a"},{"col":"b"}]},{"gt":[{"gt_eq":[{"col":"a"},{"col":"b"}]},{"lt_eq":[{"col":"a"},{"col":"b"}]}]}]},"name":"a"}]}"#,
-    ),
-    (
-        "an unpivot",
-        r#"{"node":"Unpivot","input":0,"on":["a"],"index":["id"],"variable":"variable","value":"value"}"#,
-    ),
-    (
-        "a renaming",
-        r#"{"node":"Rename","input":0,"pairs":[{"existing":"a","new":"b"}]}"#,
-    ),
-    ("a union", r#"{"node":"Union","inputs":[0,1]}"#),
-    (
-        "a cross join with the greatest hints",
-        r#"{"node":"Join","left":0,"right":1,"left_on":[],"right_on":[],"how":"cross","join_nulls":true,"coalesce":"KeepColumns","suffix":"","rows_left":[18446744073709551615,0],"rows_right":[7,18446744073709551615]}"#,
-    ),
-    (
-        "a left join",
-        r#"{"node":"Join","left":0,"right":1,"left_on":[{"col":"k"}],"right_on":[{"col":"k"}],"how":"left","join_nulls":false,"coalesce":"JoinSpecific","suffix":"_right","rows_left":[null,0],"rows_right":[null,0]}"#,
-    ),
-    (
-        "a full join",
-        r#"{"node":"Join","left":0,"right":1,"left_on":[{"col":"k"}],"right_on":[{"col":"k"}],"how":"full","join_nulls":false,"coalesce":"CoalesceColumns","suffix":"_right","rows_left":[null,0],"rows_right":[null,0]}"#,
-    ),
-    (
-        "a semi join",
-        r#"{"node":"Join","left":0,"right":1,"left_on":[{"col":"k"}],"right_on":[{"col":"k"}],"how":"semi","join_nulls":true,"coalesce":"CoalesceColumns","suffix":"","rows_left":[null,0],"rows_right":[null,0]}"#,
-    ),
-    (
-        "an anti join",
-        r#"{"node":"Join","left":0,"right":1,"left_on":[{"col":"k"}],"right_on":[{"col":"k"}],"how":"anti","join_nulls":false,"coalesce":"KeepColumns","suffix":"_right","rows_left":[null,0],"rows_right":[null,0]}"#,
-    ),
-    (
-        "a sort with a slice",
-        r#"{"node":"Sort","input":2,"by":["k","l"],"descending":[true],"nulls_last":[true,false],"slice":[-3,5]}"#,
-    ),
-];
+const FILTERED: Row = Row {
+    shows: "a filter, where null isn't true",
+    is_sorted: false,
+    version: "1",
+    limit: "1000000",
+    rest: r#""frames":[
+{"columns":[{"name":"k","type":"Int64","values":[null,1]}]}],
+"plan":[
+{"node":"DataFrameScan","frame":0,"columns":null},
+{"node":"Filter","input":0,"predicate":{"gt":[{"col":"k"},{"lit":{"type":"Int64","value":0}}]}}],
+"root":1}"#,
+};
 
-const MISSPELLED: [(&str, &str); 12] = [
-    (
-        "a scan with a further member",
-        r#"{"node":"DataFrameScan","frame":0,"columns":null,"more":0}"#,
-    ),
-    (
-        "a frame number that is too large",
-        r#"{"node":"DataFrameScan","frame":4294967296,"columns":null}"#,
-    ),
-    (
-        "a scan without columns",
-        r#"{"node":"DataFrameScan","frame":0}"#,
-    ),
-    (
-        "a node of another name",
-        r#"{"node":"Scan","frame":0,"columns":null}"#,
-    ),
-    (
-        "an expression of two members",
-        r#"{"node":"Filter","input":0,"predicate":{"col":"k","lit":{"type":"Int64","value":1}}}"#,
-    ),
-    (
-        "a literal of another type",
-        r#"{"node":"Filter","input":0,"predicate":{"lit":{"type":"Int64","value":"1"}}}"#,
-    ),
-    (
-        "a sum of one",
-        r#"{"node":"Filter","input":0,"predicate":{"add":[{"col":"k"}]}}"#,
-    ),
-    (
-        "an input that is a float",
-        r#"{"node":"Filter","input":0.0,"predicate":{"col":"k"}}"#,
-    ),
-    ("a negative input", r#"{"node":"Union","inputs":[-1]}"#),
-    (
-        "a join of another kind",
-        r#"{"node":"Join","left":0,"right":1,"left_on":[],"right_on":[],"how":"outer","join_nulls":true,"coalesce":"KeepColumns","suffix":"","rows_left":[null,0],"rows_right":[null,0]}"#,
-    ),
-    (
-        "a slice of negative length",
-        r#"{"node":"Sort","input":2,"by":["k"],"descending":[true],"nulls_last":[true],"slice":[0,-1]}"#,
-    ),
-    (
-        "a pair of names that is a list",
-        r#"{"node":"Rename","input":0,"pairs":[["a","b"]]}"#,
-    ),
-];
+const WRAPPED: Row = Row {
+    shows: "a column that wraps at its width",
+    is_sorted: false,
+    version: "1",
+    limit: "1000000",
+    rest: r#""frames":[
+{"columns":[{"name":"k","type":"Int64","values":[9223372036854775807]}]}],
+"plan":[
+{"node":"DataFrameScan","frame":0,"columns":null},
+{"node":"HStack","input":0,"exprs":[{"name":"n","expr":{"add":[{"col":"k"},
+{"lit":{"type":"Int64","value":1}}]}}]}],
+"root":1}"#,
+};
 
-/// The answers to jobs of one node each.
-pub(crate) fn tell_nodes(alloc: Global, answers: &mut String) -> Result<(), AllocError> {
-    for (shows, text) in SPELLED {
-        tell_answer(answers, shows, node(alloc, "1", text)?)?;
-    }
-    for (shows, text) in MISSPELLED {
-        tell_answer(answers, shows, node(alloc, "1", text)?)?;
-    }
-    Ok(())
-}
+const REPLACED: Row = Row {
+    shows: "a column replaced in its place, and one added",
+    is_sorted: false,
+    version: "1",
+    limit: "1000000",
+    rest: r#""frames":[
+{"columns":[{"name":"k","type":"Int64","values":[1,2]},{"name":"m","type":"Int64","values":[5,6]}]}],
+"plan":[
+{"node":"DataFrameScan","frame":0,"columns":null},
+{"node":"HStack","input":0,"exprs":[{"name":"n","expr":{"mul":[{"col":"k"},{"col":"m"}]}},
+{"name":"k","expr":{"sub":[{"col":"m"},{"col":"k"}]}}]}],
+"root":1}"#,
+};
 
-/// An expression that has an Int128 deep in its second part.
-const LARGE: &str =
-    r#"{"node":"Filter","input":0,"predicate":{"and":[{"is_null":{"col":"k"}},{"lt":[{"col":"k"},{"lit":{"type":"Int128","value":"12"}}]}]}}"#;
+const INT128: Row = Row {
+    shows: "a version 2 job, which wraps at 128 bits",
+    is_sorted: false,
+    version: "2",
+    limit: "1000000",
+    rest: r#""frames":[
+{"columns":[{"name":"k","type":"Int128","values":["170141183460469231731687303715884105727"]}]}],
+"plan":[
+{"node":"DataFrameScan","frame":0,"columns":null},
+{"node":"HStack","input":0,"exprs":[{"name":"n","expr":{"add":[{"col":"k"},
+{"lit":{"type":"Int128","value":"1"}}]}}]}],
+"root":1}"#,
+};
 
-/// A join with an Int128 in a right key.
-const LARGE_KEY: &str =
-    r#"{"node":"Join","left":0,"right":1,"left_on":[{"col":"k"}],"right_on":[{"lit":{"type":"Int128","value":null}}],"how":"inner","join_nulls":false,"coalesce":"KeepColumns","suffix":"","rows_left":[null,0],"rows_right":[null,0]}"#;
+const UNPIVOTED: Row = Row {
+    shows: "an unpivot, sorted",
+    is_sorted: true,
+    version: "1",
+    limit: "1000000",
+    rest: r#""frames":[
+{"columns":[
+{"name":"id","type":"Int64","values":[1,2]},
+{"name":"a","type":"Int64","values":[5,null]},
+{"name":"b","type":"Int64","values":[7,8]}]}],
+"plan":[
+{"node":"DataFrameScan","frame":0,"columns":null},
+{"node":"Unpivot","input":0,"on":["a","b"],"index":["id"],"variable":"variable","value":"value"},
+{"node":"Sort","input":1,"by":["id"],"descending":[false],"nulls_last":[false],"slice":null}],
+"root":2}"#,
+};
 
-/// The answers to jobs of one node with a literal of the type Int128.
-pub(crate) fn tell_int128(alloc: Global, answers: &mut String) -> Result<(), AllocError> {
-    tell_answer(answers, "version 2", node(alloc, "2", LARGE)?)?;
-    tell_answer(answers, "version 1", node(alloc, "1", LARGE)?)?;
-    tell_answer(answers, "version 2, in a key", node(alloc, "2", LARGE_KEY)?)?;
-    tell_answer(answers, "version 1, in a key", node(alloc, "1", LARGE_KEY)?)
+const DESCENDING: Row = Row {
+    shows: "a sort, descending, nulls last",
+    is_sorted: true,
+    version: "1",
+    limit: "1000000",
+    rest: r#""frames":[
+{"columns":[
+{"name":"k","type":"Int64","values":[2,null,1,2]},
+{"name":"x","type":"String","values":["b","x","a","a"]}]}],
+"plan":[
+{"node":"DataFrameScan","frame":0,"columns":null},
+{"node":"Sort","input":0,"by":["k"],"descending":[true],"nulls_last":[true],"slice":null}],
+"root":1}"#,
+};
+
+const SLICED: Row = Row {
+    shows: "a sort with a slice",
+    is_sorted: true,
+    version: "1",
+    limit: "1000000",
+    rest: r#""frames":[
+{"columns":[{"name":"k","type":"Int64","values":[8,7,6,5,4,3,2,1]}]}],
+"plan":[
+{"node":"DataFrameScan","frame":0,"columns":null},
+{"node":"Sort","input":0,"by":["k"],"descending":[false],"nulls_last":[false],"slice":[3,5]}],
+"root":1}"#,
+};
+
+/// The jobs, in the order in which they are told.
+pub(crate) fn rows() -> [Row; 7] {
+    [
+        FILTERED, WRAPPED, REPLACED, INT128, UNPIVOTED, DESCENDING, SLICED,
+    ]
 }

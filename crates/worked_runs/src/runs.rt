@@ -3,15 +3,15 @@
 ghost use Rattle.std.specs.Prelude.{◌<◌};
 
 use pipe_cli::{JobReader, MemReader, MemWriter, RowWriter, run_program};
-use pipe_frame::{Bytes, List, NeverStop, OpenGate, Text};
+use pipe_frame::{Bytes, List, NeverStop, OpenGate, StopCheck, Text};
 use std::alloc::{AllocError, Global};
 
 /// How a run ended: its status, what it wrote, and what it noted.
 #[derive(Drop)]
-pub(crate) struct Ended {
-    pub(crate) status: u8,
-    pub(crate) out: MemWriter,
-    pub(crate) notes: MemWriter,
+pub struct Ended {
+    pub status: u8,
+    pub out: MemWriter,
+    pub notes: MemWriter,
 }
 
 fn words_of(alloc: Global, words: &[&str]) -> Result<Vec<Text>, AllocError> {
@@ -23,7 +23,7 @@ fn words_of(alloc: Global, words: &[&str]) -> Result<Vec<Text>, AllocError> {
 }
 
 /// A list of no number or one.
-pub(crate) fn at_most_one(alloc: Global, number: Option<u64>) -> Result<List<u64>, AllocError> {
+pub fn at_most_one(alloc: Global, number: Option<u64>) -> Result<List<u64>, AllocError> {
     let mut numbers = List::new(alloc);
     if let Some(number) = number {
         numbers.push(number)?;
@@ -32,22 +32,19 @@ pub(crate) fn at_most_one(alloc: Global, number: Option<u64>) -> Result<List<u64
 }
 
 /// A reader of a text that takes at most 400 bytes a read, of which one may fail.
-pub(crate) fn reader(
-    alloc: Global,
-    text: &str,
-    failing: Option<u64>,
-) -> Result<MemReader, AllocError> {
+pub fn reader(alloc: Global, text: &str, failing: Option<u64>) -> Result<MemReader, AllocError> {
     let standard = Bytes::from_slice(alloc, text.as_bytes())?;
     let failing = at_most_one(alloc, failing)?;
     Ok(MemReader::new(standard, List::new(alloc), 400, failing))
 }
 
-/// Runs the program by these words. It writes in pieces of 5 bytes, of which one may fail.
-pub(crate) fn run_words<R: JobReader>(
+/// Runs the program by these words under a stop check. It writes in pieces of 5 bytes, of which one may fail.
+pub fn run_stopping<R: JobReader, C: StopCheck>(
     alloc: Global,
     words: &[&str],
     input: &mut R,
     failing: Option<u64>,
+    stop: &mut C,
 ) -> Result<Ended, AllocError> {
     let words = words_of(alloc, words)?;
     let mut out = MemWriter::new(alloc, 5, at_most_one(alloc, failing)?);
@@ -58,25 +55,35 @@ pub(crate) fn run_words<R: JobReader>(
         input,
         &mut out,
         &mut notes,
-        &mut NeverStop::new(),
+        stop,
         &OpenGate,
     );
     Ok(Ended { status, out, notes })
 }
 
+/// The same, never stopped.
+pub fn run_words<R: JobReader>(
+    alloc: Global,
+    words: &[&str],
+    input: &mut R,
+    failing: Option<u64>,
+) -> Result<Ended, AllocError> {
+    run_stopping(alloc, words, input, failing, &mut NeverStop::new())
+}
+
 /// Runs the command `run` with no fault of the output.
-pub(crate) fn run<R: JobReader>(alloc: Global, input: &mut R) -> Result<Ended, AllocError> {
+pub fn run<R: JobReader>(alloc: Global, input: &mut R) -> Result<Ended, AllocError> {
     run_words(alloc, &["run"], input, None)
 }
 
 /// Runs the job of a text.
-pub(crate) fn run_text(alloc: Global, text: &str) -> Result<Ended, AllocError> {
+pub fn run_text(alloc: Global, text: &str) -> Result<Ended, AllocError> {
     let mut input = reader(alloc, text, None)?;
     run(alloc, &mut input)
 }
 
 /// The first line of a text, and the others in the order of their bytes, since a join's rows have no order.
-fn sorted_lines(alloc: Global, text: &str) -> Result<String, AllocError> {
+pub fn sorted_lines(alloc: Global, text: &str) -> Result<String, AllocError> {
     let mut sorted = String::new(alloc);
     let mut rows = Vec::new(alloc);
     for (place, line) in text.lines().enumerate() {
@@ -96,19 +103,19 @@ fn sorted_lines(alloc: Global, text: &str) -> Result<String, AllocError> {
 }
 
 /// What some bytes say, where they are UTF-8.
-pub(crate) fn shown(bytes: &[u8]) -> &str {
+pub fn shown(bytes: &[u8]) -> &str {
     str::from_utf8(bytes).unwrap_or("not UTF-8\n")
 }
 
 /// Appends what a case shows.
-pub(crate) fn tell(answers: &mut String, shows: &str) -> Result<(), AllocError> {
+pub fn tell(answers: &mut String, shows: &str) -> Result<(), AllocError> {
     answers.push_str("# ")?;
     answers.push_str(shows)?;
     answers.push_str("\n")
 }
 
 /// Appends what a case shows, and how its run ended.
-pub(crate) fn tell_run(
+pub fn tell_run(
     alloc: Global,
     answers: &mut String,
     shows: &str,
@@ -122,7 +129,7 @@ pub(crate) fn tell_run(
 
 /// Appends what a case shows, its status, how many bytes it wrote, and its note: which front of the rows that is
 /// depends on their order.
-pub(crate) fn tell_length(
+pub fn tell_length(
     alloc: Global,
     answers: &mut String,
     shows: &str,
@@ -138,7 +145,7 @@ pub(crate) fn tell_length(
 }
 
 /// Appends what a case shows, its status, and what it wrote, line for line.
-pub(crate) fn tell_text(
+pub fn tell_text(
     alloc: Global,
     answers: &mut String,
     shows: &str,

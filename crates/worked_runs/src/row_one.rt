@@ -1,7 +1,7 @@
-//! An inner join of two frames, sorted by its key: a good job that can't be run so far.
+//! An inner join of two frames, sorted by its key.
 
 /// The job, in 720 bytes.
-pub(crate) const SORTED_JOIN: &str = r#"{"version":1,"workers":3,"chunk_rows":2,"row_limit":1000000,
+pub const SORTED_JOIN: &str = r#"{"version":1,"workers":3,"chunk_rows":2,"row_limit":1000000,
 "frames":[
 {"columns":[{"name":"k","type":"Int64","values":[1,1,2]},
 {"name":"x","type":"String","values":["p","q","r"]}]},

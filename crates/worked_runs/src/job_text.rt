@@ -3,7 +3,7 @@
 use std::alloc::{AllocError, Global};
 
 /// The keys 1, 1, 2 with x.
-pub(crate) const LEFT: &str =
+pub const LEFT: &str =
     r#"{"columns":[{"name":"k","type":"Int64","values":[1,1,2]},{"name":"x","type":"Int64","values":[10,20,30]}]}"#;
 
 /// The keys 1, 1, 3 with y.
@@ -19,18 +19,18 @@ const BACK: &str =
 
 /// What differs from job to job: the parts of the text.
 #[derive(Clone, Copy)]
-pub(crate) struct JobText {
-    pub(crate) version: &'static str,
-    pub(crate) chunk_rows: &'static str,
-    pub(crate) row_limit: &'static str,
-    pub(crate) left: &'static str,
-    pub(crate) right: &'static str,
-    pub(crate) left_key: &'static str,
-    pub(crate) right_key: &'static str,
+pub struct JobText {
+    pub version: &'static str,
+    pub chunk_rows: &'static str,
+    pub row_limit: &'static str,
+    pub left: &'static str,
+    pub right: &'static str,
+    pub left_key: &'static str,
+    pub right_key: &'static str,
 }
 
 /// Two keys match two keys, and the other keys none.
-pub(crate) const PAIRS: JobText = JobText {
+pub const PAIRS: JobText = JobText {
     version: "1",
     chunk_rows: "2",
     row_limit: "100",
@@ -74,7 +74,7 @@ impl JobText {
     }
 
     /// The job: the join of the two frames on these keys.
-    pub(crate) fn text(self, alloc: Global) -> Result<String, AllocError> {
+    pub fn text(self, alloc: Global) -> Result<String, AllocError> {
         let mut text = self.front(alloc)?;
         text.push_str(self.keys(alloc)?.as_str())?;
         text.push_str(BACK)?;

@@ -1,0 +1,39 @@
+//! Runs under a hasher by which all keys have one hash.
+
+use pipe_cli::{head_line, read_job, row_line};
+use pipe_exec::run_plan_with;
+use pipe_frame::{DataFrame, NeverStop, OpenGate};
+use pipe_rows::ConstHash;
+use std::alloc::{AllocError, Global};
+
+/// The lines of a frame.
+fn lines_of(alloc: Global, frame: &DataFrame) -> Result<Vec<u8>, AllocError> {
+    let mut lines = Vec::new(alloc);
+    lines.extend_from_slice(head_line(alloc, frame.schema())?.as_slice())?;
+    for i in 0..frame.height() {
+        lines.extend_from_slice(row_line(alloc, frame, i)?.as_slice())?;
+    }
+    Ok(lines)
+}
+
+/// The lines of the rows of a job, and none where it has no rows.
+pub(crate) fn lines(alloc: Global, text: &str) -> Result<Vec<u8>, AllocError> {
+    let Ok(job) = read_job(alloc, text.as_bytes()) else {
+        return Ok(Vec::new(alloc));
+    };
+    let hasher = ConstHash { value: 7 };
+    let mut stop = NeverStop::new();
+    let ran = run_plan_with(
+        alloc,
+        &job.arena,
+        job.root,
+        &job.config,
+        hasher,
+        &mut stop,
+        &OpenGate,
+    );
+    match ran {
+        Ok(answer) => lines_of(alloc, &answer.frame),
+        Err(_) => Ok(Vec::new(alloc)),
+    }
+}

@@ -1,0 +1,31 @@
+//! Runs that a stop check ends.
+
+use pipe_frame::StopAfter;
+use std::alloc::{AllocError, Global};
+use worked_runs::{SORTED_JOIN, reader, run_stopping, tell_text};
+
+/// Appends how a command ends on a sorted join of two scans where the stop check answers no so many times before it
+/// answers yes, how often it was asked, and how often it said yes.
+fn tell_after(
+    alloc: Global,
+    answers: &mut String,
+    word: &str,
+    left: u64,
+) -> Result<(), AllocError> {
+    let mut stop = StopAfter::new(left);
+    let mut input = reader(alloc, SORTED_JOIN, None)?;
+    let ended = run_stopping(alloc, &[word], &mut input, None, &mut stop)?;
+    let shows = format!(in alloc; "{word}, a stop after {left} answers")?;
+    tell_text(alloc, answers, shows.as_str(), ended)?;
+    let (asked, yes) = (stop.asked(), stop.yes());
+    answers.push_str(format!(in alloc; "asked {asked}, yes {yes}\n")?.as_str())
+}
+
+/// A run of four nodes asks before each of them; a job that is looked at asks nothing.
+pub(crate) fn tell_stopped(alloc: Global, answers: &mut String) -> Result<(), AllocError> {
+    for left in 0..5 {
+        tell_after(alloc, answers, "run", left)?;
+    }
+    tell_after(alloc, answers, "check", 0)?;
+    tell_after(alloc, answers, "explain", 0)
+}
