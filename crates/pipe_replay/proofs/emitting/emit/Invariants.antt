@@ -1,0 +1,12 @@
+use Rattle.std.proofs.Common.{◌≡◌, length}
+use Rattle.pipe_stages.specs.Staged.{staged}
+use Rattle.pipe_world.specs.Shown.{world_of, IsFor}
+use Rattle.pipe_allowed.specs.Carried.{gathered}
+use Rattle.pipe_replay.specs.Sinks.{filled_below}
+use Rattle.pipe_replay.proofs.emitting.emit.Given as goal
+
+abbrev pub invariant-loop-t : goal.invariant-loop-t
+invariant-loop-t l = record {
+  world : world_of l.world ≡ filled_below (staged l.plan) (gathered l.flows) l.t (world_of l.initial.world);
+  nodes : IsFor (length l.plan.stages) l.world;
+}

@@ -1,0 +1,129 @@
+//! What each event changes.
+
+ghost use Rattle.std.specs.Prelude.{◌≡◌, ℕ, ◌<◌, true, length, OnOk};
+ghost use Rattle.pipe_events.specs.Worlds as worlds;
+ghost use Rattle.pipe_events.specs.Worlds.{after};
+ghost use Rattle.pipe_events.specs.Decided.{is_allowed as allows};
+ghost use Rattle.pipe_stages.specs.Staged.{staged};
+ghost use Rattle.pipe_world.specs.Shown.{world_of, IsFor};
+ghost use Rattle.pipe_world.specs.EventValues.{side_value};
+ghost use Rattle.pipe_replay.specs.Replayed.{parted, AreBelow};
+
+use crate::emitting::emit;
+use crate::flushing::flushed_rows;
+use crate::marking::{mark_all, mark_all_seen};
+use crate::sources::{picked_rows, source_rows_of};
+use pipe_allowed::side_below;
+use pipe_frame::{List, Row, TryClone};
+use pipe_rows::KeyHasher;
+use pipe_stages::{Stage, StagedPlan};
+use pipe_world::{Side, World};
+use std::alloc::{AllocError, Global};
+
+/// Positions of a source are taken.
+pub(crate) fn take(
+    alloc: Global,
+    plan: &StagedPlan,
+    world: &mut World,
+    worker: u32,
+    source: usize,
+    from: u32,
+    amount: u32,
+) -> Result<(), AllocError>
+    requires within { source < length world.old.taken }
+    ensures world { let event = worlds.Take worker source from amount in
+        OnOk result (world_of world.new ≡ after (staged plan.now) (world_of world.old) event) }
+    ensures nodes { (n : ℕ) → IsFor n world.old → OnOk result (IsFor n world.new) }
+{
+    let source_rows = source_rows_of(alloc, world, plan.stage(source))?;
+    let rows = picked_rows(alloc, source_rows.as_slice(), from, amount)?;
+    world.take(worker, source, from, amount, rows)
+}
+
+/// A key is marked at a node.
+pub(crate) fn mark(
+    alloc: Global,
+    plan: &StagedPlan,
+    world: &mut World,
+    worker: u32,
+    k: usize,
+    key: &Row,
+) -> Result<(), AllocError>
+    requires within { k < length world.old.flagged }
+    ensures world { let event = worlds.Mark worker k key.now in
+        OnOk result (world_of world.new ≡ after (staged plan.now) (world_of world.old) event) }
+    ensures nodes { (n : ℕ) → IsFor n world.old → OnOk result (IsFor n world.new) }
+{
+    match plan.stage(k) {
+        Stage::Scan(_) => Ok(()),
+        Stage::Each {
+            input: _,
+            schema: _,
+            op: _,
+        } => Ok(()),
+        Stage::Union(_) => Ok(()),
+        Stage::Sort {
+            input: _,
+            schema: _,
+            by: _,
+            options: _,
+        } => Ok(()),
+        Stage::Joined(join) => {
+            let mut keys = List::new(alloc);
+            keys.push(key.try_clone()?)?;
+            mark_all(alloc, plan, world, worker, k, keys.as_slice(), &join)
+        }
+    }
+}
+
+/// All keys that a worker has on its way are marked, and it hands on what it has.
+pub(crate) fn finish(
+    alloc: Global,
+    plan: &StagedPlan,
+    world: &mut World,
+    worker: u32,
+) -> Result<(), AllocError>
+    requires nodes { IsFor (length plan.now.stages) world.old }
+    ensures world { let event = worlds.Done worker in
+        OnOk result (world_of world.new ≡ after (staged plan.now) (world_of world.old) event) }
+    ensures nodes { OnOk result (IsFor (length plan.now.stages) world.new) }
+{
+    mark_all_seen(alloc, plan, world, worker)?;
+    emit(alloc, plan, world, worker)
+}
+
+/// A side is closed.
+pub(crate) fn close(plan: &StagedPlan, world: &mut World, n: usize, side: Side)
+    requires allowed { let event = worlds.Close n (side_value side) in
+        allows (staged plan.now) (world_of world.old) event ≡ true }
+    requires below { AreBelow (staged plan.now) }
+    requires nodes { IsFor (length plan.now.stages) world.old }
+    ensures world { let event = worlds.Close n (side_value side) in
+        world_of world.new ≡ after (staged plan.now) (world_of world.old) event }
+    ensures nodes { IsFor (length plan.now.stages) world.new }
+{
+    if let Some(t) = side_below(plan.stage(n), side) {
+        world.close(t as usize);
+    }
+}
+
+/// A partition is flushed.
+pub(crate) fn flush<H: KeyHasher>(
+    alloc: Global,
+    plan: &StagedPlan,
+    hasher: &H,
+    world: &mut World,
+    worker: u32,
+    k: usize,
+    part: u32,
+) -> Result<(), AllocError>
+    requires within { k < length world.old.flushed }
+    requires parts { 0 < plan.now.parts }
+    ensures world { let event = worlds.Flush worker k part in
+        let p = parted (H.hash_of hasher.now) plan.now in
+        OnOk result (world_of world.new ≡ after p (world_of world.old) event) }
+    ensures nodes { (n : ℕ) → IsFor n world.old → OnOk result (IsFor n world.new) }
+{
+    let rows = flushed_rows(alloc, hasher, plan, world, k, part)?;
+    world.flush(alloc, worker, k, part, rows)
+}
