@@ -1,0 +1,33 @@
+#!/usr/bin/env python3
+"""A work by SQLite in memory: by_sqlite.py WORK < job.json"""
+
+import json
+import sqlite3
+import sys
+
+QUERIES = {
+    "inner": "select l.k, l.a, r.b from f0 l join f1 r on l.k = r.k",
+    "left_sorted": "select l.k, l.a, r.b from f0 l left join f1 r on l.k = r.k order by 1, 2, 3",
+    "full": "select l.k, l.a, r.k as k_right, r.b from f0 l full join f1 r on l.k = r.k",
+    "anti": "select l.k, l.a from f0 l where not exists (select 1 from f1 r where r.k = l.k)",
+    "filtered": "select k, a, k + a as sum from f0 where k < 100",
+    "star": "select f0.*, name0, name1, name2, name3 from f0 join f1 using (k0) join f2 using (k1)"
+    " join f3 using (k2) join f4 using (k3)",
+}
+
+
+def main():
+    base = sqlite3.connect(":memory:")
+    for number, frame in enumerate(json.load(sys.stdin)["frames"]):
+        names = [it["name"] for it in frame["columns"]]
+        base.execute(f"create table f{number} ({', '.join(names)})")
+        marks = ", ".join("?" for _ in names)
+        base.executemany(f"insert into f{number} values ({marks})", zip(*(it["values"] for it in frame["columns"])))
+    found = base.execute(QUERIES[sys.argv[1]])
+    encode = json.JSONEncoder(ensure_ascii=False, separators=(",", ":")).encode
+    sys.stdout.write(encode([it[0] for it in found.description]) + "\n")
+    sys.stdout.writelines(encode(row) + "\n" for row in found)
+
+
+if __name__ == "__main__":
+    main()

@@ -1,0 +1,87 @@
+"""The works: each a job of about so many rows, made from a seed."""
+
+import random
+
+BYTES_OF_A_JOB = 33_554_432
+
+
+def column(name, dtype, values):
+    return {"name": name, "type": dtype, "values": values}
+
+
+def numbers(chance, rows, below):
+    return [chance.randrange(below) for _ in range(rows)]
+
+
+def scan(frame):
+    return {"node": "DataFrameScan", "frame": frame, "columns": None}
+
+
+def join(left, right, on, how):
+    keys = [{"col": name} for name in on]
+    return {
+        "node": "Join", "left": left, "right": right, "left_on": keys, "right_on": keys, "how": how, "join_nulls": False,
+        "coalesce": "JoinSpecific", "suffix": "_right", "rows_left": [None, 0], "rows_right": [None, 0],
+    }  # fmt: skip
+
+
+def sort(below, by):
+    return {"node": "Sort", "input": below, "by": by, "descending": [False], "nulls_last": [False], "slice": None}
+
+
+def job(frames, plan):
+    return {
+        "version": 1, "workers": 4, "chunk_rows": 65_536, "row_limit": 4_294_967_294,
+        "frames": [{"columns": it} for it in frames], "plan": plan, "root": len(plan) - 1,
+    }  # fmt: skip
+
+
+def sides(rows, seed):
+    """Two frames with a key of numbers, about one match a row, and a payload each."""
+    chance = random.Random(seed)
+    return [
+        [column("k", "Int64", numbers(chance, rows, rows)), column("a", "Int64", numbers(chance, rows, 1000))],
+        [column("k", "Int64", numbers(chance, rows, rows)), column("b", "Int64", numbers(chance, rows, 1000))],
+    ]
+
+
+def inner(rows, seed):
+    return job(sides(rows, seed), [scan(0), scan(1), join(0, 1, ["k"], "inner")])
+
+
+def left_sorted(rows, seed):
+    return job(sides(rows, seed), [scan(0), scan(1), join(0, 1, ["k"], "left"), sort(2, ["k", "a"])])
+
+
+def full(rows, seed):
+    return job(sides(rows, seed), [scan(0), scan(1), join(0, 1, ["k"], "full")])
+
+
+def anti(rows, seed):
+    return job(sides(rows, seed), [scan(0), scan(1), join(0, 1, ["k"], "anti")])
+
+
+def filtered(rows, seed):
+    """One frame of many rows, of which a tenth is kept and one column is added."""
+    chance = random.Random(seed)
+    frame = [column("k", "Int64", numbers(chance, 4 * rows, 1000)), column("a", "Int64", numbers(chance, 4 * rows, 1000))]
+    return job([frame], [
+        scan(0),
+        {"node": "Filter", "input": 0, "predicate": {"lt": [{"col": "k"}, {"lit": {"type": "Int64", "value": 100}}]}},
+        {"node": "HStack", "input": 1, "exprs": [{"name": "sum", "expr": {"add": [{"col": "k"}, {"col": "a"}]}}]},
+    ])  # fmt: skip
+
+
+def star(rows, seed):
+    """Many rows joined to four small frames, one after another."""
+    chance = random.Random(seed)
+    facts = [column(f"k{n}", "Int64", numbers(chance, rows, 100)) for n in range(4)]
+    small = [[column(f"k{n}", "Int64", list(range(100))), column(f"name{n}", "String", [f"{n}-{k}" for k in range(100)])]
+             for n in range(4)]  # fmt: skip
+    plan = [scan(0), *[scan(n + 1) for n in range(4)]]
+    for n in range(4):
+        plan.append(join(0 if n == 0 else len(plan) - 1, n + 1, [f"k{n}"], "inner"))
+    return job([facts, *small], plan)
+
+
+WORKS = {"inner": inner, "left_sorted": left_sorted, "full": full, "anti": anti, "filtered": filtered, "star": star}
