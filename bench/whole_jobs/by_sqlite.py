@@ -23,6 +23,8 @@ def main():
         base.execute(f"create table f{number} ({', '.join(names)})")
         marks = ", ".join("?" for _ in names)
         base.executemany(f"insert into f{number} values ({marks})", zip(*(it["values"] for it in frame["columns"])))
+        # SQLite makes an index of its own for most joins, and none for a full one.
+        base.execute(f"create index i{number} on f{number} ({names[0]})")
     found = base.execute(QUERIES[sys.argv[1]])
     encode = json.JSONEncoder(ensure_ascii=False, separators=(",", ":")).encode
     sys.stdout.write(encode([it[0] for it in found.description]) + "\n")

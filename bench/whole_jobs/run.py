@@ -4,9 +4,9 @@
     bench/whole_jobs/run.py [--rows N] [--turns N] [--work NAME ..] [--seed N]
 
 Each work is one job: the program reads it from a file and writes its lines to another, and so does each peer: Python's
-`json` with dictionaries (plain.py), SQLite in memory (by_sqlite.py), pandas (by_pandas.py) where Python has it. A peer
-that isn't there is left out and named. Times are of the whole process, from its start to its end, in seconds; a ratio is
-the program's median over the peer's. Memory is the greatest peak of the turns, in MB.
+`json` with dictionaries (plain.py), SQLite in memory (by_sqlite.py) where Python has it. A peer that isn't there is left
+out and named. Times are of the whole process, from its start to its end, in seconds; a ratio is the program's median
+over the peer's.
 """
 
 import argparse
@@ -30,15 +30,14 @@ PROGRAM = TOP / "crates" / "liskevar" / "out" / "liskevar"
 
 
 def timed(command, job, lines):
-    """Seconds and peak memory of one run."""
+    """The seconds of one run."""
     with open(job, "rb") as source, open(lines, "wb") as sink:
         start = time.perf_counter()
-        child = subprocess.Popen(command, stdin=source, stdout=sink)
-        _, status, usage = os.wait4(child.pid, 0)
+        status = subprocess.run(command, stdin=source, stdout=sink).returncode
         seconds = time.perf_counter() - start
     if status != 0:
-        sys.exit(f"{' '.join(map(str, command))} ended with {os.waitstatus_to_exitcode(status)}")
-    return seconds, usage.ru_maxrss / 1024
+        sys.exit(f"{' '.join(map(str, command))} ended with {status}")
+    return seconds
 
 
 def answer(lines, ordered):
@@ -50,12 +49,12 @@ def answer(lines, ordered):
 
 def peers():
     """The commands of the peers, and the names of those that aren't there."""
-    found = {"python": [sys.executable, HERE / "plain.py"], "sqlite": [sys.executable, HERE / "by_sqlite.py"]}
+    found = {"python": [sys.executable, HERE / "plain.py"]}
     missing = []
-    if importlib.util.find_spec("pandas"):
-        found["pandas"] = [sys.executable, HERE / "by_pandas.py"]
+    if importlib.util.find_spec("sqlite3"):
+        found["sqlite"] = [sys.executable, HERE / "by_sqlite.py"]
     else:
-        missing.append("pandas")
+        missing.append("sqlite")
     return found, missing
 
 
@@ -67,22 +66,20 @@ def compare(name, work, folder, commands, given):
         sys.exit(f"{name}: a job of {len(text)} bytes is longer than the program reads; give fewer --rows")
     job.write_text(text)
     ordered = json.loads(text)["plan"][-1]["node"] == "Sort"
-    seconds, peak, answers = collections.defaultdict(list), collections.Counter(), {}
+    seconds, answers = collections.defaultdict(list), {}
     for _ in range(given.turns):
         for peer, command in commands.items():
             lines = folder / f"{name}.{peer}"
-            taken, memory = timed([*command, name] if peer in ("sqlite", "pandas") else command, job, lines)
-            seconds[peer].append(taken)
-            peak[peer] = max(peak[peer], memory)
+            seconds[peer].append(timed([*command, name] if peer == "sqlite" else command, job, lines))
             answers[peer] = answer(lines, ordered)
     differing = [peer for peer, it in answers.items() if it != answers["liskevar"]]
     if differing:
         sys.exit(f"{name}: the rows of {', '.join(differing)} differ from the program's")
     medians = {peer: statistics.median(it) for peer, it in seconds.items()}
     rows = len(answers["liskevar"][1]) if ordered else answers["liskevar"][1].total()
-    cells = [name, f"{len(text) / 2**20:.1f}", str(rows), f"{medians['liskevar']:.3f}", f"{peak['liskevar']:.0f}"]
+    cells = [name, f"{len(text) / 2**20:.1f}", str(rows), f"{medians['liskevar']:.3f}"]
     for peer in list(commands)[1:]:
-        cells += [f"{medians[peer]:.3f}", f"{medians['liskevar'] / medians[peer]:.2f}", f"{peak[peer]:.0f}"]
+        cells += [f"{medians[peer]:.3f}", f"{medians['liskevar'] / medians[peer]:.2f}"]
     return cells
 
 
@@ -97,9 +94,9 @@ def main():
         sys.exit("the program isn't built: ./liskevar --version builds it")
     found, missing = peers()
     commands = {"liskevar": [PROGRAM, "run"], **found}
-    head = ["work", "MiB", "rows given", "liskevar s", "MB"]
+    head = ["work", "MiB", "rows given", "liskevar s"]
     for peer in found:
-        head += [f"{peer} s", "ratio", "MB"]
+        head += [f"{peer} s", "ratio"]
     print(f"{os.cpu_count()} processors ({platform.machine()}), {given.turns} turns, medians; not there: {', '.join(missing) or 'none'}")
     print("| " + " | ".join(head) + " |")
     print("|" + "---|" * len(head))
