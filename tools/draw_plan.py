@@ -15,8 +15,9 @@ import json
 import shutil
 import subprocess
 import sys
+import textwrap
 
-WIDEST = 34
+WIDEST = 44
 INFIX = {
     "add": "+", "sub": "-", "mul": "*", "eq": "=", "not_eq": "<>", "lt": "<", "lt_eq": "<=", "gt": ">", "gt_eq": ">=",
     "and": "and", "or": "or",
@@ -31,8 +32,10 @@ class Refused(Exception):
     """Why no picture is made, in words for whoever called."""
 
 
-def shortened(text):
-    return text if len(text) <= WIDEST else text[: WIDEST - 1] + "…"
+def wrapped(text):
+    """A text in lines of a box; what would be the seventh of them isn't told."""
+    lines = textwrap.wrap(text, WIDEST, subsequent_indent="  ", max_lines=6, placeholder=" …")
+    return [line.replace("\n", " ") for line in lines]
 
 
 # ---- the plan
@@ -207,7 +210,7 @@ def boxes(plan, branches):
     for n in sorted(plan.under):
         on = [str(k) for k, branch in enumerate(branches, start=1) if n in branch["nodes"]]
         lines = [f"{n}  {plan.nodes[n]['node']}", detail(plan, n), f"[{', '.join(columns[n])}]", f"branch {', '.join(on)}"]
-        texts[n] = [shortened(line) for line in lines if line]
+        texts[n] = [part for line in lines for part in wrapped(line)]
     return texts
 
 
@@ -230,36 +233,56 @@ def dot_picture(plan, texts, told):
 
 
 def places(plan, texts):
-    """Where each box stands: as far right as the longest way from a source, and in turn downwards."""
-    depth, filled, at = {}, {}, {}
-    for n in sorted(texts):
-        depth[n] = 1 + max((depth[i] for i in plan.inputs(n)), default=-1)
-    for n in sorted(texts):
-        row = max([filled.get(depth[n], 0)] + [at[i][1] for i in plan.inputs(n)][:1])
-        at[n] = (depth[n], row)
-        filled[depth[n]] = row + 1
-    return {n: (20 + column * 330, 20 + row * 110) for n, (column, row) in at.items()}
+    """The column and the row of each box: each column is a step nearer to the root, and no two boxes of one row of
+    sources cross, since the ways to a node stand below each other."""
+    steps, row, rows = {plan.root: 0}, {}, 0
+    for n in sorted(texts, reverse=True):
+        for i in plan.inputs(n):
+            steps[i] = max(steps.get(i, 0), steps[n] + 1)
+    waiting = [plan.root]
+    while waiting:
+        n = waiting.pop()
+        row[n] = rows
+        inputs = plan.inputs(n)
+        rows += 0 if inputs else 1
+        waiting += reversed(inputs)
+    last = max(steps.values())
+    return {n: (last - steps[n], row[n]) for n in texts}
 
 
 def text_at(x, y, text):
-    return f'<text x="{x}" y="{y}" font-family="monospace" font-size="12">{html.escape(text)}</text>'
+    return f'<text x="{x}" y="{y}" font-family="monospace" font-size="12" xml:space="preserve">{html.escape(text)}</text>'
+
+
+def offsets(sizes, gap):
+    """Where each of some sizes begins, one after another."""
+    found, at = [], 20
+    for size in sizes:
+        found.append(at)
+        at += size + gap
+    return found
 
 
 def plain_picture(plan, texts, told):
     """The picture in plain boxes, with the branches' lines below it."""
     at = places(plan, texts)
-    width, height = 285, 86
+    widths, heights = [0] * (1 + max(c for c, _ in at.values())), [0] * (1 + max(r for _, r in at.values()))
+    for n, (column, row) in at.items():
+        widths[column] = max(widths[column], 20 + round(7.3 * max(len(line) for line in texts[n])))
+        heights[row] = max(heights[row], 14 + 18 * len(texts[n]))
+    lefts, tops = offsets(widths, 45), offsets(heights, 24)
     parts = []
     for n in texts:
-        x, y = at[n]
+        (column, row), height = at[n], 14 + 18 * len(texts[n])
+        x, y, width = lefts[column], tops[row], widths[column]
         for i in plan.inputs(n):
-            a, b = at[i]
-            parts.append(f'<path d="M{a + width},{b + 43} L{x},{y + 43}" stroke="black" fill="none" marker-end="url(#to)"/>')
+            a, b = lefts[at[i][0]] + widths[at[i][0]], tops[at[i][1]] + 30
+            parts.append(f'<path d="M{a},{b} L{x - 30},{b} L{x},{y + 30}" stroke="black" fill="none" marker-end="url(#to)"/>')
         parts.append(f'<rect x="{x}" y="{y}" width="{width}" height="{height}" fill="white" stroke="black"/>')
         parts += [text_at(x + 8, y + 18 + 18 * k, line) for k, line in enumerate(texts[n])]
-    below = max(y for _, y in at.values()) + height + 34
+    below = tops[-1] + heights[-1] + 34
     parts += [text_at(20, below + 20 * k, line) for k, line in enumerate(told)]
-    right = max(max(x for x, _ in at.values()) + width + 20, 40 + 8 * max(len(line) for line in told))
+    right = max(lefts[-1] + widths[-1] + 20, 40 + 8 * max(len(line) for line in told))
     marker = '<defs><marker id="to" markerWidth="9" markerHeight="9" refX="8" refY="4" orient="auto"><path d="M0,0 L8,4 L0,8"/></marker></defs>'
     size = f'width="{right}" height="{below + 20 * len(told)}"'
     return f'<svg xmlns="http://www.w3.org/2000/svg" {size}><rect width="100%" height="100%" fill="white"/>{marker}\n' + "\n".join(parts) + "\n</svg>\n"
