@@ -5,11 +5,16 @@ import json
 import sqlite3
 import sys
 
+INNER = "select l.k, l.a, r.b from f0 l join f1 r on l.k = r.k"
 QUERIES = {
-    "inner": "select l.k, l.a, r.b from f0 l join f1 r on l.k = r.k",
+    "inner": INNER,
+    "texts": INNER,
     "left_sorted": "select l.k, l.a, r.b from f0 l left join f1 r on l.k = r.k order by 1, 2, 3",
     "full": "select l.k, l.a, r.k as k_right, r.b from f0 l full join f1 r on l.k = r.k",
+    "semi": "select l.k, l.a from f0 l where exists (select 1 from f1 r where r.k = l.k)",
     "anti": "select l.k, l.a from f0 l where not exists (select 1 from f1 r where r.k = l.k)",
+    "filter_join_sort": INNER + " where l.a < 500 and r.b < 500 order by 1, 2, 3",
+    "union": " union all ".join(f"select k from f{n} where a < 500" for n in range(4)),
     "filtered": "select k, a, k + a as sum from f0 where k < 100",
     "star": "select f0.*, name0, name1, name2, name3 from f0 join f1 using (k0) join f2 using (k1)"
     " join f3 using (k2) join f4 using (k3)",

@@ -84,4 +84,42 @@ def star(rows, seed):
     return job([facts, *small], plan)
 
 
-WORKS = {"inner": inner, "left_sorted": left_sorted, "full": full, "anti": anti, "filtered": filtered, "star": star}
+def texts(rows, seed):
+    """The inner join of two frames by a key of texts."""
+    chance = random.Random(seed)
+    words = [f"part {n:07} of a longer name" for n in range(rows)]
+    sides = [[column("k", "String", chance.choices(words, k=rows)), column(name, "Int64", numbers(chance, rows, 1000))]
+             for name in ("a", "b")]  # fmt: skip
+    return job(sides, [scan(0), scan(1), join(0, 1, ["k"], "inner")])
+
+
+def semi(rows, seed):
+    return job(sides(rows, seed), [scan(0), scan(1), join(0, 1, ["k"], "semi")])
+
+
+def below(name, number):
+    return {"lt": [{"col": name}, {"lit": {"type": "Int64", "value": number}}]}
+
+
+def filter_join_sort(rows, seed):
+    """Half the rows of either side, joined and sorted."""
+    plan = [scan(0), scan(1), {"node": "Filter", "input": 0, "predicate": below("a", 500)},
+            {"node": "Filter", "input": 1, "predicate": below("b", 500)}, join(2, 3, ["k"], "inner"),
+            sort(4, ["k", "a"])]  # fmt: skip
+    return job(sides(rows, seed), plan)
+
+
+def union(rows, seed):
+    """Four filtered frames, one under another, of which one column is kept."""
+    frames = [it for n in range(2) for it in sides(rows, seed + n)]
+    named = [[first, {**second, "name": "a"}] for first, second in frames]
+    plan = [scan(n) for n in range(4)]
+    plan += [{"node": "Filter", "input": n, "predicate": below("a", 500)} for n in range(4)]
+    plan += [{"node": "Union", "inputs": [4, 5, 6, 7]}, {"node": "SimpleProjection", "input": 8, "columns": ["k"]}]
+    return job(named, plan)
+
+
+WORKS = {
+    "inner": inner, "texts": texts, "left_sorted": left_sorted, "full": full, "semi": semi, "anti": anti,
+    "filter_join_sort": filter_join_sort, "filtered": filtered, "union": union, "star": star,
+}  # fmt: skip
