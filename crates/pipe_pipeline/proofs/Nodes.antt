@@ -52,7 +52,7 @@ within-more limit [] h = tt
 within-more limit (n ∷ ns) h = (omega (arith, h.0), within-more limit ns h.1)
 
 module _ {O S K : Type 0} (op : OperatorWords O S) (s : S) (limit : ℕ) (basin : Basin K) where
-  too-full : (from : List Field) (rows : List Row) (stages : List (Stage O)) (ns : List ℕ) (node : ℕ) → AllWithin 0 ns → Over limit (after s (steps_of op from (operators_of stages)) rows ns) (nodes_of stages basin) node → IsTooFull op s limit from rows stages basin node
+  too-full : (from : List Field) (rows : List Row) (stages : List (Stage O)) (ns : List ℕ) (node : ℕ) → AllWithin 0 ns → Over limit (after s (steps_of op from (operators_of stages)) rows ns) (nodes_of stages basin) node → IsTooFull op s limit from rows stages basin.node node
   too-full from rows [] [] node none h = absurd h
   too-full from rows [] (n ∷ []) node none h = elim h [ inl p ↦ (p.0, omega (arith, p.1, none.0)) | inr q ↦ absurd q ]
   too-full from rows [] (n ∷ m ∷ ns) node none h = elim h [ inl p ↦ (p.0, omega (arith, p.1, none.0)) | inr q ↦ absurd q ]
@@ -63,7 +63,7 @@ module _ {O S K : Type 0} (op : OperatorWords O S) (s : S) (limit : ℕ) (basin 
         | inr q ↦ inr (too-full (op.output st.operator from) (made_at op s from st rows) stages ns node none.1 q)
       ]
 
-  pub refused-by : (from : List Field) (rows : List Row) (stages : List (Stage O)) (ns : List ℕ) (r : Refusal) → AllWithin 0 ns → IsOver limit (after s (steps_of op from (operators_of stages)) rows ns) (nodes_of stages basin) r → RefusedBy op s limit from rows stages basin r
+  pub refused-by : (from : List Field) (rows : List Row) (stages : List (Stage O)) (ns : List ℕ) (r : Refusal) → AllWithin 0 ns → IsOver limit (after s (steps_of op from (operators_of stages)) rows ns) (nodes_of stages basin) r → RefusedBy op s limit from rows stages basin.node r
   refused-by from rows stages ns (TooMany node) none h = too-full from rows stages ns node none h
   refused-by from rows stages ns Memory none h = tt
 
@@ -74,7 +74,7 @@ module _ {O S K : Type 0} (op : OperatorWords O S) (s : S) (limit : ℕ) (basin 
   all-few from rows (st ∷ stages) (n ∷ ns) more h = (omega (arith, h.0), all-few (op.output st.operator from) (made_at op s from st rows) stages ns (omega (arith, more)) h.1)
 
 module _ {O S K : Type 0} (op : OperatorWords O S) (s : S) (limit : ℕ) (basin : Basin K) (from : List Field) (rows : List Row) (stages : List (Stage O)) (lanes : List (Lane O K)) (steps : steps_in op from lanes ≡ steps_of op from (operators_of stages)) where
-  pub halts-by : nodes_in lanes ≡ nodes_of stages basin → AllWithin 0 (counts_in lanes) → (halt : Halt) → IsHaltOver op s limit from rows lanes halt → HaltsBy op s limit from rows stages basin halt
+  pub halts-by : nodes_in lanes ≡ nodes_of stages basin → AllWithin 0 (counts_in lanes) → (halt : Halt) → IsHaltOver op s limit from rows lanes halt → HaltsBy op s limit from rows stages basin.node halt
   halts-by nodes none Stopped h = tt
   halts-by nodes none (Refused r) h = refused-by op s limit basin from rows stages (counts_in lanes) r none (rw (← steps, ← nodes) h)
 

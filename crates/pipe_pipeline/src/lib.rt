@@ -2,8 +2,10 @@
 //! `PipeLine`).
 #![tactic(auto)]
 
-mod operating;
+mod collecting;
 mod running;
+mod shortened;
 
-pub use operating::run_operator;
+pub use collecting::collect_frame;
 pub use running::run_pipeline;
+pub use shortened::context_for;

@@ -54,7 +54,7 @@ pub fn run_pipeline<
     ensures within { OnOk result (AllFew O.Operator shared.now context.now.row_limit
         (schema_left (I.left source.old)) (left_rows (I.left source.old)) stages.now) }
     ensures over { IfErr result (HaltsBy O.Operator shared.now context.now.row_limit
-        (schema_left (I.left source.old)) (left_rows (I.left source.old)) stages.now basin) }
+        (schema_left (I.left source.old)) (left_rows (I.left source.old)) stages.now basin.node) }
     ensures asked { OnOk result (Rises (C.asked stop.old) (C.asked stop.new)) }
     ensures yes { Counts (stops result) (C.yes stop.old) (C.yes stop.new) }
     ensures last { result ≡ Err Halt.Stopped → C.last_answer stop.new ≡ true }
