@@ -9,7 +9,7 @@ use Rattle.pipe_lanes.specs.declared.halt.Halt.TheVariants.{Stopped, Refused}
 use Rattle.pipe_lanes.specs.declared.stage.Refusal.TheVariants.{TooMany, Memory}
 use Rattle.pipe_plan.specs.declared.error.PipeError.{PipeError}
 use Rattle.pipe_plan.specs.declared.error.PipeError.TheVariants as error
-use Rattle.pipe_eval.specs.Asked.{NeverFalls, NoFallOnOk, WasAsked}
+use Rattle.pipe_eval.specs.Asked.{NeverFalls, WasAsked}
 use Rattle.pipe_plan.specs.Plan.{Plan}
 use Rattle.pipe_eval.specs.Evaluated.{EndsWith, stop_of, stops}
 use Rattle.pipe_eval.specs.Halts.{error_of}

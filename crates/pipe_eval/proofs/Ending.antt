@@ -1,16 +1,16 @@
 -- What flows are for a pipeline: a chain of operators that serve, whose rows are those of a node.
-use Rattle.std.proofs.Common.{◌≡◌, ℕ, ◌<◌, ◌≤◌, inl, inr, Bool, true, false, List, [], ◌∷◌, ◌++◌, length, refl, ap, sym, ◌∙◌, subst, arith}
+use Rattle.std.proofs.Common.{◌≡◌, ℕ, ◌≤◌, inl, inr, Bool, true, false, List, [], ◌∷◌, ◌++◌, length, ap, sym, ◌∙◌, subst, arith}
 use Rattle.std.specs.List.{flat_map}
 use Rattle.pipe_frame.specs.Rows.{Row, Same}
 use Rattle.pipe_frame.specs.declared.field.Field.{Field}
 use Rattle.pipe_ops.specs.declared.operator.Operator.{Ghosts as OperatorWords}
 use Rattle.pipe_lanes.specs.Counts.{operators_of}
-use Rattle.pipe_lanes.specs.Through.{through, steps_of, IsChain, AllServe}
+use Rattle.pipe_lanes.specs.Through.{steps_of, IsChain, AllServe}
 use Rattle.pipe_lanes.specs.declared.halt.Halt.{Halt}
 use Rattle.pipe_lanes.specs.declared.halt.Halt.TheVariants.{Stopped, Refused}
 use Rattle.pipe_lanes.specs.declared.stage.Refusal.TheVariants.{TooMany, Memory}
 use Rattle.pipe_lanes.specs.declared.stage.Stage.{Stage}
-use Rattle.pipe_lanes.proofs.Rows.{same-refl, same-trans, same-flat, same-length, same-through, through-none}
+use Rattle.pipe_lanes.proofs.Rows.{same-trans, same-flat, same-length, same-through, through-none}
 use Rattle.pipe_pipeline.specs.Pipelines.{made_by, made_at, AllFew, IsTooFull, HaltsBy}
 use Rattle.pipe_plan.specs.Plan.{plan_of}
 use Rattle.pipe_plan.specs.Under.{node_at}

@@ -1,8 +1,7 @@
 -- Frames of nodes, and the flows that begin with them.
-use Rattle.std.proofs.Common.{◌≡◌, ℕ, ◌<◌, ◌≤◌, Bool, true, false, List, [], ◌∷◌, length, refl, ap, sym, ◌∙◌, subst, arith}
+use Rattle.std.proofs.Common.{◌≡◌, ℕ, ◌<◌, ◌≤◌, false, List, [], length, sym, subst, arith}
 use Rattle.pipe_frame.specs.Frame.{Table}
 use Rattle.pipe_frame.specs.Rows.{Row, Same}
-use Rattle.pipe_frame.specs.declared.field.Field.{Field}
 use Rattle.pipe_ops.specs.declared.operator.Operator.{Ghosts as OperatorWords}
 use Rattle.pipe_lanes.specs.declared.stage.Stage.{Stage}
 use Rattle.pipe_lanes.proofs.Rows.{same-refl, same-trans, same-length}

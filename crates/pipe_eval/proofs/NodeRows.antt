@@ -1,8 +1,6 @@
 -- The rows of a node under the root are made of those of its inputs.
-use Rattle.std.proofs.Common.{◌≡◌, ℕ, zero, suc, ◌<◌, ◌≤◌, ◌⊎◌, inl, inr, Bool, true, false, cond, eqb, ◌||◌, List, [], ◌∷◌, length, refl, ap, sym, ◌∙◌, arith}
-use Rattle.std.specs.List.{flat_map, list_any}
-use Rattle.std.proofs.lemmas.Bool.{cases_lt}
-use Rattle.std.proofs.lemmas.Bool.Decides.{Decides-eqb}
+use Rattle.std.proofs.Common.{◌≡◌, ℕ, Bool, true, false, cond, eqb, ◌||◌, List, [], ◌∷◌, length, refl, ap, sym, ◌∙◌, arith}
+use Rattle.std.specs.List.{flat_map}
 use Rattle.pipe_frame.specs.Frame.{Table}
 use Rattle.pipe_frame.specs.Rows.{Row}
 use Rattle.pipe_frame.specs.declared.field.Field.{Field}
@@ -14,15 +12,14 @@ use Rattle.pipe_plan.specs.Plan.{Plan}
 use Rattle.pipe_plan.specs.PlanRows.{rows_of}
 use Rattle.pipe_plan.specs.Schemas.{schema_of, join_over}
 use Rattle.pipe_plan.specs.Swap.{swaps}
-use Rattle.pipe_plan.specs.Under.{inputs_of, is_under, node_at, reaches_at}
-use Rattle.pipe_plan.specs.Walk.{walk}
+use Rattle.pipe_plan.specs.Under.{inputs_of, is_under, node_at}
 use Rattle.pipe_plan.specs.Faults.{IsWellFormed}
 use Rattle.pipe_plan.specs.declared.ir.JoinOptions.{JoinOptions}
 use Rattle.pipe_plan.specs.declared.ir.SortOptions.{SortOptions}
 use Rattle.pipe_events.specs.Stages.{Stages, Scan, Each, Sort, stage_rows, rows_at, rows_to}
 use Rattle.pipe_events.specs.PlanStages.{Setting, stage_of, stage_at, stages_of}
 use Rattle.pipe_events.proofs.PlanLemmas.{stages_have_rows}
-use Rattle.pipe_check.proofs.Walks.{walk-at, walk-below, walk-past, member, itself, under-at, under-below}
+use Rattle.pipe_check.proofs.Walks.{walk-at, walk-below, member, itself}
 use Rattle.pipe_convert.proofs.Granted.{Granted, granted}
 use Rattle.pipe_eval.specs.Evaluated.{is_sort}
 

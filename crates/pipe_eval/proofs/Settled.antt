@@ -1,12 +1,11 @@
 -- All nodes under a node are within the limit, if it is and all under its inputs are.
-use Rattle.std.proofs.Common.{◌≡◌, ◌⊎◌, inl, inr, ℕ, ◌<◌, ◌≤◌, Bool, true, false, eqb, ◌||◌, List, [], ◌∷◌, length, refl, ap, sym, ◌∙◌, subst, arith}
+use Rattle.std.proofs.Common.{◌≡◌, ◌⊎◌, inl, inr, ℕ, ◌<◌, ◌≤◌, Bool, true, false, eqb, ◌||◌, List, [], ◌∷◌, length, refl, ap, sym, ◌∙◌, subst}
 use Rattle.std.specs.List.{AllByRecursion, list_any}
 use Rattle.std.proofs.lemmas.Bool.{cases_lt}
 use Rattle.std.proofs.lemmas.Bool.Decides.{Decides-eqb}
 use Rattle.pipe_plan.specs.Faults.{IsWellFormed}
 use Rattle.pipe_plan.specs.Plan.{plan_of}
-use Rattle.pipe_plan.specs.PlanRows.{rows_of}
-use Rattle.pipe_plan.specs.Under.{inputs_of, is_under, node_at, reaches_at}
+use Rattle.pipe_plan.specs.Under.{node_at, reaches_at}
 use Rattle.pipe_plan.specs.Walk.{walk}
 use Rattle.pipe_check.specs.Checked.{Checked}
 use Rattle.pipe_check.proofs.Walks.{member, walk-past, under-at, under-below, under-self}

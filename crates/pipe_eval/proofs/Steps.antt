@@ -1,5 +1,5 @@
 -- The operator of a node makes the node's rows of those of its input.
-use Rattle.std.proofs.Common.{◌≡◌, ℕ, List, [], ◌∷◌, ap, sym, ◌∙◌, subst}
+use Rattle.std.proofs.Common.{ℕ, List, [], ◌∷◌, sym, subst}
 use Rattle.std.specs.List.{flat_map}
 use Rattle.pipe_frame.specs.Rows.{Row, Same}
 use Rattle.pipe_ops.specs.declared.operator.Operator.{Ghosts as OperatorWords}

@@ -1,5 +1,5 @@
 -- What is stacked for a union is the union's.
-use Rattle.std.proofs.Common.{◌≡◌, ℕ, ◌<◌, ◌≤◌, false, List, [], ◌∷◌, ◌++◌, length, ap, sym, ◌∙◌, subst, arith}
+use Rattle.std.proofs.Common.{◌≡◌, ℕ, ◌<◌, false, List, [], ◌∷◌, ◌++◌, length, ap, sym, subst, arith}
 use Rattle.std.specs.List.{AllByRecursion, flat_map}
 use Rattle.pipe_frame.specs.Frame.{Table}
 use Rattle.pipe_frame.specs.Rows.{Row, Same}

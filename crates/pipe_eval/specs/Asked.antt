@@ -1,5 +1,5 @@
 -- What a stop check was asked, and what it said, by how a call ended.
-use Rattle.std.specs.Prelude.{◌≡◌, ◌≤◌, ◌⊎◌, ℕ, Bool, true, Result, Ok, Err}
+use Rattle.std.specs.Prelude.{◌≡◌, ◌≤◌, ◌⊎◌, ℕ, true, Result, Ok, Err}
 use Rattle.pipe_frame.specs.Counts.{Counts, last_count}
 use Rattle.pipe_frame.specs.declared.stop.StopCheck.{Ghosts as StopWords}
 use Rattle.pipe_plan.specs.declared.error.PipeError.{PipeError}

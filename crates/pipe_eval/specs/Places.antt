@@ -1,5 +1,5 @@
 -- Flows of nodes, each in the place of its node, on the way to that of the root.
-use Rattle.std.specs.Prelude.{◌≡◌, ℕ, ◌<◌, ◌==◌, List, [], ◌∷◌, true, false, Option, Some, None, slice_index_or}
+use Rattle.std.specs.Prelude.{◌≡◌, ℕ, ◌<◌, ◌==◌, List, [], ◌∷◌, false, Option, Some, None, slice_index_or}
 use Rattle.std.specs.List.{list_any}
 use Rattle.pipe_ops.specs.declared.operator.Operator.{Ghosts as OperatorWords}
 use Rattle.pipe_plan.specs.Faults.{is_read_below}

@@ -1,6 +1,6 @@
 //! The flows of nodes that go row by row.
 
-ghost use Rattle.std.specs.Prelude.{◌≡◌, [], ◌∷◌, true, IfOk, OnOk};
+ghost use Rattle.std.specs.Prelude.{[], ◌∷◌, IfOk, OnOk};
 ghost use Rattle.pipe_expr.specs.Formula.{formula_of, named_formulas_of};
 ghost use Rattle.pipe_plan.specs.Node as node;
 ghost use Rattle.pipe_convert.specs.Converted.{IsNode, IsOperatorOf};

@@ -1,4 +1,4 @@
-use Rattle.std.proofs.Common.{◌≡◌, [], Err, ap, subst, arith, ◌∙◌}
+use Rattle.std.proofs.Common.{◌≡◌, [], Err, ap, arith, ◌∙◌}
 use Rattle.pipe_eval.proofs.Ending.{ends-chain, ends-serve, ends-under, halts-end}
 use Rattle.pipe_eval.proofs.Frames.{bare-frame, bare-settled, run-frame}
 use Rattle.pipe_eval.proofs.Asked.{asked-halted, asked-ok, asked-run, asked_none, ends_memory}

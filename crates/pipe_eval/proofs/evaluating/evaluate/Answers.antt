@@ -1,7 +1,7 @@
 use denote.Param.Send.{sendable}
 use Rattle.pipe_physical.proofs.Crossing.{operator-send, operator-sync}
 use Rattle.std.proofs.Common.{sym, subst}
-use Rattle.pipe_eval.specs.Flows.{IsFlowOf, IsFrameOf, IsSettled, IsUnder}
+use Rattle.pipe_eval.specs.Flows.{IsFrameOf, IsSettled, IsUnder}
 use Rattle.pipe_eval.specs.Places.{AreReady}
 use Rattle.pipe_eval.specs.Words.{phys_words}
 use Rattle.pipe_eval.proofs.Held.{inputs-held}

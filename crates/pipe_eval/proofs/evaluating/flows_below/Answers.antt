@@ -1,6 +1,5 @@
-use Rattle.std.proofs.Common.{◌≡◌, ◌++◌, ◌+◌, ◌∷◌, [], length, length-append, true, ap, sym, subst, ◌∙◌, arith}
+use Rattle.std.proofs.Common.{◌≡◌, ◌++◌, ◌+◌, ◌∷◌, [], length, length-append, ap, sym, subst, ◌∙◌, arith}
 use Rattle.std.proofs.lemmas.List.{with_items_is}
-use Rattle.pipe_plan.specs.Plan.{plan_of}
 use Rattle.pipe_eval.specs.Flows.{IsUnder}
 use Rattle.pipe_eval.specs.Places.{AreReady}
 use Rattle.pipe_eval.specs.Words.{phys_words}

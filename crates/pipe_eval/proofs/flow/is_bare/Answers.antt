@@ -1,4 +1,4 @@
-use Rattle.std.proofs.Common.{◌≡◌, [], true, false, eqb, length, ap, arith, sym, ◌∙◌}
+use Rattle.std.proofs.Common.{◌≡◌, true, false, eqb, length, ap, arith, sym, ◌∙◌}
 use Rattle.std.proofs.lemmas.Bool.Decides.{Decides-eqb}
 use Rattle.std.proofs.lemmas.List.{nil_from_length}
 use Rattle.pipe_eval.proofs.flow.is_bare.Goals as goal

@@ -1,4 +1,4 @@
-use Rattle.std.proofs.Common.{[], ap, sym, ◌∙◌}
+use Rattle.std.proofs.Common.{[], ap}
 use Rattle.pipe_plan.specs.Plan.{plan_of}
 use Rattle.pipe_plan.specs.Under.{inputs_of}
 use Rattle.pipe_eval.proofs.Asked.{ends_memory, stops_memory}

@@ -1,4 +1,4 @@
-use Rattle.std.proofs.Common.{Err, ap, sym, subst, arith, ◌∙◌}
+use Rattle.std.proofs.Common.{Err, ap, sym, arith, ◌∙◌}
 use Rattle.pipe_eval.specs.Flows.{rows_in}
 use Rattle.pipe_eval.proofs.Asked.{asked-halted, asked-run}
 use Rattle.pipe_eval.proofs.Ending.{ends-chain, ends-same, ends-serve, halts-end}

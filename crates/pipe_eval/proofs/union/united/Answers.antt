@@ -4,7 +4,6 @@ use Rattle.std.proofs.lemmas.List.{drop_more, nil_from_length}
 use Rattle.pipe_frame.specs.Rows.{Row, Same}
 use Rattle.pipe_plan.specs.Faults.{repeats}
 use Rattle.pipe_plan.specs.Plan.{plan_of}
-use Rattle.pipe_plan.specs.declared.error.PipeError.TheVariants as error
 use Rattle.pipe_apply.proofs.SameRows.{same-refl}
 use Rattle.pipe_check.proofs.Walks.{member}
 use Rattle.pipe_convert.proofs.Granted.{first_false, second_false}
