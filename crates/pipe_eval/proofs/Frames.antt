@@ -1,47 +1,78 @@
--- What was made of the rows of a node's inputs is the node's frame.
-use Rattle.std.proofs.Common.{◌≡◌, ℕ, ◌<◌, ◌≤◌, Bool, true, false, List, length, Option, Some, None, ap, sym, ◌∙◌, subst, arith}
-use Rattle.std.specs.List.{flat_map}
+-- Frames of nodes, and the flows that begin with them.
+use Rattle.std.proofs.Common.{◌≡◌, ℕ, ◌<◌, ◌≤◌, false, List, [], length, sym, subst, arith}
 use Rattle.pipe_frame.specs.Frame.{Table}
 use Rattle.pipe_frame.specs.Rows.{Row, Same}
-use Rattle.pipe_frame.specs.declared.field.Field.{Field}
-use Rattle.pipe_frame.proofs.Weights.{SameBag-flat_map, SameBag-from_rows, Same-from_bag}
-use Rattle.pipe_plan.specs.Plan.{Plan}
-use Rattle.pipe_plan.specs.PlanRows.{rows_of}
-use Rattle.pipe_plan.specs.Schemas.{schema_of}
+use Rattle.pipe_ops.specs.declared.operator.Operator.{Ghosts as OperatorWords}
+use Rattle.pipe_lanes.specs.declared.stage.Stage.{Stage}
+use Rattle.pipe_lanes.proofs.Rows.{same-refl, same-trans, same-length}
+use Rattle.pipe_pipeline.specs.Pipelines.{made_by, AllFew}
+use Rattle.pipe_plan.specs.Plan.{plan_of}
 use Rattle.pipe_plan.specs.Under.{node_at}
-use Rattle.pipe_apply.specs.Applied.{IsApplied}
-use Rattle.pipe_apply.proofs.SameRows.{same-refl, same-trans, same-length}
-use Rattle.pipe_eval.specs.Evaluated.{is_sort}
-use Rattle.pipe_eval.specs.Places.{IsFrameOf, IsFrameOrNone}
+use Rattle.pipe_check.specs.Checked.{Checked}
+use Rattle.pipe_convert.specs.Converted.{schema_in}
+use Rattle.pipe_eval.specs.Evaluated.{HasTooMany, is_sort}
+use Rattle.pipe_eval.specs.Flows.{AreOf, EndAs, IsFlowOf, IsFrameOf, IsMadeFor, IsSettled, IsUnder, rows_in}
+use Rattle.pipe_eval.specs.declared.flow.Flow.{Flow}
+use Rattle.pipe_eval.proofs.Ending.{ends-same, not-both}
 
-pub same-flat : (f : Row → List Row) (a b : List Row) → Same a b → Same (flat_map f a) (flat_map f b)
-same-flat f a b h = Same-from_bag (SameBag-flat_map f (SameBag-from_rows h))
-
-pub not-both : {P : Type 0} (b : Bool) → b ≡ false → b ≡ true → P
-not-both b apart sorts = absurd (let e : false ≡ true = sym apart ∙ sorts in cc)
-
--- where the rows that were made are those of the node, and it is no sort
-pub applied-frame : (limit : ℕ) (plan : Plan) (n : ℕ) (schema : List Field) (rows : List Row) (made : Option Table) → IsApplied limit schema rows made → schema ≡ schema_of plan n → Same rows (rows_of plan n) → is_sort (node_at plan.nodes n) ≡ false → IsFrameOrNone limit plan n made
-applied-frame limit plan n schema rows (Some frame) h s same apart =
-    let all = same-trans h.same same in
-    record {
-      schema_is = h.schema_is ∙ s;
-      has_rows = record { same = all; in_order = λ sorts. not-both (is_sort (node_at plan.nodes n)) apart sorts };
-      within = omega (arith, same-length all, h.within);
-    }
-applied-frame limit plan n schema rows None h s same apart = omega (arith, same-length same, h)
-
--- the very rows of the node
-pub exact-frame : (limit : ℕ) (plan : Plan) (n : ℕ) (frame : Table) → frame.schema ≡ schema_of plan n → rows_of plan n ≡ frame.rows → length frame.rows ≤ limit → IsFrameOf limit plan n frame
-exact-frame limit plan n frame s e within = record {
-  schema_is = s;
-  has_rows = record { same = subst (λ rows. Same frame.rows rows) (sym e) (same-refl frame.rows); in_order = λ sorts. sym e };
-  within = omega (arith, ap length e, within);
+-- the very rows of a node
+pub exact-made : (limit : ℕ) (plan : Checked) (n : ℕ) (frame : Table) → IsUnder plan n → frame.schema ≡ schema_in plan n → rows_in plan n ≡ frame.rows → (length (rows_in plan n) ≤ limit → IsSettled limit plan n) → IsMadeFor limit plan n frame
+exact-made limit plan n frame under s e settles = record {
+  under = under;
+  frame_of = record {
+    schema_is = s;
+    has_rows = record { same = subst (λ (rows : List Row). Same frame.rows rows) (sym e) (same-refl frame.rows); in_order = λ sorts. sym e };
+  };
+  settles = settles;
 }
 
-pub too_many : (limit : ℕ) (plan : Plan) (n : ℕ) (rows : List Row) → rows_of plan n ≡ rows → limit < length rows → limit < length (rows_of plan n)
-too_many limit plan n rows e above = omega (arith, ap length e, above)
+-- the rows of a node that is no sort, in any order
+pub same-made : (limit : ℕ) (plan : Checked) (n : ℕ) (frame : Table) → IsUnder plan n → frame.schema ≡ schema_in plan n → Same frame.rows (rows_in plan n) → is_sort (node_at (plan_of plan.arena).nodes n) ≡ false → (length (rows_in plan n) ≤ limit → IsSettled limit plan n) → IsMadeFor limit plan n frame
+same-made limit plan n frame under s same no_sort settles = record {
+  under = under;
+  frame_of = record {
+    schema_is = s;
+    has_rows = record { same = same; in_order = λ sorts. not-both (is_sort (node_at (plan_of plan.arena).nodes n)) no_sort sorts };
+  };
+  settles = settles;
+}
 
--- rows of a node's frame are no more than its own
-pub few : (limit : ℕ) (plan : Plan) (n : ℕ) (frame : Table) → IsFrameOf limit plan n frame → length frame.rows ≤ limit
-few limit plan n frame h = omega (arith, same-length h.has_rows.same, h.within)
+-- more rows than the limit
+pub made-many : (limit : ℕ) (plan : Checked) (n : ℕ) (frame : Table) → IsMadeFor limit plan n frame → limit < length frame.rows → HasTooMany limit (plan_of plan.arena) plan.root n
+made-many limit plan n frame h above = record { under = h.under; above = omega (arith, same-length h.frame_of.has_rows.same, above) }
+
+module _ {O : Type 0} (op : OperatorWords O (Unit {0})) (limit : ℕ) (plan : Checked) (n : ℕ) where
+  -- a frame alone is a flow
+  pub made-flow : (flow : Flow O) → flow.stages.items ≡ [] → length flow.frame.rows ≤ limit → IsMadeFor limit plan n flow.frame → IsFlowOf op limit plan n flow
+  made-flow flow none few h =
+      let here : AreOf plan n flow.frame.schema flow.frame.rows = record { under = h.under; schema_is = h.frame_of.schema_is; same = h.frame_of.has_rows.same } in
+      record {
+        few = few;
+        ends = subst (EndAs op plan n flow.frame.schema flow.frame.rows) (sym none) here;
+        settles = λ all. h.settles (omega (arith, same-length h.frame_of.has_rows.same, few));
+        in_order = λ sorts. (none, h.frame_of.has_rows.in_order sorts);
+      }
+
+  -- and a flow without stages is its frame
+  pub bare-frame : (flow : Flow O) → flow.stages.items ≡ [] → IsFlowOf op limit plan n flow → IsFrameOf plan n flow.frame
+  bare-frame flow none h =
+      let here : AreOf plan n flow.frame.schema flow.frame.rows = subst (EndAs op plan n flow.frame.schema flow.frame.rows) none h.ends in
+      record {
+        schema_is = here.schema_is;
+        has_rows = record { same = here.same; in_order = λ sorts. (h.in_order sorts).1 };
+      }
+
+  pub bare-settled : (flow : Flow O) → flow.stages.items ≡ [] → IsFlowOf op limit plan n flow → IsSettled limit plan n
+  bare-settled flow none h =
+      let settles : AllFew op tt limit flow.frame.schema flow.frame.rows [] → IsSettled limit plan n = subst (λ (stages : List (Stage O)). AllFew op tt limit flow.frame.schema flow.frame.rows stages → IsSettled limit plan n) none h.settles in
+      settles h.few
+
+  -- what stages made of a flow's frame is the node's
+  pub run-frame : (flow : Flow O) (made : Table) → (flow.stages.items ≡ [] → ⊥) → IsFlowOf op limit plan n flow → made.schema ≡ schema_in plan n → Same made.rows (made_by op tt flow.frame.schema flow.stages.items flow.frame.rows) → IsFrameOf plan n made
+  run-frame flow made some h s same = record {
+    schema_is = s;
+    has_rows = record {
+      same = same-trans same (ends-same op plan n flow.frame.schema flow.frame.rows flow.stages.items h.ends);
+      in_order = λ sorts. absurd (some (h.in_order sorts).0);
+    };
+  }

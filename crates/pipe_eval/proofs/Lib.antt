@@ -1,7 +1,13 @@
 pub mod Asked
-pub mod JoinsAlike
-pub mod NodeRows
+pub mod Ending
 pub mod Frames
 pub mod Held
-pub mod Made
+pub mod Joined
+pub mod JoinsAlike
+pub mod NodeRows
 pub mod SameFields
+pub mod Settled
+pub mod Shares
+pub mod Sides
+pub mod Steps
+pub mod Unions

@@ -1,8 +1,6 @@
 -- The rows of a node under the root are made of those of its inputs.
-use Rattle.std.proofs.Common.{◌≡◌, ℕ, zero, suc, ◌<◌, ◌≤◌, ◌⊎◌, inl, inr, Bool, true, false, cond, eqb, ◌||◌, List, [], ◌∷◌, length, refl, ap, sym, ◌∙◌, arith}
-use Rattle.std.specs.List.{flat_map, list_any}
-use Rattle.std.proofs.lemmas.Bool.{cases_lt}
-use Rattle.std.proofs.lemmas.Bool.Decides.{Decides-eqb}
+use Rattle.std.proofs.Common.{◌≡◌, ℕ, Bool, true, false, cond, eqb, ◌||◌, List, [], ◌∷◌, length, refl, ap, sym, ◌∙◌, arith}
+use Rattle.std.specs.List.{flat_map}
 use Rattle.pipe_frame.specs.Frame.{Table}
 use Rattle.pipe_frame.specs.Rows.{Row}
 use Rattle.pipe_frame.specs.declared.field.Field.{Field}
@@ -14,15 +12,14 @@ use Rattle.pipe_plan.specs.Plan.{Plan}
 use Rattle.pipe_plan.specs.PlanRows.{rows_of}
 use Rattle.pipe_plan.specs.Schemas.{schema_of, join_over}
 use Rattle.pipe_plan.specs.Swap.{swaps}
-use Rattle.pipe_plan.specs.Under.{inputs_of, is_under, node_at, reaches_at}
-use Rattle.pipe_plan.specs.Walk.{walk}
+use Rattle.pipe_plan.specs.Under.{inputs_of, is_under, node_at}
 use Rattle.pipe_plan.specs.Faults.{IsWellFormed}
 use Rattle.pipe_plan.specs.declared.ir.JoinOptions.{JoinOptions}
 use Rattle.pipe_plan.specs.declared.ir.SortOptions.{SortOptions}
 use Rattle.pipe_events.specs.Stages.{Stages, Scan, Each, Sort, stage_rows, rows_at, rows_to}
 use Rattle.pipe_events.specs.PlanStages.{Setting, stage_of, stage_at, stages_of}
 use Rattle.pipe_events.proofs.PlanLemmas.{stages_have_rows}
-use Rattle.pipe_check.proofs.Walks.{walk-at, walk-below, walk-past, member, itself, under-at, under-below}
+use Rattle.pipe_check.proofs.Walks.{walk-at, walk-below, member, itself}
 use Rattle.pipe_convert.proofs.Granted.{Granted, granted}
 use Rattle.pipe_eval.specs.Evaluated.{is_sort}
 
@@ -87,6 +84,9 @@ module _ (plan : Plan) (root n : ℕ) (good : IsWellFormed plan root) (under : i
   pub each-no_sort : (input : ℕ) (op : Row → List Row) → stage_at plan root n ≡ Each input op → is_sort (node_at plan.nodes n) ≡ false
   each-no_sort input op e = no-sort plan.frames (schema_of plan) (node_at plan.nodes n) input op (sym grants.staged ∙ e)
 
+  pub each-input : (input : ℕ) (op : Row → List Row) → stage_at plan root n ≡ Each input op → inputs_of (node_at plan.nodes n) ≡ input ∷ []
+  each-input input op e = one-input plan.frames (schema_of plan) (node_at plan.nodes n) input op (sym grants.staged ∙ e)
+
   pub sort-rows : (input : ℕ) (by : List (List ℕ)) (options : SortOptions) (sorting : List Row → List Row) → node_at plan.nodes n ≡ node.Sort input by options → stage_at plan root n ≡ Sort input sorting → rows_of plan n ≡ sorting (rows_of plan input)
   sort-rows input by options sorting e f = own ∙ ap (stage_rows below) f ∙ ap sorting (fed input (is-member _ input [] e refl))
 
@@ -122,29 +122,3 @@ module _ (plan : Plan) (root n : ℕ) (good : IsWellFormed plan root) (under : i
       ∙ either (swaps options) j left right below
       ∙ ap (λ a. join_rows j a (below right)) (fed left (is-member _ left (right ∷ []) e refl))
       ∙ ap (join_rows j (rows_of plan left)) (fed right (second-member _ left right e refl))
-
--- ---- what is under a node is no greater number
-
-any-elim : (p : ℕ → Bool) (xs : List ℕ) (Q : Type 0) → ((j : ℕ) → p j ≡ true → Q) → list_any p xs ≡ true → Q
-any-elim p [] Q f h = absurd (let clash : false ≡ true = h in cc)
-any-elim p (x ∷ xs) Q f h =
-    let split : (b : Bool) → p x ≡ b → (b || list_any p xs) ≡ true → Q = elim [
-      | true ↦ λ is g. f x is
-      | false ↦ λ is g. any-elim p xs Q f g
-    ]
-    in split (p x) refl h
-
-pub under-least : (nodes : List Node) (n b k : ℕ) → k < b → b ≤ length nodes → is_under nodes k n ≡ true → n ≤ k
-under-least nodes n zero k lt le u = absurd (omega arith)
-under-least nodes n (suc b) k lt le u =
-    let there : k < length nodes = omega arith in
-    let inner : (j : ℕ) → walk false (reaches_at nodes n) k j ≡ true → n ≤ k = λ j e. (
-    let cases : (j < k) ⊎ (k ≤ j) → n ≤ k = elim [
-      | inl l ↦ (let least : n ≤ j = under-least nodes n b j (omega arith) (omega arith) (sym (under-below nodes k j n l there) ∙ e) in omega arith)
-      | inr g ↦ absurd (let no_ = walk-past false (reaches_at nodes n) k j g in cc)
-    ] in cases (cases_lt j k)) in
-    let split : (c : Bool) → eqb k n ≡ c → (c || list_any (walk false (reaches_at nodes n) k) (inputs_of (node_at nodes k))) ≡ true → n ≤ k = elim [
-      | true ↦ λ is g. (let same : k ≡ n = (Decides-eqb k n).0 is in omega arith)
-      | false ↦ λ is g. any-elim (walk false (reaches_at nodes n) k) (inputs_of (node_at nodes k)) (n ≤ k) inner g
-    ]
-    in split (eqb k n) refl (sym (under-at nodes k n there) ∙ u)

@@ -1,57 +1,51 @@
--- Frames of nodes, each in the place of its node, on the way to that of the root.
-use Rattle.std.specs.Prelude.{◌≡◌, ℕ, ◌<◌, ◌≤◌, ◌==◌, List, [], ◌∷◌, true, false, Option, Some, None, length, slice_index_or}
+-- Flows of nodes, each in the place of its node, on the way to that of the root.
+use Rattle.std.specs.Prelude.{◌≡◌, ℕ, ◌<◌, ◌==◌, List, [], ◌∷◌, false, Option, Some, None, slice_index_or}
 use Rattle.std.specs.List.{list_any}
-use Rattle.pipe_frame.specs.Frame.{Table}
+use Rattle.pipe_ops.specs.declared.operator.Operator.{Ghosts as OperatorWords}
 use Rattle.pipe_plan.specs.Faults.{is_read_below}
-use Rattle.pipe_plan.specs.Plan.{Plan}
-use Rattle.pipe_plan.specs.PlanRows.{rows_of}
-use Rattle.pipe_plan.specs.Schemas.{schema_of}
-use Rattle.pipe_plan.specs.Under.{is_under}
-use Rattle.pipe_eval.specs.Evaluated.{HasRowsOf}
+use Rattle.pipe_plan.specs.Plan.{plan_of}
+use Rattle.pipe_plan.specs.Under.{inputs_of, is_under, node_at}
+use Rattle.pipe_check.specs.Checked.{Checked}
+use Rattle.pipe_eval.specs.Flows.{IsFlowOf, IsUnder}
+use Rattle.pipe_eval.specs.declared.flow.Flow.{Flow}
 
--- a frame is that of a node, which has no more rows than the limit
-pub record IsFrameOf (limit : ℕ) (plan : Plan) (n : ℕ) (frame : Table) : Type 0 where
-  pub schema_is : frame.schema ≡ schema_of plan n
-  pub has_rows : HasRowsOf plan n frame.rows
-  pub within : length (rows_of plan n) ≤ limit
+-- the inputs of a node of a checked plan
+abbrev pub inputs_in : Checked → ℕ → List ℕ
+inputs_in plan n = inputs_of (node_at (plan_of plan.arena).nodes n)
 
--- the frame of a node, or none where it has more rows than the limit
-abbrev pub IsFrameOrNone : ℕ → Plan → ℕ → Option Table → Type 0
-IsFrameOrNone limit plan n (Some frame) = IsFrameOf limit plan n frame
-IsFrameOrNone limit plan n None = limit < length (rows_of plan n)
-
--- the frame of a node, where it is under the root
-abbrev pub IsFrameUnder : ℕ → Plan → ℕ → ℕ → Option Table → Type 0
-IsFrameUnder limit plan root n (Some frame) = IsFrameOf limit plan n frame
-IsFrameUnder limit plan root n None = is_under plan.nodes root n ≡ false
+-- the flow of a node, where it is under the root
+abbrev pub IsFlowUnder : {O : Type 0} → OperatorWords O (Unit {0}) → ℕ → Checked → ℕ →
+    Option (Flow O) → Type 0
+IsFlowUnder op limit plan n (Some flow) = IsFlowOf op limit plan n flow
+IsFlowUnder op limit plan n None = is_under (plan_of plan.arena).nodes plan.root n ≡ false
 
 -- the place of a number
-abbrev pub place_at : List (Option Table) → ℕ → Option Table
+abbrev pub place_at : {O : Type 0} → List (Option (Flow O)) → ℕ → Option (Flow O)
 place_at places n = slice_index_or places n None
 
--- a place has the frame of a node
-abbrev pub IsHeld : ℕ → Plan → ℕ → Option Table → Type 0
-IsHeld limit plan n (Some frame) = IsFrameOf limit plan n frame
-IsHeld limit plan n None = ⊥
+-- a place has the flow of a node
+pub record IsHeld {O : Type 0} (op : OperatorWords O (Unit {0})) (limit : ℕ) (plan : Checked) (n : ℕ)
+    (place : Option (Flow O)) : Type 0 where
+  pub flow : Flow O
+  pub there : place ≡ Some flow
+  pub is_of : IsFlowOf op limit plan n flow
 
--- the frames of some nodes are in their places
-abbrev pub AreHeld : ℕ → Plan → List (Option Table) → List ℕ → Type 0
-AreHeld limit plan places [] = Unit {0}
-AreHeld limit plan places (n ∷ ns) =
-    IsHeld limit plan n (place_at places n) × AreHeld limit plan places ns
+-- the flows of some nodes are in their places
+abbrev pub AreHeld : {O : Type 0} → OperatorWords O (Unit {0}) → ℕ → Checked →
+    List (Option (Flow O)) → List ℕ → Type 0
+AreHeld op limit plan places [] = Unit {0}
+AreHeld op limit plan places (n ∷ ns) =
+    IsHeld op limit plan n (place_at places n) × AreHeld op limit plan places ns
 
 -- the places of all other nodes are as they were
-abbrev pub OthersStay : List ℕ → (old new : List (Option Table)) → Type 0
+abbrev pub OthersStay : {O : Type 0} → List ℕ → (old new : List (Option (Flow O))) → Type 0
 OthersStay ns old new =
     (i : ℕ) → list_any (λ m. m == i) ns ≡ false → place_at new i ≡ place_at old i
 
 -- of the first k nodes, those under the root that none of them reads are in their places
-abbrev pub AreReady : ℕ → Plan → ℕ → ℕ → List (Option Table) → Type 0
-AreReady limit plan root k places =
-    (i : ℕ) → i < k → is_under plan.nodes root i ≡ true
-    → is_read_below plan.nodes root k i ≡ false → IsHeld limit plan i (place_at places i)
-
--- of the first k nodes, those under the root have no more rows than the limit
-abbrev pub AreWithin : ℕ → Plan → ℕ → ℕ → Type 0
-AreWithin limit plan root k =
-    (i : ℕ) → i < k → is_under plan.nodes root i ≡ true → length (rows_of plan i) ≤ limit
+abbrev pub AreReady : {O : Type 0} → OperatorWords O (Unit {0}) → ℕ → Checked → ℕ →
+    List (Option (Flow O)) → Type 0
+AreReady op limit plan k places =
+    (i : ℕ) → i < k → IsUnder plan i
+    → is_read_below (plan_of plan.arena).nodes plan.root k i ≡ false
+    → IsHeld op limit plan i (place_at places i)

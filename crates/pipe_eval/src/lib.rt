@@ -1,13 +1,19 @@
-//! A plan, frame by frame: each node's whole frame, made of those of its inputs.
+//! A plan by pipelines: rows flow from a frame through the operators of nodes, chunk by chunk on threads, into the
+//! frame of the root, a join's table or a sort.
 //!
 //! The one contract used above: the frame of the root has the rows of the plan.
 #![tactic(auto)]
 
+mod collecting;
 mod evaluating;
+mod flow;
+mod full_join;
+mod halts;
 mod inputs;
 mod join;
 mod node;
 mod places;
+mod probe_join;
 mod row_by_row;
 mod scan;
 mod sort;

@@ -1,32 +1,36 @@
-//! The frame of a scan.
+//! The flow of a scan.
 
-ghost use Rattle.std.specs.Prelude.{IfOk};
+ghost use Rattle.std.specs.Prelude.{◌≡◌, IfOk, IfErr};
 ghost use Rattle.pipe_plan.specs.Node as node;
 ghost use Rattle.pipe_plan.specs.Plan.{plan_of};
 ghost use Rattle.pipe_convert.specs.Converted.{IsNode};
-ghost use Rattle.pipe_eval.specs.Places.{IsFrameOrNone};
+ghost use Rattle.pipe_eval.specs.Evaluated.{EndsWith, stops};
+ghost use Rattle.pipe_eval.specs.Flows.{IsFlowOf};
 
+use crate::flow::{Flow, begin_flow};
 use pipe_check::CheckedPlan;
 use pipe_convert::scan_frame;
-use pipe_frame::{DataFrame, List, Text};
-use pipe_ops::PExecutionContext;
-use std::alloc::AllocError;
+use pipe_frame::{List, Text};
+use pipe_ops::{Operator, PExecutionContext};
+use pipe_plan::PipeError;
+use std::alloc::Global;
 
-/// The frame of a scan, none where it has too many rows.
-pub(crate) fn scanned(
+/// The flow of a scan: its frame alone.
+pub(crate) fn scanned<O: Operator<Shared = ()> + Drop>(
+    alloc: Global,
     plan: &CheckedPlan,
     context: &PExecutionContext,
     n: u32,
     frame: u32,
     columns: &Option<List<Text>>,
-) -> Result<Option<DataFrame>, AllocError>
+) -> Result<Flow<O>, PipeError>
     requires { IsNode plan.now n (node.DataFrameScan frame columns.now) }
-    ensures { IfOk result (IsFrameOrNone context.now.row_limit (plan_of plan.now.arena) n) }
+    ensures flow { IfOk result (IsFlowOf O.Operator context.now.row_limit plan.now n) }
+    ensures err { let root = plan.now.root in
+        IfErr result (EndsWith context.now.row_limit (plan_of plan.now.arena) root) }
+    ensures calm { stops result ≡ 0 }
 {
     let _ = plan.root();
     let made = scan_frame(plan, n, frame, columns)?;
-    if made.height() > context.row_limit as usize {
-        return Ok(None);
-    }
-    Ok(Some(made))
+    begin_flow(alloc, plan, context, n, made)
 }

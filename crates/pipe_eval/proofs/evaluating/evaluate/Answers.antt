@@ -1,45 +1,83 @@
-use Rattle.std.proofs.Common.{◌≡◌, ◌⊎◌, inl, inr, ◌<◌, ◌≤◌, length, rules, refl, sym, subst, arith}
-use Rattle.std.proofs.lemmas.Bool.{cases_lt}
-use Rattle.pipe_plan.specs.Plan.{plan_of}
-use Rattle.pipe_plan.specs.PlanRows.{rows_of}
-use Rattle.pipe_plan.specs.Under.{inputs_of, node_at}
-use Rattle.pipe_convert.proofs.Granted.{granted}
-use Rattle.pipe_eval.specs.Places.{AreHeld}
-use Rattle.pipe_eval.proofs.Asked.{counts-next, rises-after}
+use denote.Param.Send.{sendable}
+use Rattle.pipe_physical.proofs.Crossing.{operator-send, operator-sync}
+use Rattle.std.proofs.Common.{sym, subst}
+use Rattle.pipe_eval.specs.Flows.{IsFrameOf, IsSettled, IsUnder}
+use Rattle.pipe_eval.specs.Places.{AreReady}
+use Rattle.pipe_eval.specs.Words.{phys_words}
 use Rattle.pipe_eval.proofs.Held.{inputs-held}
-use Rattle.pipe_eval.proofs.NodeRows.{under-least}
+use Rattle.pipe_eval.proofs.Asked.{asked-then, asked_none, asked_passed, ends_memory, ends_passed, rises-between}
 use Rattle.pipe_eval.proofs.evaluating.evaluate.Goals as goal
 
-pub next_frame-requires-clause-inputs : goal.next_frame-requires-clause-inputs
-next_frame-requires-clause-inputs g c = λ κs lives.
-    let plan = plan_of c.args.plan.now.arena in
+pub next_flow-requires-clause-under : goal.next_flow-requires-clause-under
+next_flow-requires-clause-under g c = λ κs lives. subst (IsUnder c.args.plan.now) (sym c.root-root.ensures.root) c.root-root.ensures.under
+
+pub next_flow-requires-clause-inputs : goal.next_flow-requires-clause-inputs
+next_flow-requires-clause-inputs g c = λ κs lives.
+    let plan = c.args.plan.now in
     let limit = c.args.context.now.row_limit in
-    let root = c.args.plan.now.root in
-    let held = inputs-held limit plan root root c.in_ok-places.places.items c.root-root.ensures.good c.root-root.ensures.under c.in_ok-places.ensures.ready in
-    let now = subst (λ p. AreHeld limit plan p (inputs_of (node_at plan.nodes root))) (sym c.as_mut_slice-slots.ensures.value) held in
-    subst (λ r. AreHeld limit plan c.as_mut_slice-slots.result.now (inputs_of (node_at plan.nodes r))) (sym c.root-root.ensures.root) now
+    let root = c.root-root.result in
+    let under = subst (IsUnder plan) (sym c.root-root.ensures.root) c.root-root.ensures.under in
+    let at_root = subst (λ r. AreReady phys_words limit plan r c.in_ok-places.places.items) (sym c.root-root.ensures.root) c.in_ok-places.ensures.ready in
+    let ready = subst (AreReady phys_words limit plan root) (sym c.as_mut_slice-slots.ensures.value) at_root in
+    inputs-held phys_words limit plan root c.as_mut_slice-slots.result.now c.root-root.ensures.good under ready
+
+pub returns-clause-schema : goal.returns-clause-schema
+returns-clause-schema g c =
+    let frame = subst (λ r. IsFrameOf c.args.plan.now r c.in_ok-frame.frame) c.root-root.ensures.root c.in_ok-frame.ensures.frame in
+    frame.schema_is
+
+pub returns-clause-rows : goal.returns-clause-rows
+returns-clause-rows g c =
+    let frame = subst (λ r. IsFrameOf c.args.plan.now r c.in_ok-frame.frame) c.root-root.ensures.root c.in_ok-frame.ensures.frame in
+    frame.has_rows
 
 pub returns-clause-within : goal.returns-clause-within
-returns-clause-within g c = λ m under.
-    let plan = plan_of c.args.plan.now.arena in
-    let limit = c.args.context.now.row_limit in
-    let root = c.args.plan.now.root in
-    let x = granted plan root root (node_at plan.nodes root) c.root-root.ensures.good c.root-root.ensures.under refl in
-    let least : m ≤ root = under-least plan.nodes m (length plan.nodes) root x.there (omega arith) under in
-    let cases : (m < root) ⊎ (root ≤ m) → length (rows_of plan m) ≤ limit = elim [
-      | inl l ↦ c.in_ok-places.ensures.within m l under
-      | inr h ↦ (
-          let same : c.root-root.result ≡ m = omega (arith, c.root-root.ensures.root, least, h) in
-          subst (λ k. length (rows_of plan k) ≤ limit) same c.in_ok-frame.ensures.frame.within)
-    ] in cases (cases_lt m root)
+returns-clause-within g c = subst (IsSettled c.args.context.now.row_limit c.args.plan.now) c.root-root.ensures.root c.in_ok-frame.ensures.settled
 
 pub returns-clause-asked : goal.returns-clause-asked
-returns-clause-asked g c = rises-after _ _ _ c.frames_below.ensures.asked c.next_frame.ensures.asked
+returns-clause-asked g c = rises-between g.C.StopCheck _ _ _ _ _ _ c.in_ok-places.ensures.asked c.in_ok-flow.ensures.rises c.in_ok-frame.ensures.asked
 
 pub returns-clause-yes : goal.returns-clause-yes
-returns-clause-yes g c = counts-next 0 _ _ _ c.in_ok-places.ensures.yes c.in_ok-frame.ensures.yes
+returns-clause-yes g c = (asked-then g.C.StopCheck _ _ _ _ _ c.in_ok-places.ensures.asked (asked-then g.C.StopCheck _ _ _ _ _ c.in_ok-flow.ensures.asked c.in_ok-frame.ensures.asked)).yes
+
+pub returns-in_err-under-clause-err : goal.returns-in_err-under-clause-err
+returns-in_err-under-clause-err g c = ends_memory _ _ _ _ c.from_residual.ensures.1
+
+pub returns-in_err-under-clause-yes : goal.returns-in_err-under-clause-yes
+returns-in_err-under-clause-yes g c = (asked_none g.C.StopCheck _ _ c.from_residual.ensures.1).yes
+
+pub returns-in_err-under-clause-last : goal.returns-in_err-under-clause-last
+returns-in_err-under-clause-last g c = (asked_none g.C.StopCheck _ _ c.from_residual.ensures.1).last
+
+pub returns-in_err-places-clause-err : goal.returns-in_err-places-clause-err
+returns-in_err-places-clause-err g c = ends_passed _ _ _ _ _ c.from_residual-in_err-places.ensures.1 c.in_err-places.ensures.err
+
+pub returns-in_err-places-clause-yes : goal.returns-in_err-places-clause-yes
+returns-in_err-places-clause-yes g c = (asked_passed g.C.StopCheck _ _ _ _ c.from_residual-in_err-places.ensures.1 c.in_err-places.ensures.asked).yes
+
+pub returns-in_err-places-clause-last : goal.returns-in_err-places-clause-last
+returns-in_err-places-clause-last g c = (asked_passed g.C.StopCheck _ _ _ _ c.from_residual-in_err-places.ensures.1 c.in_err-places.ensures.asked).last
+
+pub returns-in_err-flow-clause-err : goal.returns-in_err-flow-clause-err
+returns-in_err-flow-clause-err g c = ends_passed _ _ _ _ _ c.from_residual-in_err-flow.ensures.1 c.in_err-flow.ensures.err
+
+pub returns-in_err-flow-clause-yes : goal.returns-in_err-flow-clause-yes
+returns-in_err-flow-clause-yes g c = (asked-then g.C.StopCheck _ _ _ _ _ c.in_ok-places.ensures.asked (asked_passed g.C.StopCheck _ _ _ _ c.from_residual-in_err-flow.ensures.1 c.in_err-flow.ensures.asked)).yes
+
+pub returns-in_err-flow-clause-last : goal.returns-in_err-flow-clause-last
+returns-in_err-flow-clause-last g c = (asked-then g.C.StopCheck _ _ _ _ _ c.in_ok-places.ensures.asked (asked_passed g.C.StopCheck _ _ _ _ c.from_residual-in_err-flow.ensures.1 c.in_err-flow.ensures.asked)).last
+
+pub returns-in_err-frame-clause-err : goal.returns-in_err-frame-clause-err
+returns-in_err-frame-clause-err g c = ends_passed _ _ _ _ _ c.from_residual-in_err-frame.ensures.1 c.in_err-frame.ensures.err
 
 pub returns-in_err-frame-clause-yes : goal.returns-in_err-frame-clause-yes
-returns-in_err-frame-clause-yes g c =
-    let here = counts-next _ _ _ _ c.in_ok-places.ensures.yes c.in_err-frame.ensures.yes in
-    search (rules, here)
+returns-in_err-frame-clause-yes g c = (asked-then g.C.StopCheck _ _ _ _ _ (asked-then g.C.StopCheck _ _ _ _ _ c.in_ok-places.ensures.asked c.in_ok-flow.ensures.asked) (asked_passed g.C.StopCheck _ _ _ _ c.from_residual-in_err-frame.ensures.1 c.in_err-frame.ensures.asked)).yes
+
+pub returns-in_err-frame-clause-last : goal.returns-in_err-frame-clause-last
+returns-in_err-frame-clause-last g c = (asked-then g.C.StopCheck _ _ _ _ _ (asked-then g.C.StopCheck _ _ _ _ _ c.in_ok-places.ensures.asked c.in_ok-flow.ensures.asked) (asked_passed g.C.StopCheck _ _ _ _ c.from_residual-in_err-frame.ensures.1 c.in_err-frame.ensures.asked)).last
+
+pub collect_flow-requires-send-O : goal.collect_flow-requires-send-O
+collect_flow-requires-send-O g c κs within = let s = c.type_bounds.send-H in let y = c.type_bounds.sync-H in search (sendable, operator-send)
+
+pub collect_flow-requires-sync-O : goal.collect_flow-requires-sync-O
+collect_flow-requires-sync-O g c κs within = let s = c.type_bounds.send-H in let y = c.type_bounds.sync-H in search (sendable, operator-sync)

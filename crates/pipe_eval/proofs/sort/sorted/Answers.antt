@@ -1,68 +1,63 @@
-use Rattle.std.proofs.Common.{arith, sym, ◌∙◌}
+use Rattle.std.proofs.Common.{[], ◌∷◌, ap, sym, ◌∙◌}
 use Rattle.pipe_plan.specs.Plan.{plan_of}
+use Rattle.pipe_plan.specs.Under.{inputs_of}
 use Rattle.pipe_sort.specs.SortKeys.{sort_rows}
 use Rattle.pipe_eval.specs.Places.{place_at}
-use Rattle.pipe_eval.proofs.Frames.{exact-frame, few, too_many}
-use Rattle.pipe_eval.proofs.Held.{is-below, is-frame, is-there, taken-one}
+use Rattle.pipe_eval.proofs.Frames.{exact-made}
+use Rattle.pipe_eval.proofs.Held.{held-below, is-flow, is-there, taken-one}
 use Rattle.pipe_eval.proofs.NodeRows.{sort-rows}
+use Rattle.pipe_eval.proofs.Settled.{settled}
+use Rattle.pipe_eval.proofs.Asked.{asked-made, asked-then, asked_calm, asked_none, asked_passed, ends_memory, ends_passed}
 use Rattle.pipe_eval.proofs.sort.sorted.Goals as goal
 
-pub take_frame-frame-requires-clause-there : goal.take_frame-frame-requires-clause-there
-take_frame-frame-requires-clause-there c =
-    let plan = plan_of c.args.plan.now.arena in
-    let x = c.args.input in
-    let places = c.args.places.now in
-    is-below places x (is-there c.args.context.now.row_limit plan x (place_at places x) c.requires.inputs.0)
+pub take_flow-flow-requires-clause-there : goal.take_flow-flow-requires-clause-there
+take_flow-flow-requires-clause-there g c = held-below g.O.Operator c.args.context.now.row_limit c.args.plan.now c.args.input c.args.places.now c.requires.inputs.0
 
-pub take_frame-frame-requires-clause-held : goal.take_frame-frame-requires-clause-held
-take_frame-frame-requires-clause-held c =
-    let plan = plan_of c.args.plan.now.arena in
-    let x = c.args.input in
-    is-there c.args.context.now.row_limit plan x (place_at c.args.places.now x) c.requires.inputs.0
+pub take_flow-flow-requires-clause-held : goal.take_flow-flow-requires-clause-held
+take_flow-flow-requires-clause-held g c = is-there g.O.Operator c.args.context.now.row_limit c.args.plan.now c.args.input (place_at c.args.places.now c.args.input) c.requires.inputs.0
 
-pub sort_through-requires-clause-schema : goal.sort_through-requires-clause-schema
-sort_through-requires-clause-schema c =
-    let plan = plan_of c.args.plan.now.arena in
-    let x = c.args.input in
-    let frame = is-frame c.args.context.now.row_limit plan x (place_at c.args.places.now x) c.take_frame-frame.result c.requires.inputs.0 c.take_frame-frame.ensures.taken in
-    frame.schema_is ∙ sym c.in_ok-sink.ensures.takes_input
+pub sort_flow-requires-clause-under : goal.sort_flow-requires-clause-under
+sort_flow-requires-clause-under g c = λ κs lives. c.requires.node.under
 
-pub sort_through-requires-clause-size : goal.sort_through-requires-clause-size
-sort_through-requires-clause-size c =
-    let plan = plan_of c.args.plan.now.arena in
+pub sort_flow-requires-clause-flow : goal.sort_flow-requires-clause-flow
+sort_flow-requires-clause-flow g c = λ κs lives. is-flow g.O.Operator c.args.context.now.row_limit c.args.plan.now c.args.input (place_at c.args.places.now c.args.input) c.take_flow-flow.result c.requires.inputs.0 c.take_flow-flow.ensures.taken
+
+pub sort_flow-requires-clause-sink : goal.sort_flow-requires-clause-sink
+sort_flow-requires-clause-sink g c = λ κs lives. c.in_ok-sink.ensures
+
+pub begin_flow-requires-clause-made : goal.begin_flow-requires-clause-made
+begin_flow-requires-clause-made g c = λ κs lives.
+    let plan = c.args.plan.now in
+    let n = c.args.n in
+    let x = c.args.input in
     let limit = c.args.context.now.row_limit in
-    let x = c.args.input in
-    let frame = is-frame limit plan x (place_at c.args.places.now x) c.take_frame-frame.result c.requires.inputs.0 c.take_frame-frame.ensures.taken in
-    omega (arith, few limit plan x c.take_frame-frame.result frame, c.args.context.now.limit_in)
-
-pub returns-then-height-context : goal.returns-then-height-context
-returns-then-height-context c =
-    let checked = c.args.plan.now in
-    let plan = plan_of checked.arena in
-    let limit = c.args.context.now.row_limit in
-    let x = c.args.input in
     let s = c.in_ok-sink.sink.settings in
     let made = c.in_ok-made.made in
-    let frame = is-frame limit plan x (place_at c.args.places.now x) c.take_frame-frame.result c.requires.inputs.0 c.take_frame-frame.ensures.taken in
-    let of_node = sort-rows plan checked.root c.args.n c.root.ensures.good c.requires.node.under x c.args.by.now c.args.options.now (sort_rows s.keys s.slice) c.requires.node.is c.in_ok-sink.ensures.sorts in
-    let is = of_node ∙ sym (c.in_ok-made.ensures.rows _ frame.has_rows.same) in
-    record {
-      frame = too_many limit plan c.args.n made.rows is (omega (arith, c.if-height-context.true));
-      others = taken-one c.args.places.now c.take_frame-frame.new.places x c.take_frame-frame.ensures.left;
-    }
+    let good = c.root.ensures.good in
+    let under = c.requires.node.under in
+    let own = sort-rows (plan_of plan.arena) plan.root n good under x c.args.by.now c.args.options.now (sort_rows s.keys s.slice) c.requires.node.is c.in_ok-sink.ensures.sorts in
+    exact-made limit plan n made under c.in_ok-made.ensures.schema (own ∙ sym c.in_ok-made.ensures.rows) (λ few. settled plan n good under limit (x ∷ []) (ap inputs_of c.requires.node.is) (c.in_ok-made.ensures.settled, tt) few)
 
-pub returns : goal.returns
-returns c =
-    let checked = c.args.plan.now in
-    let plan = plan_of checked.arena in
-    let limit = c.args.context.now.row_limit in
-    let x = c.args.input in
-    let s = c.in_ok-sink.sink.settings in
-    let made = c.in_ok-made.made in
-    let frame = is-frame limit plan x (place_at c.args.places.now x) c.take_frame-frame.result c.requires.inputs.0 c.take_frame-frame.ensures.taken in
-    let of_node = sort-rows plan checked.root c.args.n c.root.ensures.good c.requires.node.under x c.args.by.now c.args.options.now (sort_rows s.keys s.slice) c.requires.node.is c.in_ok-sink.ensures.sorts in
-    let is = of_node ∙ sym (c.in_ok-made.ensures.rows _ frame.has_rows.same) in
-    record {
-      frame = exact-frame limit plan c.args.n made (c.in_ok-made.ensures.schema ∙ c.in_ok-sink.ensures.gives_output) is (omega (arith, c.if-height-context.false));
-      others = taken-one c.args.places.now c.take_frame-frame.new.places x c.take_frame-frame.ensures.left;
-    }
+pub returns-clause-others : goal.returns-clause-others
+returns-clause-others g c = taken-one c.args.places.now c.take_flow-flow.new.places c.args.input c.take_flow-flow.ensures.left
+
+pub returns-clause-asked : goal.returns-clause-asked
+returns-clause-asked g c = asked-made g.C.StopCheck _ _ _ _ c.in_ok-made.ensures.asked
+
+pub returns-in_err-sink-clause-err : goal.returns-in_err-sink-clause-err
+returns-in_err-sink-clause-err g c = ends_memory _ _ _ _ c.from_residual.ensures.1
+
+pub returns-in_err-sink-clause-asked : goal.returns-in_err-sink-clause-asked
+returns-in_err-sink-clause-asked g c = asked_none g.C.StopCheck _ _ c.from_residual.ensures.1
+
+pub returns-in_err-made-clause-err : goal.returns-in_err-made-clause-err
+returns-in_err-made-clause-err g c = ends_passed _ _ _ _ _ c.from_residual-in_err-made.ensures.1 c.in_err-made.ensures.err
+
+pub returns-in_err-made-clause-asked : goal.returns-in_err-made-clause-asked
+returns-in_err-made-clause-asked g c = asked_passed g.C.StopCheck _ _ _ _ c.from_residual-in_err-made.ensures.1 c.in_err-made.ensures.asked
+
+pub returns-in_err-sorted-clause-err : goal.returns-in_err-sorted-clause-err
+returns-in_err-sorted-clause-err g c = ends_passed _ _ _ _ _ c.from_residual-in_err-sorted.ensures.1 c.in_err-sorted.ensures.err
+
+pub returns-in_err-sorted-clause-asked : goal.returns-in_err-sorted-clause-asked
+returns-in_err-sorted-clause-asked g c = asked-then g.C.StopCheck _ _ _ _ _ c.in_ok-made.ensures.asked (asked_calm g.C.StopCheck _ _ _ c.from_residual-in_err-sorted.ensures.1 c.in_err-sorted.ensures.calm)

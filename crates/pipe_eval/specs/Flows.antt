@@ -1,0 +1,108 @@
+-- Flows: the rows of a node, as a frame and the stages that its chunks go through.
+use Rattle.std.specs.Prelude.{◌≡◌, ℕ, ◌≤◌, List, [], ◌∷◌, true, false, length}
+use Rattle.std.specs.List.{flat_map}
+use Rattle.pipe_frame.specs.Frame.{Table}
+use Rattle.pipe_frame.specs.Rows.{Row, Same}
+use Rattle.pipe_frame.specs.declared.field.Field.{Field}
+use Rattle.pipe_expr.specs.Joins.{join_fields, join_rows}
+use Rattle.pipe_ops.specs.declared.operator.Operator.{Ghosts as OperatorWords}
+use Rattle.pipe_lanes.specs.declared.stage.Stage.{Stage}
+use Rattle.pipe_pipeline.specs.Pipelines.{made_at, AllFew}
+use Rattle.pipe_plan.specs.Plan.{plan_of}
+use Rattle.pipe_plan.specs.PlanRows.{rows_of}
+use Rattle.pipe_plan.specs.Under.{inputs_of, is_under, node_at}
+use Rattle.pipe_check.specs.Checked.{Checked}
+use Rattle.pipe_table.specs.Spec.{IsSpec, built_schema, settings_of}
+use Rattle.pipe_probe.specs.Probed.{TakesProbed, shares_of}
+use Rattle.pipe_table.specs.declared.spec.JoinSpec.{JoinSpec}
+use Rattle.pipe_convert.specs.Converted.{schema_in}
+use Rattle.pipe_eval.specs.Evaluated.{AllWithin, HasRowsOf, is_sort}
+use Rattle.pipe_eval.specs.declared.flow.Flow.{Flow}
+
+-- the rows of a node of a checked plan
+abbrev pub rows_in : Checked → ℕ → List Row
+rows_in plan n = rows_of (plan_of plan.arena) n
+
+-- a node of a checked plan is under its root
+abbrev pub IsUnder : Checked → ℕ → Type 0
+IsUnder plan n = is_under (plan_of plan.arena).nodes plan.root n ≡ true
+
+-- all nodes under a node have no more rows than the limit
+abbrev pub IsSettled : ℕ → Checked → ℕ → Type 0
+IsSettled limit plan n = AllWithin limit (plan_of plan.arena) n
+
+-- a schema and some rows are those of a node under the root
+pub record AreOf (plan : Checked) (n : ℕ) (schema : List Field) (rows : List Row) : Type 0 where
+  pub under : IsUnder plan n
+  pub schema_is : schema ≡ schema_in plan n
+  pub same : Same rows (rows_in plan n)
+
+-- rows of a schema go through stages and end as those of a node: the rows that come to a stage are those
+-- of its node, and its operator takes their schema
+abbrev pub EndAs : {O : Type 0} → OperatorWords O (Unit {0}) → Checked → (n : ℕ) → List Field →
+    List Row → List (Stage O) → Type 0
+EndAs op plan n from rows [] = AreOf plan n from rows
+EndAs op plan n from rows (stage ∷ stages) =
+    AreOf plan stage.node from rows
+    × op.takes stage.operator from
+    × op.serves stage.operator tt
+    × EndAs op plan n (op.output stage.operator from) (made_at op tt from stage rows) stages
+
+-- a flow is that of a node: its frame is within the limit and ends as the node's rows; where no count of
+-- it is past the limit, all nodes under the node are within it; and a sort's frame has the very rows
+pub record IsFlowOf {O : Type 0} (op : OperatorWords O (Unit {0})) (limit : ℕ) (plan : Checked)
+    (n : ℕ) (flow : Flow O) : Type 0 where
+  pub few : length flow.frame.rows ≤ limit
+  pub ends : EndAs op plan n flow.frame.schema flow.frame.rows flow.stages.items
+  pub settles : AllFew op tt limit flow.frame.schema flow.frame.rows flow.stages.items
+      → IsSettled limit plan n
+  pub in_order : is_sort (node_at (plan_of plan.arena).nodes n) ≡ true
+      → (flow.stages.items ≡ []) × (flow.frame.rows ≡ rows_in plan n)
+
+-- a frame is that of a node: its schema and its rows, in order where it is a sort
+pub record IsFrameOf (plan : Checked) (n : ℕ) (frame : Table) : Type 0 where
+  pub schema_is : frame.schema ≡ schema_in plan n
+  pub has_rows : HasRowsOf (plan_of plan.arena) n frame.rows
+
+-- a frame was made for a node: where the node's rows are within the limit, so are those of all under it
+pub record IsMadeFor (limit : ℕ) (plan : Checked) (n : ℕ) (frame : Table) : Type 0 where
+  pub under : IsUnder plan n
+  pub frame_of : IsFrameOf plan n frame
+  pub settles : length (rows_in plan n) ≤ limit → IsSettled limit plan n
+
+-- an operator makes the rows of a node of those of its input, and needs nothing that lanes share
+pub record IsStepOf {O : Type 0} (op : OperatorWords O (Unit {0})) (limit : ℕ) (plan : Checked)
+    (n input : ℕ) (operator : O) : Type 0 where
+  pub under : IsUnder plan n
+  pub takes_input : op.takes operator (schema_in plan input)
+  pub served : op.serves operator tt
+  pub gives_output : op.output operator (schema_in plan input) ≡ schema_in plan n
+  pub makes : Same (flat_map (op.each operator (schema_in plan input) tt) (rows_in plan input))
+      (rows_in plan n)
+  pub settles : IsSettled limit plan input → length (rows_in plan n) ≤ limit
+      → IsSettled limit plan n
+  pub no_sort : is_sort (node_at (plan_of plan.arena).nodes n) ≡ false
+
+-- a join of two nodes is that of a node: its sides have their schemas, and it makes the node's rows of theirs
+pub record IsJoinOf (plan : Checked) (n left right : ℕ) (spec : JoinSpec) : Type 0 where
+  pub under : IsUnder plan n
+  pub inputs : inputs_of (node_at (plan_of plan.arena).nodes n) ≡ left ∷ right ∷ []
+  pub good : IsSpec spec
+  pub left_is : spec.left_schema ≡ schema_in plan left
+  pub right_is : spec.right_schema ≡ schema_in plan right
+  pub gives_output : join_fields (settings_of spec) ≡ schema_in plan n
+  pub makes : rows_in plan n ≡ join_rows (settings_of spec) (rows_in plan left) (rows_in plan right)
+  pub no_sort : is_sort (node_at (plan_of plan.arena).nodes n) ≡ false
+
+-- a join whose one side is built and whose other side is probed is that of a node, whatever order the built
+-- rows come in
+pub record IsProbeOf (plan : Checked) (n built probed : ℕ) (spec : JoinSpec) : Type 0 where
+  pub under : IsUnder plan n
+  pub built_is : schema_in plan built ≡ built_schema spec
+  pub takes_probed : TakesProbed spec (schema_in plan probed)
+  pub gives_output : join_fields (settings_of spec) ≡ schema_in plan n
+  pub makes : (rows : List Row) → Same rows (rows_in plan built)
+      → Same (shares_of spec rows (rows_in plan probed)) (rows_in plan n)
+  pub settles : (limit : ℕ) → IsSettled limit plan built → IsSettled limit plan probed
+      → length (rows_in plan n) ≤ limit → IsSettled limit plan n
+  pub no_sort : is_sort (node_at (plan_of plan.arena).nodes n) ≡ false
