@@ -1,4 +1,5 @@
-//! The program: it makes the real reader and writers, calls the top call, and ends with its status.
+//! The program: it makes the real reader and writers, calls the top call, which starts the threads of a run, and ends
+//! with its status.
 #![tactic(auto)]
 
 use pipe_cli::{Refusal, StreamWriter, SystemReader, run_program};
@@ -43,6 +44,7 @@ fn main(rt: HostRuntime) -> ExitCode {
     let mut out = StreamWriter::new(rt.stdout());
     let mut notes = StreamWriter::new(rt.stderr());
     let status = run_program(
+        &rt,
         alloc,
         words.as_slice(),
         &mut input,

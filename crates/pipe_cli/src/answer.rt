@@ -25,6 +25,7 @@ use pipe_job::{Job, JobError, job_of, push_head_line, push_rows, read_value};
 use pipe_plan::PipeError;
 use serde_json::Value;
 use std::alloc::{AllocError, Global};
+use std::thread::Threads;
 
 /// The value that the bytes read as. The bytes are dropped then: they take as much memory as a job may.
 fn value_in(alloc: Global, bytes: Vec<u8>) -> Result<Value, Refusal>
@@ -88,7 +89,8 @@ fn refused(alloc: Global, error: PipeError) -> Refusal
 
 /// The rows of a job.
 #[tactic(auto, using(crate::proofs::AnswerLemmas::told_run, crate::proofs::AnswerLemmas::told_yes, crate::proofs::AnswerLemmas::told_last))]
-fn frame_of<C: StopCheck, G: Gate + Sync>(
+fn frame_of<T: Threads + Sync, C: StopCheck, G: Gate + Sync>(
+    rt: &T,
     alloc: Global,
     job: &Job,
     stop: &mut C,
@@ -96,14 +98,16 @@ fn frame_of<C: StopCheck, G: Gate + Sync>(
 ) -> Result<DataFrame, Refusal>
     ensures sound { OnOk result (IsSoundJob (task_of job.now)) }
     ensures within { OnOk result (IsWithinJob (task_of job.now)) }
-    ensures schema { IfOk result (λ frame. frame.schema ≡ schema_of (plan_of job.now.arena) job.now.root) }
-    ensures rows { IfOk result (λ frame. HasRowsOf (plan_of job.now.arena) job.now.root frame.rows) }
+    ensures schema { let plan = plan_of job.now.arena in
+        IfOk result (λ frame. frame.schema ≡ schema_of plan job.now.root) }
+    ensures rows { IfOk result (λ frame.
+        HasRowsOf (plan_of job.now.arena) job.now.root frame.rows) }
     ensures err { IfErr result (λ refusal. JobCauses true refusal (task_of job.now)) }
     ensures asked { OnOk result (Rises (C.asked stop.old) (C.asked stop.new)) }
     ensures yes { Counts (yes_in result) (C.yes stop.old) (C.yes stop.new) }
     ensures last { IsErrOf result Refusal.Stopped → C.last_answer stop.new ≡ true }
 {
-    match run_plan(alloc, &job.arena, job.root, &job.config, stop, gate) {
+    match run_plan(rt, alloc, &job.arena, job.root, &job.config, stop, gate) {
         Ok(answer) => Ok(answer.into_frame()),
         Err(error) => Err(refused(alloc, error)),
     }
@@ -112,7 +116,8 @@ fn frame_of<C: StopCheck, G: Gate + Sync>(
 /// The plan of a job that may be run, checked.
 #[tactic(auto, using(crate::proofs::AnswerLemmas::told_looked, crate::proofs::AnswerLemmas::told_going))]
 fn checked(alloc: Global, job: &Job) -> Result<CheckedPlan<'_>, Refusal>
-    ensures plan { IfOk result (λ plan. plan ≡ record { arena = job.now.arena; root = job.now.root }) }
+    ensures plan { IfOk result (λ plan.
+        plan ≡ record { arena = job.now.arena; root = job.now.root }) }
     ensures sound { OnOk result (IsSoundJob (task_of job.now)) }
     ensures err { IfErr result (λ refusal. JobCauses false refusal (task_of job.now)) }
     ensures going { IsErrOf result Refusal.Stopped → ⊥ }
@@ -147,7 +152,8 @@ fn lines_of(alloc: Global, job: &Job) -> Result<Vec<u8>, Refusal>
 
 /// The line of the column names, and the lines of the rows.
 fn text_of(alloc: Global, frame: &DataFrame) -> Result<Vec<u8>, AllocError>
-    ensures { IfOk result (λ text. text.items ≡ head_line frame.now.schema ++ flat_map row_line frame.now.rows) }
+    ensures { IfOk result (λ text.
+        text.items ≡ head_line frame.now.schema ++ flat_map row_line frame.now.rows) }
 {
     let mut text = Vec::new(alloc);
     push_head_line(&mut text, frame.schema())?;
@@ -156,7 +162,8 @@ fn text_of(alloc: Global, frame: &DataFrame) -> Result<Vec<u8>, AllocError>
 }
 
 /// The text of the rows of the job that the bytes are.
-pub fn answer<C: StopCheck, G: Gate + Sync>(
+pub fn answer<T: Threads + Sync, C: StopCheck, G: Gate + Sync>(
+    rt: &T,
     alloc: Global,
     bytes: Vec<u8>,
     stop: &mut C,
@@ -169,7 +176,7 @@ pub fn answer<C: StopCheck, G: Gate + Sync>(
     ensures last { IsErrOf result Refusal.Stopped → C.last_answer stop.new ≡ true }
 {
     let job = job_in(alloc, bytes)?;
-    let frame = frame_of(alloc, &job, stop, gate)?;
+    let frame = frame_of(rt, alloc, &job, stop, gate)?;
     let text = text_of(alloc, &frame)?;
     Ok(text)
 }

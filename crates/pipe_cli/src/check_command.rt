@@ -42,10 +42,12 @@ pub(crate) fn check_left<R: JobReader, W: RowWriter>(
     out: &mut W,
 ) -> Result<(), Refusal>
     ensures read { OnOk result (IsWhole (R.seen input.old).left (R.seen input.new)) }
-    ensures passed { OnOk result (Passed (R.seen input.old).left (W.seen out.old) (W.seen out.new)) }
+    ensures passed { OnOk result
+        (Passed (R.seen input.old).left (W.seen out.old) (W.seen out.new)) }
     ensures reading { IfErr result (λ r. ReadingLeft r (R.seen input.old) (R.seen input.new)) }
     ensures text { IfErr result (λ r. OfText false r (R.seen input.old).left) }
-    ensures writing { IfErr result (λ r. CheckedLeft r (R.seen input.old) (W.seen out.old) (W.seen out.new)) }
+    ensures writing { IfErr result (λ r.
+        CheckedLeft r (R.seen input.old) (W.seen out.old) (W.seen out.new)) }
     ensures known { IsErrOf result Refusal.BadWords → ⊥ }
     ensures going { IsErrOf result Refusal.Stopped → ⊥ }
 {

@@ -33,10 +33,12 @@ pub(crate) fn explain_left<R: JobReader, W: RowWriter>(
     out: &mut W,
 ) -> Result<(), Refusal>
     ensures read { OnOk result (IsWhole (R.seen input.old).left (R.seen input.new)) }
-    ensures explained { OnOk result (WasExplained (R.seen input.old).left (W.seen out.old) (W.seen out.new)) }
+    ensures explained { OnOk result
+        (WasExplained (R.seen input.old).left (W.seen out.old) (W.seen out.new)) }
     ensures reading { IfErr result (λ r. ReadingLeft r (R.seen input.old) (R.seen input.new)) }
     ensures text { IfErr result (λ r. OfText false r (R.seen input.old).left) }
-    ensures writing { IfErr result (λ r. ExplainedLeft r (R.seen input.old) (W.seen out.old) (W.seen out.new)) }
+    ensures writing { IfErr result (λ r.
+        ExplainedLeft r (R.seen input.old) (W.seen out.old) (W.seen out.new)) }
     ensures known { IsErrOf result Refusal.BadWords → ⊥ }
     ensures going { IsErrOf result Refusal.Stopped → ⊥ }
 {

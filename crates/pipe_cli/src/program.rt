@@ -1,6 +1,7 @@
 //! The top call: the words are read, what they ask for is done, and where it is refused, why is noted.
 
-ghost use Rattle.std.specs.Prelude.{◌≡◌, ◌≢◌, ◌↔◌, ◌≤◌, ◌∷◌, [], true, false, IfErr, IsErrOf, IsSome, OnOk, None};
+ghost use Rattle.std.specs.Prelude.{◌≡◌, ◌≢◌, ◌↔◌, ◌≤◌, ◌∷◌, []};
+ghost use Rattle.std.specs.Prelude.{true, false, IfErr, IsErrOf, IsSome, OnOk, None};
 ghost use Rattle.pipe_frame.specs.Counts.{Counts, Rises};
 ghost use Rattle.pipe_job.specs.Reading.{ReadsNoJob, ReadsNothing};
 ghost use Rattle.pipe_outside.specs.Outside.{ReadFails, WriteFails};
@@ -22,10 +23,12 @@ use crate::words::{Command, command_of};
 use pipe_frame::{Gate, StopCheck, Text};
 use pipe_outside::{JobReader, RowWriter, write_whole};
 use std::alloc::Global;
+use std::thread::Threads;
 
 /// Does what the words ask for.
 #[tactic(auto, using(crate::proofs::AnswerLemmas::counts_none))]
-fn attempt<R: JobReader, W: RowWriter, C: StopCheck, G: Gate + Sync>(
+fn attempt<T: Threads + Sync, R: JobReader, W: RowWriter, C: StopCheck, G: Gate + Sync>(
+    rt: &T,
     alloc: Global,
     words: &[Text],
     input: &mut R,
@@ -35,24 +38,29 @@ fn attempt<R: JobReader, W: RowWriter, C: StopCheck, G: Gate + Sync>(
 ) -> Result<(), Refusal>
     ensures known { OnOk result (IsSome (request words.now)) }
     ensures read { OnOk result (WasRead words.now (R.seen input.old) (R.seen input.new)) }
-    ensures wrote { OnOk result (Wrote words.now (R.seen input.old) (W.seen out.old) (W.seen out.new)) }
+    ensures wrote { OnOk result
+        (Wrote words.now (R.seen input.old) (W.seen out.old) (W.seen out.new)) }
     ensures words { IfErr result (λ r. OfWords r words.now) }
-    ensures reading { IfErr result (λ r. ReadingOf r words.now (R.seen input.old) (R.seen input.new)) }
+    ensures reading { IfErr result (λ r.
+        ReadingOf r words.now (R.seen input.old) (R.seen input.new)) }
     ensures text { IfErr result (λ r. TextOf r words.now (R.seen input.old)) }
-    ensures writing { IfErr result (λ r. WritingOf r words.now (R.seen input.old) (W.seen out.old) (W.seen out.new)) }
-    ensures only_told { IsText (request words.now) → IfErr result (λ refusal. refusal ≡ Refusal.WriteFault) }
+    ensures writing { IfErr result (λ r.
+        WritingOf r words.now (R.seen input.old) (W.seen out.old) (W.seen out.new)) }
+    ensures only_told { IsText (request words.now)
+        → IfErr result (λ refusal. refusal ≡ Refusal.WriteFault) }
     ensures unread { IsErrOf result Refusal.BadWords → input.new ≡ input.old }
     ensures untouched { IsText (request words.now) → input.new ≡ input.old }
     ensures runs { IsErrOf result Refusal.Stopped → asks_run words.now ≡ true }
     ensures unasked { asks_run words.now ≡ false → stop.new ≡ stop.old }
-    ensures asked { asks_run words.now ≡ true → OnOk result (Rises (C.asked stop.old) (C.asked stop.new)) }
+    ensures asked { asks_run words.now ≡ true
+        → OnOk result (Rises (C.asked stop.old) (C.asked stop.new)) }
     ensures yes { Counts (yes_in result) (C.yes stop.old) (C.yes stop.new) }
     ensures last { IsErrOf result Refusal.Stopped → C.last_answer stop.new ≡ true }
 {
     match command_of(words) {
         Some(Command::Run(name)) => {
             open(name, input)?;
-            run_left(alloc, input, out, stop, gate)
+            run_left(rt, alloc, input, out, stop, gate)
         }
         Some(Command::Check) => check_left(alloc, input, out),
         Some(Command::Explain) => explain_left(alloc, input, out),
@@ -71,11 +79,19 @@ fn note<N: RowWriter>(notes: &mut N, refusal: &Refusal)
 }
 
 /// Does what the words ask for: reads a job from `input`, or from the file that is named, and writes its rows to
-/// `out`, or that it is good, or the branches of its plan; or writes a text that was asked for. A run asks `stop`
-/// before each node. It answers the status that the program ends with; for a status other than 0 its line is written
-/// to `notes`.
+/// `out`, or that it is good, or the branches of its plan; or writes a text that was asked for. Threads are started in
+/// a run alone, in which each worker is one, and `stop` is asked whether to go on. It answers the status that the
+/// program ends with; for a status other than 0 its line is written to `notes`.
 #[tactic(auto, using(crate::proofs::StatusLemmas::long_ran, crate::proofs::StatusLemmas::long_status, crate::proofs::StatusLemmas::no_job_ran, crate::proofs::StatusLemmas::no_job_status, crate::proofs::StatusLemmas::refused_ran, crate::proofs::StatusLemmas::refused_status, crate::proofs::StatusLemmas::wide_ran, crate::proofs::StatusLemmas::wide_status, crate::proofs::StatusLemmas::good_status, crate::proofs::StatusLemmas::sound_status, crate::proofs::StatusLemmas::told_fault, crate::proofs::StatusLemmas::told_many, crate::proofs::StatusLemmas::told_stop, crate::proofs::StatusLemmas::noted_fault, crate::proofs::StatusLemmas::no_fault, crate::proofs::StatusLemmas::noted_fixed, crate::proofs::StatusLemmas::status_within, crate::proofs::StatusLemmas::is_stop))]
-pub fn run_program<R: JobReader, W: RowWriter, N: RowWriter, C: StopCheck, G: Gate + Sync>(
+pub fn run_program<
+    T: Threads + Sync,
+    R: JobReader,
+    W: RowWriter,
+    N: RowWriter,
+    C: StopCheck,
+    G: Gate + Sync,
+>(
+    rt: &T,
     alloc: Global,
     words: &[Text],
     input: &mut R,
@@ -137,10 +153,11 @@ pub fn run_program<R: JobReader, W: RowWriter, N: RowWriter, C: StopCheck, G: Ga
         → (W.seen out.new).written ≡ (W.seen out.old).written }
     ensures noted { IsFixed result
         → Noted (status_line result) (N.seen notes.old) (N.seen notes.new) }
-    ensures told { NotedFault result words.now (R.seen input.old) (N.seen notes.old) (N.seen notes.new) }
+    ensures told { NotedFault result words.now (R.seen input.old)
+        (N.seen notes.old) (N.seen notes.new) }
     ensures quiet { result ≡ 0 → (N.seen notes.new).written ≡ (N.seen notes.old).written }
 {
-    match attempt(alloc, words, input, out, stop, gate) {
+    match attempt(rt, alloc, words, input, out, stop, gate) {
         Ok(()) => 0,
         Err(refusal) => {
             note(notes, &refusal);

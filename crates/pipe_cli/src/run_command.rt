@@ -12,10 +12,12 @@ use crate::streams::{bytes_left, tell};
 use pipe_frame::{Gate, StopCheck};
 use pipe_outside::{JobReader, RowWriter};
 use std::alloc::Global;
+use std::thread::Threads;
 
 /// The text of the rows of the job that is left, or the reason why there is none.
 #[tactic(auto, using(crate::proofs::ProgramLemmas::answer_told, crate::proofs::ProgramLemmas::text_told, crate::proofs::ProgramLemmas::caused_run))]
-fn text_left<R: JobReader, C: StopCheck, G: Gate + Sync>(
+fn text_left<T: Threads + Sync, R: JobReader, C: StopCheck, G: Gate + Sync>(
+    rt: &T,
     alloc: Global,
     input: &mut R,
     stop: &mut C,
@@ -31,13 +33,14 @@ fn text_left<R: JobReader, C: StopCheck, G: Gate + Sync>(
     ensures last { IsErrOf result Refusal.Stopped → C.last_answer stop.new ≡ true }
 {
     let bytes = bytes_left(alloc, input)?;
-    let text = answer(alloc, bytes, stop, gate)?;
+    let text = answer(rt, alloc, bytes, stop, gate)?;
     Ok(text)
 }
 
 /// Reads the job that is left, and writes its rows.
 #[tactic(auto, using(crate::proofs::ProgramLemmas::ran_told, crate::proofs::ProgramLemmas::part_told, crate::proofs::ProgramLemmas::yes_told))]
-pub(crate) fn run_left<R: JobReader, W: RowWriter, C: StopCheck, G: Gate + Sync>(
+pub(crate) fn run_left<T: Threads + Sync, R: JobReader, W: RowWriter, C: StopCheck, G: Gate + Sync>(
+    rt: &T,
     alloc: Global,
     input: &mut R,
     out: &mut W,
@@ -48,12 +51,13 @@ pub(crate) fn run_left<R: JobReader, W: RowWriter, C: StopCheck, G: Gate + Sync>
     ensures ran { OnOk result (Ran (R.seen input.old).left (W.seen out.old) (W.seen out.new)) }
     ensures reading { IfErr result (λ r. ReadingLeft r (R.seen input.old) (R.seen input.new)) }
     ensures text { IfErr result (λ r. OfText true r (R.seen input.old).left) }
-    ensures writing { IfErr result (λ r. WritingLeft r (R.seen input.old) (W.seen out.old) (W.seen out.new)) }
+    ensures writing { IfErr result (λ r.
+        WritingLeft r (R.seen input.old) (W.seen out.old) (W.seen out.new)) }
     ensures known { IsErrOf result Refusal.BadWords → ⊥ }
     ensures asked { OnOk result (Rises (C.asked stop.old) (C.asked stop.new)) }
     ensures yes { Counts (yes_in result) (C.yes stop.old) (C.yes stop.new) }
     ensures last { IsErrOf result Refusal.Stopped → C.last_answer stop.new ≡ true }
 {
-    let text = text_left(alloc, input, stop, gate)?;
+    let text = text_left(rt, alloc, input, stop, gate)?;
     tell(out, text.as_slice())
 }

@@ -33,7 +33,8 @@ pub(crate) fn bytes_left<R: JobReader>(alloc: Global, input: &mut R) -> Result<V
 
 /// Makes what stands under a name, where there is one, what is left to read.
 pub(crate) fn open<R: JobReader>(name: Option<&Text>, input: &mut R) -> Result<(), Refusal>
-    ensures opened { OnOk result (Opened (option_copied name.entry) (R.seen input.old) (R.seen input.new)) }
+    ensures opened { OnOk result
+        (Opened (option_copied name.entry) (R.seen input.old) (R.seen input.new)) }
     ensures err { IfErr result (λ refusal. refusal ≡ Refusal.ReadFault) }
     ensures cause { OnErr result (ReadFails (R.seen input.old) (R.seen input.new)) }
     ensures taken { (R.seen input.old).taken ≤ (R.seen input.new).taken }

@@ -16,18 +16,20 @@ use pipe_frame::{Gate, StopCheck};
 use pipe_plan::{Arena, PipeConfig, PipeError};
 use pipe_rows::{Fnv, KeyHasher};
 use std::alloc::Global;
+use std::thread::Threads;
 
-/// The rows of a plan, by a hasher of the caller's own. First what `check_job` refuses is refused. Then `TooMany` where
-/// a node under the root has more rows than the limit; `Stopped` exactly where the stop check says yes; `Memory`. The
-/// stop check is asked before each node. The run is on the caller, and nothing goes through the gate.
-pub fn run_plan_with<H: KeyHasher, C: StopCheck, G: Gate + Sync>(
+/// The rows of a plan, by a hasher of the caller's own. The workers are threads: each takes chunks of rows through the
+/// plan's pipelines, one by one, behind the gate. First what `check_job` refuses is refused. Then `TooMany` where a
+/// node under the root has more rows than the limit; `Stopped` exactly where the stop check says yes; `Memory`.
+pub fn run_plan_with<R: Threads + Sync, H: KeyHasher, C: StopCheck, G: Gate + Sync>(
+    rt: &R,
     alloc: Global,
     arena: &Arena,
     root: u32,
     config: &PipeConfig,
     hasher: H,
     stop: &mut C,
-    _gate: &G,
+    gate: &G,
 ) -> Result<RunAnswer, PipeError>
     ensures sound { OnOk result (IsSound (plan_of arena.now) root config.now) }
     ensures within { OnOk result (AllWithin config.now.row_limit (plan_of arena.now) root) }
@@ -44,12 +46,13 @@ pub fn run_plan_with<H: KeyHasher, C: StopCheck, G: Gate + Sync>(
 {
     let plan = check_job(alloc, arena, root, config)?;
     let context = context_of(config);
-    let frame = evaluate(alloc, &plan, &context, hasher, stop)?;
+    let frame = evaluate(rt, alloc, &plan, &context, hasher, stop, gate)?;
     Ok(RunAnswer { frame })
 }
 
 /// The rows of a plan: `run_plan_with` under `Fnv`.
-pub fn run_plan<C: StopCheck, G: Gate + Sync>(
+pub fn run_plan<R: Threads + Sync, C: StopCheck, G: Gate + Sync>(
+    rt: &R,
     alloc: Global,
     arena: &Arena,
     root: u32,
@@ -70,5 +73,5 @@ pub fn run_plan<C: StopCheck, G: Gate + Sync>(
         → AllWithin config.now.row_limit (plan_of arena.now) root
         → Stays (C.yes stop.old) (C.yes stop.new) → IfErr result IsMemory }
 {
-    run_plan_with(alloc, arena, root, config, Fnv, stop, gate)
+    run_plan_with(rt, alloc, arena, root, config, Fnv, stop, gate)
 }

@@ -1,6 +1,7 @@
 //! Jobs whose branches are told.
 
 use std::alloc::{AllocError, Global};
+use std::thread::Threads;
 use worked_runs::{Ended, SORTED_JOIN, reader, run_words, tell_length, tell_text};
 
 /// A scan, a filter and a sort.
@@ -32,39 +33,65 @@ const FULL_OVER_UNION: &str = r#"{"version":1,"workers":3,"chunk_rows":2,"row_li
 "root":6}"#;
 
 /// Tells the branches of the job of a text.
-pub(crate) fn explain_text(alloc: Global, text: &str) -> Result<Ended, AllocError> {
+pub(crate) fn explain_text<T: Threads + Sync>(
+    rt: &T,
+    alloc: Global,
+    text: &str,
+) -> Result<Ended, AllocError> {
     let mut input = reader(alloc, text, None)?;
-    run_words(alloc, &["explain"], &mut input, None)
+    run_words(rt, alloc, &["explain"], &mut input, None)
 }
 
 /// A good job read in pieces of 400 bytes, of which one fails.
-fn with_a_failing_read(alloc: Global, call: u64) -> Result<Ended, AllocError> {
+fn with_a_failing_read<T: Threads + Sync>(
+    rt: &T,
+    alloc: Global,
+    call: u64,
+) -> Result<Ended, AllocError> {
     let mut input = reader(alloc, SORTED_JOIN, Some(call))?;
-    run_words(alloc, &["explain"], &mut input, None)
+    run_words(rt, alloc, &["explain"], &mut input, None)
 }
 
 /// The same with a write that fails.
-fn with_a_failing_write(alloc: Global, call: u64) -> Result<Ended, AllocError> {
+fn with_a_failing_write<T: Threads + Sync>(
+    rt: &T,
+    alloc: Global,
+    call: u64,
+) -> Result<Ended, AllocError> {
     let mut input = reader(alloc, SORTED_JOIN, None)?;
-    run_words(alloc, &["explain"], &mut input, Some(call))
+    run_words(rt, alloc, &["explain"], &mut input, Some(call))
 }
 
 /// The branches of some plans. A job of 720 bytes takes three reads in pieces of 400 bytes, the last of which finds
 /// the end, and its two lines of 59 bytes take twelve writes in pieces of 5 bytes.
-pub(crate) fn tell_explained(a: Global, answers: &mut String) -> Result<(), AllocError> {
+pub(crate) fn tell_explained<T: Threads + Sync>(
+    rt: &T,
+    a: Global,
+    answers: &mut String,
+) -> Result<(), AllocError> {
     for (shows, text) in [
         ("a scan, a filter and a sort, explained", FILTERED),
         ("a full join over a union, explained", FULL_OVER_UNION),
     ] {
-        tell_text(a, answers, shows, explain_text(a, text)?)?;
+        tell_text(a, answers, shows, explain_text(rt, a, text)?)?;
     }
     for call in 1..5 {
         let shows = format!(in a; "explained, read {call} fails")?;
-        tell_text(a, answers, shows.as_str(), with_a_failing_read(a, call)?)?;
+        tell_text(
+            a,
+            answers,
+            shows.as_str(),
+            with_a_failing_read(rt, a, call)?,
+        )?;
     }
     for call in 1..14 {
         let shows = format!(in a; "explained, write {call} fails")?;
-        tell_length(a, answers, shows.as_str(), with_a_failing_write(a, call)?)?;
+        tell_length(
+            a,
+            answers,
+            shows.as_str(),
+            with_a_failing_write(rt, a, call)?,
+        )?;
     }
     Ok(())
 }

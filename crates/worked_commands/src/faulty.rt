@@ -2,6 +2,7 @@
 
 use crate::looked_at::tell_each;
 use std::alloc::{AllocError, Global};
+use std::thread::Threads;
 
 /// The parts of a job's text: its numbers, frames, nodes and root.
 #[derive(Clone, Copy)]
@@ -197,9 +198,13 @@ fn text_of(alloc: Global, parts: Parts) -> Result<String, AllocError> {
 }
 
 /// How jobs end that are refused, or are good.
-pub(crate) fn tell_faulty(alloc: Global, answers: &mut String) -> Result<(), AllocError> {
+pub(crate) fn tell_faulty<T: Threads + Sync>(
+    rt: &T,
+    alloc: Global,
+    answers: &mut String,
+) -> Result<(), AllocError> {
     for (shows, parts) in FAULTY {
-        tell_each(alloc, answers, shows, text_of(alloc, parts)?.as_str())?;
+        tell_each(rt, alloc, answers, shows, text_of(alloc, parts)?.as_str())?;
     }
     Ok(())
 }
@@ -220,7 +225,23 @@ fn scans(alloc: Global, count: u32) -> Result<String, AllocError> {
 }
 
 /// How jobs end at the most nodes of a plan.
-pub(crate) fn tell_many(alloc: Global, answers: &mut String) -> Result<(), AllocError> {
-    tell_each(alloc, answers, "4096 scans", scans(alloc, 4096)?.as_str())?;
-    tell_each(alloc, answers, "4097 scans", scans(alloc, 4097)?.as_str())
+pub(crate) fn tell_many<T: Threads + Sync>(
+    rt: &T,
+    alloc: Global,
+    answers: &mut String,
+) -> Result<(), AllocError> {
+    tell_each(
+        rt,
+        alloc,
+        answers,
+        "4096 scans",
+        scans(alloc, 4096)?.as_str(),
+    )?;
+    tell_each(
+        rt,
+        alloc,
+        answers,
+        "4097 scans",
+        scans(alloc, 4097)?.as_str(),
+    )
 }

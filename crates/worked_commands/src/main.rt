@@ -10,6 +10,6 @@ mod table;
 use std::io;
 
 fn main(rt: HostRuntime) -> io::Result<()> {
-    let answers = table::answers(rt.alloc())?;
+    let answers = table::answers(&rt, rt.alloc())?;
     print!(rt; "{answers}")
 }

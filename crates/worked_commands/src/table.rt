@@ -3,79 +3,102 @@
 use crate::commands::words;
 use crate::{commands, explained, faulty, looked_at};
 use std::alloc::{AllocError, Global};
+use std::thread::Threads;
 use worked_runs::{SORTED_JOIN, tell_length, tell_run, tell_text};
 
-fn tell_words(a: Global, answers: &mut String) -> Result<(), AllocError> {
-    tell_run(a, answers, "no words", words(a, &[])?)?;
-    tell_run(a, answers, "a word too many", words(a, &["run", "a", "b"])?)?;
+fn tell_words<T: Threads + Sync>(
+    rt: &T,
+    a: Global,
+    answers: &mut String,
+) -> Result<(), AllocError> {
+    tell_run(a, answers, "no words", words(rt, a, &[])?)?;
+    tell_run(
+        a,
+        answers,
+        "a word too many",
+        words(rt, a, &["run", "a", "b"])?,
+    )?;
     tell_run(
         a,
         answers,
         "check and a name",
-        words(a, &["check", "job.json"])?,
+        words(rt, a, &["check", "job.json"])?,
     )?;
     tell_run(
         a,
         answers,
         "explain and a name",
-        words(a, &["explain", "job.json"])?,
+        words(rt, a, &["explain", "job.json"])?,
     )?;
     tell_run(
         a,
         answers,
         "a command that isn't there",
-        words(a, &["selftest", "1", "0"])?,
+        words(rt, a, &["selftest", "1", "0"])?,
     )?;
-    tell_run(a, answers, "an upper-case word", words(a, &["Run"])?)
+    tell_run(a, answers, "an upper-case word", words(rt, a, &["Run"])?)
 }
 
-fn tell_commands(a: Global, answers: &mut String) -> Result<(), AllocError> {
+fn tell_commands<T: Threads + Sync>(
+    rt: &T,
+    a: Global,
+    answers: &mut String,
+) -> Result<(), AllocError> {
     let shows = "a job in a file";
     tell_run(
         a,
         answers,
         shows,
-        commands::with_a_file(a, &["run", "job.json"])?,
+        commands::with_a_file(rt, a, &["run", "job.json"])?,
     )?;
     let shows = "a file that isn't there";
     tell_run(
         a,
         answers,
         shows,
-        commands::with_a_file(a, &["run", "job"])?,
+        commands::with_a_file(rt, a, &["run", "job"])?,
     )?;
-    tell_text(a, answers, "--help", commands::alone(a, &["--help"], None)?)?;
+    tell_text(
+        a,
+        answers,
+        "--help",
+        commands::alone(rt, a, &["--help"], None)?,
+    )?;
     tell_length(
         a,
         answers,
         "--help, write 2 fails",
-        commands::alone(a, &["--help"], Some(2))?,
+        commands::alone(rt, a, &["--help"], Some(2))?,
     )?;
     tell_text(
         a,
         answers,
         "--version",
-        commands::alone(a, &["--version"], None)?,
+        commands::alone(rt, a, &["--version"], None)?,
     )?;
     tell_text(
         a,
         answers,
         "a word after --help",
-        commands::alone(a, &["--help", "run"], None)?,
+        commands::alone(rt, a, &["--help", "run"], None)?,
     )
 }
 
 /// In pieces of 400 bytes a job of 720 bytes takes three reads, the last of which finds the end. That it is good
 /// takes one write.
-fn tell_looked_at(a: Global, answers: &mut String) -> Result<(), AllocError> {
-    looked_at::tell_each(a, answers, "a sorted join", SORTED_JOIN)?;
+fn tell_looked_at<T: Threads + Sync>(
+    rt: &T,
+    a: Global,
+    answers: &mut String,
+) -> Result<(), AllocError> {
+    looked_at::tell_each(rt, a, answers, "a sorted join", SORTED_JOIN)?;
     for call in 1..5 {
         let shows = format!(in a; "looked at, read {call} fails")?;
         tell_run(
             a,
             answers,
             shows.as_str(),
-            looked_at::with_a_failing_read(a, call)?,
+            looked_at::with_a_failing_read(rt, a, call)?,
         )?;
     }
     for call in 1..3 {
@@ -84,19 +107,19 @@ fn tell_looked_at(a: Global, answers: &mut String) -> Result<(), AllocError> {
             a,
             answers,
             shows.as_str(),
-            looked_at::with_a_failing_write(a, call)?,
+            looked_at::with_a_failing_write(rt, a, call)?,
         )?;
     }
-    faulty::tell_faulty(a, answers)?;
-    faulty::tell_many(a, answers)
+    faulty::tell_faulty(rt, a, answers)?;
+    faulty::tell_many(rt, a, answers)
 }
 
 /// What each case shows, and its answer.
-pub(crate) fn answers(alloc: Global) -> Result<String, AllocError> {
+pub(crate) fn answers<T: Threads + Sync>(rt: &T, alloc: Global) -> Result<String, AllocError> {
     let mut answers = String::new(alloc);
-    tell_words(alloc, &mut answers)?;
-    tell_commands(alloc, &mut answers)?;
-    tell_looked_at(alloc, &mut answers)?;
-    explained::tell_explained(alloc, &mut answers)?;
+    tell_words(rt, alloc, &mut answers)?;
+    tell_commands(rt, alloc, &mut answers)?;
+    tell_looked_at(rt, alloc, &mut answers)?;
+    explained::tell_explained(rt, alloc, &mut answers)?;
     Ok(answers)
 }

@@ -1,27 +1,39 @@
 //! Readers and writers that fail at one call.
 
 use std::alloc::{AllocError, Global};
+use std::thread::Threads;
 use worked_runs::{Ended, PAIRS, reader, run, run_words};
 
 /// Row a's job read in pieces of 400 bytes, of which one fails.
-pub(crate) fn of_a_read(alloc: Global, call: u64) -> Result<Ended, AllocError> {
+pub(crate) fn of_a_read<T: Threads + Sync>(
+    rt: &T,
+    alloc: Global,
+    call: u64,
+) -> Result<Ended, AllocError> {
     let text = PAIRS.text(alloc)?;
     let mut input = reader(alloc, text.as_str(), Some(call))?;
-    run(alloc, &mut input)
+    run(rt, alloc, &mut input)
 }
 
 /// Its rows written in pieces of 5 bytes, of which one fails.
-pub(crate) fn of_a_write(alloc: Global, call: u64) -> Result<Ended, AllocError> {
+pub(crate) fn of_a_write<T: Threads + Sync>(
+    rt: &T,
+    alloc: Global,
+    call: u64,
+) -> Result<Ended, AllocError> {
     let text = PAIRS.text(alloc)?;
     let mut input = reader(alloc, text.as_str(), None)?;
-    run_words(alloc, &["run"], &mut input, Some(call))
+    run_words(rt, alloc, &["run"], &mut input, Some(call))
 }
 
 /// A second run on a reader the first call of which failed and took nothing.
-pub(crate) fn before_the_run(alloc: Global) -> Result<Ended, AllocError> {
+pub(crate) fn before_the_run<T: Threads + Sync>(
+    rt: &T,
+    alloc: Global,
+) -> Result<Ended, AllocError> {
     let text = PAIRS.text(alloc)?;
     let mut input = reader(alloc, text.as_str(), Some(1))?;
-    let ended = run(alloc, &mut input)?;
+    let ended = run(rt, alloc, &mut input)?;
     drop(ended);
-    run(alloc, &mut input)
+    run(rt, alloc, &mut input)
 }

@@ -3,11 +3,16 @@
 use pipe_cli::SureReader;
 use pipe_frame::{Bytes, List};
 use std::alloc::{AllocError, Global};
+use std::thread::Threads;
 use worked_runs::{Ended, run};
 
 /// A run of so many spaces.
-pub(crate) fn spaces(alloc: Global, len: usize) -> Result<Ended, AllocError> {
+pub(crate) fn spaces<T: Threads + Sync>(
+    rt: &T,
+    alloc: Global,
+    len: usize,
+) -> Result<Ended, AllocError> {
     let bytes = vec![in alloc; b' '; len]?;
     let mut input = SureReader::new(Bytes::from_vec(bytes), List::new(alloc));
-    run(alloc, &mut input)
+    run(rt, alloc, &mut input)
 }

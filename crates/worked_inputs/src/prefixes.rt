@@ -1,20 +1,30 @@
 //! The proper prefixes of a job's text.
 
 use std::alloc::{AllocError, Global};
+use std::thread::Threads;
 use worked_runs::{PAIRS, run_text};
 
 /// The status of the first so many bytes of a text.
-fn status_of_front(alloc: Global, text: &str, len: usize) -> Result<u8, AllocError> {
-    let ended = run_text(alloc, text.get(..len).unwrap_or("{}"))?;
+fn status_of_front<T: Threads + Sync>(
+    rt: &T,
+    alloc: Global,
+    text: &str,
+    len: usize,
+) -> Result<u8, AllocError> {
+    let ended = run_text(rt, alloc, text.get(..len).unwrap_or("{}"))?;
     Ok(ended.status)
 }
 
 /// How many proper prefixes of row a's job don't end with this status.
-pub(crate) fn without_status(alloc: Global, status: u8) -> Result<String, AllocError> {
+pub(crate) fn without_status<T: Threads + Sync>(
+    rt: &T,
+    alloc: Global,
+    status: u8,
+) -> Result<String, AllocError> {
     let text = PAIRS.text(alloc)?;
     let mut others = 0u64;
     for len in 0..text.len() {
-        if status_of_front(alloc, text.as_str(), len)? != status {
+        if status_of_front(rt, alloc, text.as_str(), len)? != status {
             others = others.saturating_add(1);
         }
     }

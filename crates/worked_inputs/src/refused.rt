@@ -1,15 +1,20 @@
 //! Inputs and words that the program refuses.
 
 use std::alloc::{AllocError, Global};
+use std::thread::Threads;
 use worked_runs::{Ended, JobText, PAIRS, run_text};
 
-fn run_job(alloc: Global, job: JobText) -> Result<Ended, AllocError> {
+fn run_job<T: Threads + Sync>(rt: &T, alloc: Global, job: JobText) -> Result<Ended, AllocError> {
     let text = job.text(alloc)?;
-    run_text(alloc, text.as_str())
+    run_text(rt, alloc, text.as_str())
 }
 
-pub(crate) fn a_further_member(alloc: Global) -> Result<Ended, AllocError> {
+pub(crate) fn a_further_member<T: Threads + Sync>(
+    rt: &T,
+    alloc: Global,
+) -> Result<Ended, AllocError> {
     run_job(
+        rt,
         alloc,
         JobText {
             row_limit: r#"100,"note":1"#,
@@ -21,8 +26,9 @@ pub(crate) fn a_further_member(alloc: Global) -> Result<Ended, AllocError> {
 const FLOATS: &str =
     r#"{"columns":[{"name":"k","type":"Int64","values":[1,1.0,2]},{"name":"x","type":"Int64","values":[10,20,30]}]}"#;
 
-pub(crate) fn a_float(alloc: Global) -> Result<Ended, AllocError> {
+pub(crate) fn a_float<T: Threads + Sync>(rt: &T, alloc: Global) -> Result<Ended, AllocError> {
     run_job(
+        rt,
         alloc,
         JobText {
             left: FLOATS,
@@ -34,8 +40,12 @@ pub(crate) fn a_float(alloc: Global) -> Result<Ended, AllocError> {
 const UNEVEN: &str =
     r#"{"columns":[{"name":"k","type":"Int64","values":[1,1]},{"name":"x","type":"Int64","values":[10,20,30]}]}"#;
 
-pub(crate) fn columns_of_unequal_length(alloc: Global) -> Result<Ended, AllocError> {
+pub(crate) fn columns_of_unequal_length<T: Threads + Sync>(
+    rt: &T,
+    alloc: Global,
+) -> Result<Ended, AllocError> {
     run_job(
+        rt,
         alloc,
         JobText {
             left: UNEVEN,
@@ -44,8 +54,9 @@ pub(crate) fn columns_of_unequal_length(alloc: Global) -> Result<Ended, AllocErr
     )
 }
 
-pub(crate) fn version_three(alloc: Global) -> Result<Ended, AllocError> {
+pub(crate) fn version_three<T: Threads + Sync>(rt: &T, alloc: Global) -> Result<Ended, AllocError> {
     run_job(
+        rt,
         alloc,
         JobText {
             version: "3",
@@ -54,6 +65,10 @@ pub(crate) fn version_three(alloc: Global) -> Result<Ended, AllocError> {
     )
 }
 
-pub(crate) fn text(alloc: Global, text: &str) -> Result<Ended, AllocError> {
-    run_text(alloc, text)
+pub(crate) fn text<T: Threads + Sync>(
+    rt: &T,
+    alloc: Global,
+    text: &str,
+) -> Result<Ended, AllocError> {
+    run_text(rt, alloc, text)
 }

@@ -1,18 +1,18 @@
 //! Anti joins.
 
-use crate::row::Row;
+use worked_runs::Case;
 
-const ANTI_LEFT: Row = Row {
+const ANTI_LEFT: Case = Case {
     shows: "an anti join, the left side built",
     is_sorted: true,
     version: "1",
     limit: "1000000",
-    rest: r#""frames":[
+    frames: r#""frames":[
 {"columns":[
 {"name":"k","type":"Int64","values":[1,1,2,null]},
 {"name":"x","type":"String","values":["p","q","r","s"]}]},
-{"columns":[{"name":"k","type":"Int64","values":[1,1,null]}]}],
-"plan":[
+{"columns":[{"name":"k","type":"Int64","values":[1,1,null]}]}],"#,
+    plan: r#""plan":[
 {"node":"DataFrameScan","frame":0,"columns":null},
 {"node":"DataFrameScan","frame":1,"columns":null},
 {"node":"Join","left":0,"right":1,"left_on":[{"col":"k"}],"right_on":[{"col":"k"}],
@@ -22,17 +22,17 @@ const ANTI_LEFT: Row = Row {
 "root":3}"#,
 };
 
-const ANTI_RIGHT: Row = Row {
+const ANTI_RIGHT: Case = Case {
     shows: "the same, the right side built",
     is_sorted: true,
     version: "1",
     limit: "1000000",
-    rest: r#""frames":[
+    frames: r#""frames":[
 {"columns":[
 {"name":"k","type":"Int64","values":[1,1,2,null]},
 {"name":"x","type":"String","values":["p","q","r","s"]}]},
-{"columns":[{"name":"k","type":"Int64","values":[1,1,null]}]}],
-"plan":[
+{"columns":[{"name":"k","type":"Int64","values":[1,1,null]}]}],"#,
+    plan: r#""plan":[
 {"node":"DataFrameScan","frame":0,"columns":null},
 {"node":"DataFrameScan","frame":1,"columns":null},
 {"node":"Join","left":0,"right":1,"left_on":[{"col":"k"}],"right_on":[{"col":"k"}],
@@ -42,17 +42,17 @@ const ANTI_RIGHT: Row = Row {
 "root":3}"#,
 };
 
-const ANTI_NULLS_LEFT: Row = Row {
+const ANTI_NULLS_LEFT: Case = Case {
     shows: "an anti join whose null keys match, the left side built",
     is_sorted: true,
     version: "1",
     limit: "1000000",
-    rest: r#""frames":[
+    frames: r#""frames":[
 {"columns":[
 {"name":"k","type":"Int64","values":[1,1,2,null]},
 {"name":"x","type":"String","values":["p","q","r","s"]}]},
-{"columns":[{"name":"k","type":"Int64","values":[1,1,null]}]}],
-"plan":[
+{"columns":[{"name":"k","type":"Int64","values":[1,1,null]}]}],"#,
+    plan: r#""plan":[
 {"node":"DataFrameScan","frame":0,"columns":null},
 {"node":"DataFrameScan","frame":1,"columns":null},
 {"node":"Join","left":0,"right":1,"left_on":[{"col":"k"}],"right_on":[{"col":"k"}],
@@ -62,17 +62,17 @@ const ANTI_NULLS_LEFT: Row = Row {
 "root":3}"#,
 };
 
-const ANTI_NULLS_RIGHT: Row = Row {
+const ANTI_NULLS_RIGHT: Case = Case {
     shows: "the same, the right side built",
     is_sorted: true,
     version: "1",
     limit: "1000000",
-    rest: r#""frames":[
+    frames: r#""frames":[
 {"columns":[
 {"name":"k","type":"Int64","values":[1,1,2,null]},
 {"name":"x","type":"String","values":["p","q","r","s"]}]},
-{"columns":[{"name":"k","type":"Int64","values":[1,1,null]}]}],
-"plan":[
+{"columns":[{"name":"k","type":"Int64","values":[1,1,null]}]}],"#,
+    plan: r#""plan":[
 {"node":"DataFrameScan","frame":0,"columns":null},
 {"node":"DataFrameScan","frame":1,"columns":null},
 {"node":"Join","left":0,"right":1,"left_on":[{"col":"k"}],"right_on":[{"col":"k"}],
@@ -83,6 +83,6 @@ const ANTI_NULLS_RIGHT: Row = Row {
 };
 
 /// The jobs, in the order in which they are told.
-pub(crate) fn rows() -> [Row; 4] {
+pub(crate) fn cases() -> [Case; 4] {
     [ANTI_LEFT, ANTI_RIGHT, ANTI_NULLS_LEFT, ANTI_NULLS_RIGHT]
 }

@@ -1,20 +1,20 @@
 //! Full joins.
 
-use crate::row::Row;
+use worked_runs::Case;
 
-const FULL: Row = Row {
+const FULL: Case = Case {
     shows: "a full join, null keys apart",
     is_sorted: true,
     version: "1",
     limit: "1000000",
-    rest: r#""frames":[
+    frames: r#""frames":[
 {"columns":[
 {"name":"k","type":"Int64","values":[1,2,null]},
 {"name":"x","type":"String","values":["a","b","c"]}]},
 {"columns":[
 {"name":"k","type":"Int64","values":[2,3,null]},
-{"name":"y","type":"String","values":["x","y","z"]}]}],
-"plan":[
+{"name":"y","type":"String","values":["x","y","z"]}]}],"#,
+    plan: r#""plan":[
 {"node":"DataFrameScan","frame":0,"columns":null},
 {"node":"DataFrameScan","frame":1,"columns":null},
 {"node":"Join","left":0,"right":1,"left_on":[{"col":"k"}],"right_on":[{"col":"k"}],
@@ -24,19 +24,19 @@ const FULL: Row = Row {
 "root":3}"#,
 };
 
-const FULL_NULLS: Row = Row {
+const FULL_NULLS: Case = Case {
     shows: "the same, null keys match",
     is_sorted: true,
     version: "1",
     limit: "1000000",
-    rest: r#""frames":[
+    frames: r#""frames":[
 {"columns":[
 {"name":"k","type":"Int64","values":[1,2,null]},
 {"name":"x","type":"String","values":["a","b","c"]}]},
 {"columns":[
 {"name":"k","type":"Int64","values":[2,3,null]},
-{"name":"y","type":"String","values":["x","y","z"]}]}],
-"plan":[
+{"name":"y","type":"String","values":["x","y","z"]}]}],"#,
+    plan: r#""plan":[
 {"node":"DataFrameScan","frame":0,"columns":null},
 {"node":"DataFrameScan","frame":1,"columns":null},
 {"node":"Join","left":0,"right":1,"left_on":[{"col":"k"}],"right_on":[{"col":"k"}],
@@ -46,19 +46,19 @@ const FULL_NULLS: Row = Row {
 "root":3}"#,
 };
 
-const FULL_COALESCED: Row = Row {
+const FULL_COALESCED: Case = Case {
     shows: "the same coalesced, nulls last",
     is_sorted: true,
     version: "1",
     limit: "1000000",
-    rest: r#""frames":[
+    frames: r#""frames":[
 {"columns":[
 {"name":"k","type":"Int64","values":[1,2,null]},
 {"name":"x","type":"String","values":["a","b","c"]}]},
 {"columns":[
 {"name":"k","type":"Int64","values":[2,3,null]},
-{"name":"y","type":"String","values":["x","y","z"]}]}],
-"plan":[
+{"name":"y","type":"String","values":["x","y","z"]}]}],"#,
+    plan: r#""plan":[
 {"node":"DataFrameScan","frame":0,"columns":null},
 {"node":"DataFrameScan","frame":1,"columns":null},
 {"node":"Join","left":0,"right":1,"left_on":[{"col":"k"}],"right_on":[{"col":"k"}],
@@ -68,16 +68,16 @@ const FULL_COALESCED: Row = Row {
 "root":3}"#,
 };
 
-const FULL_OF_UNION: Row = Row {
+const FULL_OF_UNION: Case = Case {
     shows: "a full join whose left side is a union, the right side built",
     is_sorted: true,
     version: "1",
     limit: "1000000",
-    rest: r#""frames":[
+    frames: r#""frames":[
 {"columns":[{"name":"k","type":"Int64","values":[1]}]},
 {"columns":[{"name":"k","type":"Int64","values":[2]}]},
-{"columns":[{"name":"k","type":"Int64","values":[1,2,3]},{"name":"z","type":"Int64","values":[10,20,30]}]}],
-"plan":[
+{"columns":[{"name":"k","type":"Int64","values":[1,2,3]},{"name":"z","type":"Int64","values":[10,20,30]}]}],"#,
+    plan: r#""plan":[
 {"node":"DataFrameScan","frame":0,"columns":null},
 {"node":"DataFrameScan","frame":1,"columns":null},
 {"node":"Filter","input":1,"predicate":{"lit":{"type":"Boolean","value":true}}},
@@ -90,16 +90,16 @@ const FULL_OF_UNION: Row = Row {
 "root":6}"#,
 };
 
-const CHAINED: Row = Row {
+const CHAINED: Case = Case {
     shows: "two full joins in a chain",
     is_sorted: true,
     version: "1",
     limit: "1000000",
-    rest: r#""frames":[
+    frames: r#""frames":[
 {"columns":[{"name":"k","type":"Int64","values":[1]}]},
 {"columns":[{"name":"k","type":"Int64","values":[1,3]}]},
-{"columns":[{"name":"k","type":"Int64","values":[3,4]}]}],
-"plan":[
+{"columns":[{"name":"k","type":"Int64","values":[3,4]}]}],"#,
+    plan: r#""plan":[
 {"node":"DataFrameScan","frame":0,"columns":null},
 {"node":"DataFrameScan","frame":1,"columns":null},
 {"node":"Join","left":0,"right":1,"left_on":[{"col":"k"}],"right_on":[{"col":"k"}],
@@ -113,15 +113,15 @@ const CHAINED: Row = Row {
 "root":5}"#,
 };
 
-const FULL_OF_NO_ROW: Row = Row {
+const FULL_OF_NO_ROW: Case = Case {
     shows: "a full join of no left row, the left side built",
     is_sorted: true,
     version: "1",
     limit: "1000000",
-    rest: r#""frames":[
+    frames: r#""frames":[
 {"columns":[{"name":"k","type":"Int64","values":[]}]},
-{"columns":[{"name":"k","type":"Int64","values":[5,5]}]}],
-"plan":[
+{"columns":[{"name":"k","type":"Int64","values":[5,5]}]}],"#,
+    plan: r#""plan":[
 {"node":"DataFrameScan","frame":0,"columns":null},
 {"node":"DataFrameScan","frame":1,"columns":null},
 {"node":"Join","left":0,"right":1,"left_on":[{"col":"k"}],"right_on":[{"col":"k"}],
@@ -131,15 +131,15 @@ const FULL_OF_NO_ROW: Row = Row {
 "root":3}"#,
 };
 
-const FULL_OF_NOTHING: Row = Row {
+const FULL_OF_NOTHING: Case = Case {
     shows: "a full join of two empty frames",
     is_sorted: false,
     version: "1",
     limit: "1000000",
-    rest: r#""frames":[
+    frames: r#""frames":[
 {"columns":[{"name":"k","type":"Int64","values":[]}]},
-{"columns":[{"name":"k","type":"Int64","values":[]}]}],
-"plan":[
+{"columns":[{"name":"k","type":"Int64","values":[]}]}],"#,
+    plan: r#""plan":[
 {"node":"DataFrameScan","frame":0,"columns":null},
 {"node":"DataFrameScan","frame":1,"columns":null},
 {"node":"Join","left":0,"right":1,"left_on":[{"col":"k"}],"right_on":[{"col":"k"}],
@@ -149,7 +149,7 @@ const FULL_OF_NOTHING: Row = Row {
 };
 
 /// The jobs, in the order in which they are told.
-pub(crate) fn rows() -> [Row; 7] {
+pub(crate) fn cases() -> [Case; 7] {
     [
         FULL,
         FULL_NULLS,

@@ -5,6 +5,7 @@ use pipe_exec::run_plan_with;
 use pipe_frame::{DataFrame, NeverStop, OpenGate};
 use pipe_rows::ConstHash;
 use std::alloc::{AllocError, Global};
+use std::thread::Threads;
 
 /// The lines of a frame.
 fn lines_of(alloc: Global, frame: &DataFrame) -> Result<Vec<u8>, AllocError> {
@@ -17,13 +18,18 @@ fn lines_of(alloc: Global, frame: &DataFrame) -> Result<Vec<u8>, AllocError> {
 }
 
 /// The lines of the rows of a job, and none where it has no rows.
-pub(crate) fn lines(alloc: Global, text: &str) -> Result<Vec<u8>, AllocError> {
+pub(crate) fn lines<T: Threads + Sync>(
+    rt: &T,
+    alloc: Global,
+    text: &str,
+) -> Result<Vec<u8>, AllocError> {
     let Ok(job) = read_job(alloc, text.as_bytes()) else {
         return Ok(Vec::new(alloc));
     };
     let hasher = ConstHash { value: 7 };
     let mut stop = NeverStop::new();
     let ran = run_plan_with(
+        rt,
         alloc,
         &job.arena,
         job.root,

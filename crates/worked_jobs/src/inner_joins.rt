@@ -1,16 +1,16 @@
 //! Inner joins.
 
-use crate::row::Row;
+use worked_runs::Case;
 
-const INNER: Row = Row {
+const INNER: Case = Case {
     shows: "an inner join, sorted",
     is_sorted: true,
     version: "1",
     limit: "1000000",
-    rest: r#""frames":[
+    frames: r#""frames":[
 {"columns":[{"name":"k","type":"Int64","values":[1,1,2]},{"name":"x","type":"String","values":["p","q","r"]}]},
-{"columns":[{"name":"k","type":"Int64","values":[1,1,3]},{"name":"y","type":"String","values":["s","t","u"]}]}],
-"plan":[
+{"columns":[{"name":"k","type":"Int64","values":[1,1,3]},{"name":"y","type":"String","values":["s","t","u"]}]}],"#,
+    plan: r#""plan":[
 {"node":"DataFrameScan","frame":0,"columns":null},
 {"node":"DataFrameScan","frame":1,"columns":null},
 {"node":"Join","left":0,"right":1,"left_on":[{"col":"k"}],"right_on":[{"col":"k"}],
@@ -20,15 +20,15 @@ const INNER: Row = Row {
 "root":3}"#,
 };
 
-const PAIR_WITHIN: Row = Row {
+const PAIR_WITHIN: Case = Case {
     shows: "an inner join within its limit, sorted",
     is_sorted: true,
     version: "1",
     limit: "4",
-    rest: r#""frames":[
+    frames: r#""frames":[
 {"columns":[{"name":"k","type":"Int64","values":[1,1,2]},{"name":"x","type":"String","values":["p","q","r"]}]},
-{"columns":[{"name":"k","type":"Int64","values":[1,1,3]},{"name":"y","type":"String","values":["s","t","u"]}]}],
-"plan":[
+{"columns":[{"name":"k","type":"Int64","values":[1,1,3]},{"name":"y","type":"String","values":["s","t","u"]}]}],"#,
+    plan: r#""plan":[
 {"node":"DataFrameScan","frame":0,"columns":null},
 {"node":"DataFrameScan","frame":1,"columns":null},
 {"node":"Join","left":0,"right":1,"left_on":[{"col":"k"}],"right_on":[{"col":"k"}],
@@ -38,15 +38,15 @@ const PAIR_WITHIN: Row = Row {
 "root":3}"#,
 };
 
-const PAIR_ABOVE: Row = Row {
+const PAIR_ABOVE: Case = Case {
     shows: "four pairs under a limit of three",
     is_sorted: false,
     version: "1",
     limit: "3",
-    rest: r#""frames":[
+    frames: r#""frames":[
 {"columns":[{"name":"k","type":"Int64","values":[1,1,2]},{"name":"x","type":"Int64","values":[10,20,30]}]},
-{"columns":[{"name":"k","type":"Int64","values":[1,1,3]},{"name":"y","type":"Int64","values":[7,8,9]}]}],
-"plan":[
+{"columns":[{"name":"k","type":"Int64","values":[1,1,3]},{"name":"y","type":"Int64","values":[7,8,9]}]}],"#,
+    plan: r#""plan":[
 {"node":"DataFrameScan","frame":0,"columns":null},
 {"node":"DataFrameScan","frame":1,"columns":null},
 {"node":"Join","left":0,"right":1,"left_on":[{"col":"k"}],"right_on":[{"col":"k"}],
@@ -55,15 +55,15 @@ const PAIR_ABOVE: Row = Row {
 "root":2}"#,
 };
 
-const KEPT_RIGHT: Row = Row {
+const KEPT_RIGHT: Case = Case {
     shows: "an inner join that keeps both keys, the right side built",
     is_sorted: false,
     version: "1",
     limit: "1000000",
-    rest: r#""frames":[
+    frames: r#""frames":[
 {"columns":[{"name":"k","type":"Int64","values":[1]}]},
-{"columns":[{"name":"k","type":"Int64","values":[1]}]}],
-"plan":[
+{"columns":[{"name":"k","type":"Int64","values":[1]}]}],"#,
+    plan: r#""plan":[
 {"node":"DataFrameScan","frame":0,"columns":null},
 {"node":"DataFrameScan","frame":1,"columns":null},
 {"node":"Join","left":0,"right":1,"left_on":[{"col":"k"}],"right_on":[{"col":"k"}],
@@ -72,15 +72,15 @@ const KEPT_RIGHT: Row = Row {
 "root":2}"#,
 };
 
-const KEPT_LEFT: Row = Row {
+const KEPT_LEFT: Case = Case {
     shows: "the same, the left side built",
     is_sorted: false,
     version: "1",
     limit: "1000000",
-    rest: r#""frames":[
+    frames: r#""frames":[
 {"columns":[{"name":"k","type":"Int64","values":[1]}]},
-{"columns":[{"name":"k","type":"Int64","values":[1]}]}],
-"plan":[
+{"columns":[{"name":"k","type":"Int64","values":[1]}]}],"#,
+    plan: r#""plan":[
 {"node":"DataFrameScan","frame":0,"columns":null},
 {"node":"DataFrameScan","frame":1,"columns":null},
 {"node":"Join","left":0,"right":1,"left_on":[{"col":"k"}],"right_on":[{"col":"k"}],
@@ -89,15 +89,15 @@ const KEPT_LEFT: Row = Row {
 "root":2}"#,
 };
 
-const NULL_KEYS: Row = Row {
+const NULL_KEYS: Case = Case {
     shows: "null keys match nothing",
     is_sorted: false,
     version: "1",
     limit: "1000000",
-    rest: r#""frames":[
+    frames: r#""frames":[
 {"columns":[{"name":"k","type":"Int64","values":[null,1]}]},
-{"columns":[{"name":"k","type":"Int64","values":[null,1]}]}],
-"plan":[
+{"columns":[{"name":"k","type":"Int64","values":[null,1]}]}],"#,
+    plan: r#""plan":[
 {"node":"DataFrameScan","frame":0,"columns":null},
 {"node":"DataFrameScan","frame":1,"columns":null},
 {"node":"Join","left":0,"right":1,"left_on":[{"col":"k"}],"right_on":[{"col":"k"}],
@@ -106,15 +106,15 @@ const NULL_KEYS: Row = Row {
 "root":2}"#,
 };
 
-const TWO_KEYS: Row = Row {
+const TWO_KEYS: Case = Case {
     shows: "an inner join on two keys, null keys apart",
     is_sorted: false,
     version: "1",
     limit: "1000000",
-    rest: r#""frames":[
+    frames: r#""frames":[
 {"columns":[{"name":"k","type":"Int64","values":[1,1]},{"name":"m","type":"Int64","values":[1,null]}]},
-{"columns":[{"name":"k","type":"Int64","values":[1,1]},{"name":"m","type":"Int64","values":[1,null]}]}],
-"plan":[
+{"columns":[{"name":"k","type":"Int64","values":[1,1]},{"name":"m","type":"Int64","values":[1,null]}]}],"#,
+    plan: r#""plan":[
 {"node":"DataFrameScan","frame":0,"columns":null},
 {"node":"DataFrameScan","frame":1,"columns":null},
 {"node":"Join","left":0,"right":1,"left_on":[{"col":"k"},{"col":"m"}],"right_on":[{"col":"k"},{"col":"m"}],
@@ -123,15 +123,15 @@ const TWO_KEYS: Row = Row {
 "root":2}"#,
 };
 
-const TWO_KEYS_NULLS: Row = Row {
+const TWO_KEYS_NULLS: Case = Case {
     shows: "the same, null keys match",
     is_sorted: false,
     version: "1",
     limit: "1000000",
-    rest: r#""frames":[
+    frames: r#""frames":[
 {"columns":[{"name":"k","type":"Int64","values":[1,1]},{"name":"m","type":"Int64","values":[1,null]}]},
-{"columns":[{"name":"k","type":"Int64","values":[1,1]},{"name":"m","type":"Int64","values":[1,null]}]}],
-"plan":[
+{"columns":[{"name":"k","type":"Int64","values":[1,1]},{"name":"m","type":"Int64","values":[1,null]}]}],"#,
+    plan: r#""plan":[
 {"node":"DataFrameScan","frame":0,"columns":null},
 {"node":"DataFrameScan","frame":1,"columns":null},
 {"node":"Join","left":0,"right":1,"left_on":[{"col":"k"},{"col":"m"}],"right_on":[{"col":"k"},{"col":"m"}],
@@ -141,7 +141,7 @@ const TWO_KEYS_NULLS: Row = Row {
 };
 
 /// The jobs, in the order in which they are told.
-pub(crate) fn rows() -> [Row; 8] {
+pub(crate) fn cases() -> [Case; 8] {
     [
         INNER,
         PAIR_WITHIN,

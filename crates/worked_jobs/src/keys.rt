@@ -1,16 +1,16 @@
 //! Keys and names of inner joins.
 
-use crate::row::Row;
+use worked_runs::Case;
 
-const ENDS: Row = Row {
+const ENDS: Case = Case {
     shows: "keys at the ends of their range",
     is_sorted: false,
     version: "1",
     limit: "1000000",
-    rest: r#""frames":[
+    frames: r#""frames":[
 {"columns":[{"name":"k","type":"Int64","values":[-9223372036854775808,9223372036854775807]}]},
-{"columns":[{"name":"k","type":"Int64","values":[-9223372036854775808,9223372036854775807]}]}],
-"plan":[
+{"columns":[{"name":"k","type":"Int64","values":[-9223372036854775808,9223372036854775807]}]}],"#,
+    plan: r#""plan":[
 {"node":"DataFrameScan","frame":0,"columns":null},
 {"node":"DataFrameScan","frame":1,"columns":null},
 {"node":"Join","left":0,"right":1,"left_on":[{"col":"k"}],"right_on":[{"col":"k"}],
@@ -19,15 +19,15 @@ const ENDS: Row = Row {
 "root":2}"#,
 };
 
-const ESCAPED: Row = Row {
+const ESCAPED: Case = Case {
     shows: "a name with a newline and a quote",
     is_sorted: false,
     version: "1",
     limit: "1000000",
-    rest: r#""frames":[
+    frames: r#""frames":[
 {"columns":[{"name":"k\n\"","type":"Int64","values":[5]},{"name":"x","type":"Int64","values":[6]}]},
-{"columns":[{"name":"k\n\"","type":"Int64","values":[5]},{"name":"x","type":"Int64","values":[6]}]}],
-"plan":[
+{"columns":[{"name":"k\n\"","type":"Int64","values":[5]},{"name":"x","type":"Int64","values":[6]}]}],"#,
+    plan: r#""plan":[
 {"node":"DataFrameScan","frame":0,"columns":null},
 {"node":"DataFrameScan","frame":1,"columns":null},
 {"node":"Join","left":0,"right":1,"left_on":[{"col":"k\n\""}],"right_on":[{"col":"k\n\""}],
@@ -36,15 +36,15 @@ const ESCAPED: Row = Row {
 "root":2}"#,
 };
 
-const SUFFIXED: Row = Row {
+const SUFFIXED: Case = Case {
     shows: "names with the suffix",
     is_sorted: false,
     version: "1",
     limit: "1000000",
-    rest: r#""frames":[
+    frames: r#""frames":[
 {"columns":[{"name":"k","type":"Int64","values":[5]},{"name":"x","type":"Int64","values":[7]}]},
-{"columns":[{"name":"k","type":"Int64","values":[5]},{"name":"x","type":"Int64","values":[7]}]}],
-"plan":[
+{"columns":[{"name":"k","type":"Int64","values":[5]},{"name":"x","type":"Int64","values":[7]}]}],"#,
+    plan: r#""plan":[
 {"node":"DataFrameScan","frame":0,"columns":null},
 {"node":"DataFrameScan","frame":1,"columns":null},
 {"node":"Join","left":0,"right":1,"left_on":[{"col":"k"}],"right_on":[{"col":"k"}],
@@ -53,16 +53,16 @@ const SUFFIXED: Row = Row {
 "root":2}"#,
 };
 
-const ELSEWHERE: Row = Row {
+const ELSEWHERE: Case = Case {
     shows: "a join among nodes that its root doesn't read",
     is_sorted: false,
     version: "1",
     limit: "1000000",
-    rest: r#""frames":[
+    frames: r#""frames":[
 {"columns":[{"name":"t","type":"String","values":["p"]}]},
 {"columns":[{"name":"k","type":"Int64","values":[1,1,3]},{"name":"y","type":"Int64","values":[7,8,9]}]},
-{"columns":[{"name":"k","type":"Int64","values":[1,1,2]},{"name":"x","type":"Int64","values":[10,20,30]}]}],
-"plan":[
+{"columns":[{"name":"k","type":"Int64","values":[1,1,2]},{"name":"x","type":"Int64","values":[10,20,30]}]}],"#,
+    plan: r#""plan":[
 {"node":"DataFrameScan","frame":1,"columns":null},
 {"node":"Union","inputs":[7,7]},
 {"node":"DataFrameScan","frame":2,"columns":null},
@@ -74,6 +74,6 @@ const ELSEWHERE: Row = Row {
 };
 
 /// The jobs, in the order in which they are told.
-pub(crate) fn rows() -> [Row; 4] {
+pub(crate) fn cases() -> [Case; 4] {
     [ENDS, ESCAPED, SUFFIXED, ELSEWHERE]
 }

@@ -1,13 +1,13 @@
 //! The ledger.
 
-use crate::row::Row;
+use worked_runs::Case;
 
-const LEDGER: Row = Row {
+const LEDGER: Case = Case {
     shows: "the ledger",
     is_sorted: true,
     version: "1",
     limit: "1000000",
-    rest: r#""frames":[
+    frames: r#""frames":[
 {"columns":[
 {"name":"id","type":"String","values":["A-1","A-1","A-2","A-3","A-4","A-5","A-5","A-6","A-7","A-8",null,"A-9"]},
 {"name":"part","type":"Int32","values":[1,2,1,1,1,1,2,1,1,1,1,1]},
@@ -17,8 +17,8 @@ const LEDGER: Row = Row {
 {"name":"id","type":"String","values":["A-1","A-1","A-1","A-3","A-5","A-6",null,"A-8","A-9","A-7"]},
 {"name":"part","type":"Int32","values":[1,2,2,1,2,1,1,2,1,1]},
 {"name":"paid","type":"Int64","values":[500,200,50,900,75,10,60,900,null,40]},
-{"name":"ref","type":"Binary","values":["a0","a1","a2","a3","a4","a5","a6","a7","a8","13"]}]}],
-"plan":[
+{"name":"ref","type":"Binary","values":["a0","a1","a2","a3","a4","a5","a6","a7","a8","13"]}]}],"#,
+    plan: r#""plan":[
 {"node":"DataFrameScan","frame":0,"columns":null},
 {"node":"DataFrameScan","frame":1,"columns":null},
 {"node":"Join","left":0,"right":1,"left_on":[{"col":"id"},{"col":"part"}],"right_on":[{"col":"id"},{"col":"part"}],
@@ -31,6 +31,6 @@ const LEDGER: Row = Row {
 };
 
 /// The jobs, in the order in which they are told.
-pub(crate) fn rows() -> [Row; 1] {
+pub(crate) fn cases() -> [Case; 1] {
     [LEDGER]
 }

@@ -9,15 +9,15 @@ mod keys;
 mod ledger;
 mod nodes;
 mod other_joins;
-mod row;
 mod scans;
 mod semi_joins;
 mod stopped;
 mod table;
+mod told;
 
 use std::io;
 
 fn main(rt: HostRuntime) -> io::Result<()> {
-    let answers = table::answers(rt.alloc())?;
+    let answers = table::answers(&rt, rt.alloc())?;
     print!(rt; "{answers}")
 }

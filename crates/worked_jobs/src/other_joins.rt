@@ -1,16 +1,16 @@
 //! Left joins and cross joins.
 
-use crate::row::Row;
+use worked_runs::Case;
 
-const LEFT: Row = Row {
+const LEFT: Case = Case {
     shows: "a left join, sorted",
     is_sorted: true,
     version: "1",
     limit: "1000000",
-    rest: r#""frames":[
+    frames: r#""frames":[
 {"columns":[{"name":"k","type":"Int64","values":[1,2,null]}]},
-{"columns":[{"name":"k","type":"Int64","values":[1,1]},{"name":"y","type":"String","values":["s","t"]}]}],
-"plan":[
+{"columns":[{"name":"k","type":"Int64","values":[1,1]},{"name":"y","type":"String","values":["s","t"]}]}],"#,
+    plan: r#""plan":[
 {"node":"DataFrameScan","frame":0,"columns":null},
 {"node":"DataFrameScan","frame":1,"columns":null},
 {"node":"Join","left":0,"right":1,"left_on":[{"col":"k"}],"right_on":[{"col":"k"}],
@@ -20,15 +20,15 @@ const LEFT: Row = Row {
 "root":3}"#,
 };
 
-const LEFT_UNSORTED: Row = Row {
+const LEFT_UNSORTED: Case = Case {
     shows: "a left join",
     is_sorted: false,
     version: "1",
     limit: "1000000",
-    rest: r#""frames":[
+    frames: r#""frames":[
 {"columns":[{"name":"k","type":"Int64","values":[1,2,null]}]},
-{"columns":[{"name":"k","type":"Int64","values":[1,1]},{"name":"y","type":"String","values":["s","t"]}]}],
-"plan":[
+{"columns":[{"name":"k","type":"Int64","values":[1,1]},{"name":"y","type":"String","values":["s","t"]}]}],"#,
+    plan: r#""plan":[
 {"node":"DataFrameScan","frame":0,"columns":null},
 {"node":"DataFrameScan","frame":1,"columns":null},
 {"node":"Join","left":0,"right":1,"left_on":[{"col":"k"}],"right_on":[{"col":"k"}],
@@ -37,15 +37,15 @@ const LEFT_UNSORTED: Row = Row {
 "root":2}"#,
 };
 
-const CROSS: Row = Row {
+const CROSS: Case = Case {
     shows: "a cross join of as many rows as the limit",
     is_sorted: false,
     version: "1",
     limit: "6",
-    rest: r#""frames":[
+    frames: r#""frames":[
 {"columns":[{"name":"a","type":"Int64","values":[1,2]}]},
-{"columns":[{"name":"b","type":"Int64","values":[10,20,30]}]}],
-"plan":[
+{"columns":[{"name":"b","type":"Int64","values":[10,20,30]}]}],"#,
+    plan: r#""plan":[
 {"node":"DataFrameScan","frame":0,"columns":null},
 {"node":"DataFrameScan","frame":1,"columns":null},
 {"node":"Join","left":0,"right":1,"left_on":[],"right_on":[],
@@ -54,15 +54,15 @@ const CROSS: Row = Row {
 "root":2}"#,
 };
 
-const CROSS_ABOVE: Row = Row {
+const CROSS_ABOVE: Case = Case {
     shows: "one row more than the limit",
     is_sorted: false,
     version: "1",
     limit: "5",
-    rest: r#""frames":[
+    frames: r#""frames":[
 {"columns":[{"name":"a","type":"Int64","values":[1,2]}]},
-{"columns":[{"name":"b","type":"Int64","values":[10,20,30]}]}],
-"plan":[
+{"columns":[{"name":"b","type":"Int64","values":[10,20,30]}]}],"#,
+    plan: r#""plan":[
 {"node":"DataFrameScan","frame":0,"columns":null},
 {"node":"DataFrameScan","frame":1,"columns":null},
 {"node":"Join","left":0,"right":1,"left_on":[],"right_on":[],
@@ -71,15 +71,15 @@ const CROSS_ABOVE: Row = Row {
 "root":2}"#,
 };
 
-const CROSS_LEFT_EMPTY: Row = Row {
+const CROSS_LEFT_EMPTY: Case = Case {
     shows: "a cross join of no left row, the right side built",
     is_sorted: false,
     version: "1",
     limit: "1000000",
-    rest: r#""frames":[
+    frames: r#""frames":[
 {"columns":[{"name":"a","type":"Int64","values":[]}]},
-{"columns":[{"name":"b","type":"Int64","values":[1,2,3]}]}],
-"plan":[
+{"columns":[{"name":"b","type":"Int64","values":[1,2,3]}]}],"#,
+    plan: r#""plan":[
 {"node":"DataFrameScan","frame":0,"columns":null},
 {"node":"DataFrameScan","frame":1,"columns":null},
 {"node":"Join","left":0,"right":1,"left_on":[],"right_on":[],
@@ -88,15 +88,15 @@ const CROSS_LEFT_EMPTY: Row = Row {
 "root":2}"#,
 };
 
-const CROSS_LEFT_BUILT: Row = Row {
+const CROSS_LEFT_BUILT: Case = Case {
     shows: "the same, the left side built",
     is_sorted: false,
     version: "1",
     limit: "1000000",
-    rest: r#""frames":[
+    frames: r#""frames":[
 {"columns":[{"name":"a","type":"Int64","values":[]}]},
-{"columns":[{"name":"b","type":"Int64","values":[1,2,3]}]}],
-"plan":[
+{"columns":[{"name":"b","type":"Int64","values":[1,2,3]}]}],"#,
+    plan: r#""plan":[
 {"node":"DataFrameScan","frame":0,"columns":null},
 {"node":"DataFrameScan","frame":1,"columns":null},
 {"node":"Join","left":0,"right":1,"left_on":[],"right_on":[],
@@ -106,7 +106,7 @@ const CROSS_LEFT_BUILT: Row = Row {
 };
 
 /// The jobs, in the order in which they are told.
-pub(crate) fn rows() -> [Row; 6] {
+pub(crate) fn cases() -> [Case; 6] {
     [
         LEFT,
         LEFT_UNSORTED,

@@ -1,18 +1,18 @@
 //! Semi joins.
 
-use crate::row::Row;
+use worked_runs::Case;
 
-const SEMI_LEFT: Row = Row {
+const SEMI_LEFT: Case = Case {
     shows: "a semi join, the left side built",
     is_sorted: true,
     version: "1",
     limit: "1000000",
-    rest: r#""frames":[
+    frames: r#""frames":[
 {"columns":[
 {"name":"k","type":"Int64","values":[1,1,2,null]},
 {"name":"x","type":"String","values":["p","q","r","s"]}]},
-{"columns":[{"name":"k","type":"Int64","values":[1,1,null]}]}],
-"plan":[
+{"columns":[{"name":"k","type":"Int64","values":[1,1,null]}]}],"#,
+    plan: r#""plan":[
 {"node":"DataFrameScan","frame":0,"columns":null},
 {"node":"DataFrameScan","frame":1,"columns":null},
 {"node":"Join","left":0,"right":1,"left_on":[{"col":"k"}],"right_on":[{"col":"k"}],
@@ -22,17 +22,17 @@ const SEMI_LEFT: Row = Row {
 "root":3}"#,
 };
 
-const SEMI_RIGHT: Row = Row {
+const SEMI_RIGHT: Case = Case {
     shows: "the same, the right side built",
     is_sorted: true,
     version: "1",
     limit: "1000000",
-    rest: r#""frames":[
+    frames: r#""frames":[
 {"columns":[
 {"name":"k","type":"Int64","values":[1,1,2,null]},
 {"name":"x","type":"String","values":["p","q","r","s"]}]},
-{"columns":[{"name":"k","type":"Int64","values":[1,1,null]}]}],
-"plan":[
+{"columns":[{"name":"k","type":"Int64","values":[1,1,null]}]}],"#,
+    plan: r#""plan":[
 {"node":"DataFrameScan","frame":0,"columns":null},
 {"node":"DataFrameScan","frame":1,"columns":null},
 {"node":"Join","left":0,"right":1,"left_on":[{"col":"k"}],"right_on":[{"col":"k"}],
@@ -42,17 +42,17 @@ const SEMI_RIGHT: Row = Row {
 "root":3}"#,
 };
 
-const SEMI_NULLS_LEFT: Row = Row {
+const SEMI_NULLS_LEFT: Case = Case {
     shows: "a semi join whose null keys match, the left side built",
     is_sorted: true,
     version: "1",
     limit: "1000000",
-    rest: r#""frames":[
+    frames: r#""frames":[
 {"columns":[
 {"name":"k","type":"Int64","values":[1,1,2,null]},
 {"name":"x","type":"String","values":["p","q","r","s"]}]},
-{"columns":[{"name":"k","type":"Int64","values":[1,1,null]}]}],
-"plan":[
+{"columns":[{"name":"k","type":"Int64","values":[1,1,null]}]}],"#,
+    plan: r#""plan":[
 {"node":"DataFrameScan","frame":0,"columns":null},
 {"node":"DataFrameScan","frame":1,"columns":null},
 {"node":"Join","left":0,"right":1,"left_on":[{"col":"k"}],"right_on":[{"col":"k"}],
@@ -62,17 +62,17 @@ const SEMI_NULLS_LEFT: Row = Row {
 "root":3}"#,
 };
 
-const SEMI_NULLS_RIGHT: Row = Row {
+const SEMI_NULLS_RIGHT: Case = Case {
     shows: "the same, the right side built",
     is_sorted: true,
     version: "1",
     limit: "1000000",
-    rest: r#""frames":[
+    frames: r#""frames":[
 {"columns":[
 {"name":"k","type":"Int64","values":[1,1,2,null]},
 {"name":"x","type":"String","values":["p","q","r","s"]}]},
-{"columns":[{"name":"k","type":"Int64","values":[1,1,null]}]}],
-"plan":[
+{"columns":[{"name":"k","type":"Int64","values":[1,1,null]}]}],"#,
+    plan: r#""plan":[
 {"node":"DataFrameScan","frame":0,"columns":null},
 {"node":"DataFrameScan","frame":1,"columns":null},
 {"node":"Join","left":0,"right":1,"left_on":[{"col":"k"}],"right_on":[{"col":"k"}],
@@ -82,16 +82,16 @@ const SEMI_NULLS_RIGHT: Row = Row {
 "root":3}"#,
 };
 
-const SEMI_FULL: Row = Row {
+const SEMI_FULL: Case = Case {
     shows: "a full join of a semi join's rows",
     is_sorted: true,
     version: "1",
     limit: "1000000",
-    rest: r#""frames":[
+    frames: r#""frames":[
 {"columns":[{"name":"k","type":"Int64","values":[1,2]}]},
 {"columns":[{"name":"k","type":"Int64","values":[2,2]}]},
-{"columns":[{"name":"k","type":"Int64","values":[2,3]}]}],
-"plan":[
+{"columns":[{"name":"k","type":"Int64","values":[2,3]}]}],"#,
+    plan: r#""plan":[
 {"node":"DataFrameScan","frame":0,"columns":null},
 {"node":"DataFrameScan","frame":1,"columns":null},
 {"node":"Join","left":0,"right":1,"left_on":[{"col":"k"}],"right_on":[{"col":"k"}],
@@ -106,7 +106,7 @@ const SEMI_FULL: Row = Row {
 };
 
 /// The jobs, in the order in which they are told.
-pub(crate) fn rows() -> [Row; 5] {
+pub(crate) fn cases() -> [Case; 5] {
     [
         SEMI_LEFT,
         SEMI_RIGHT,

@@ -1,59 +1,77 @@
 //! The cases, in the order in which they are told.
 
-use crate::row::Row;
 use crate::{
     anti_joins, full_joins, inner_joins, keys, ledger, nodes, other_joins, scans, semi_joins,
-    stopped,
+    stopped, told,
 };
 use std::alloc::{AllocError, Global};
-use worked_runs::tell;
+use std::thread::Threads;
+use worked_runs::{Case, tell};
 
-/// Jobs that are run, by three numbers of workers each.
-fn tell_rows(a: Global, answers: &mut String, rows: &[Row]) -> Result<(), AllocError> {
-    for row in rows {
-        row.tell(a, answers)?;
+/// Jobs that are run, by four numbers of workers each.
+fn tell_cases<T: Threads + Sync>(
+    rt: &T,
+    a: Global,
+    answers: &mut String,
+    cases: &[Case],
+) -> Result<(), AllocError> {
+    for case in cases {
+        told::tell(rt, a, answers, case)?;
     }
     Ok(())
 }
 
-fn tell_plans(a: Global, answers: &mut String) -> Result<(), AllocError> {
-    tell_rows(a, answers, &inner_joins::rows())?;
-    tell_rows(a, answers, &keys::rows())?;
-    tell_rows(a, answers, &full_joins::rows())?;
-    tell_rows(a, answers, &other_joins::rows())?;
-    tell_rows(a, answers, &semi_joins::rows())?;
-    tell_rows(a, answers, &anti_joins::rows())?;
-    tell_rows(a, answers, &scans::rows())?;
-    tell_rows(a, answers, &nodes::rows())?;
-    tell_rows(a, answers, &ledger::rows())?;
+fn tell_plans<T: Threads + Sync>(
+    rt: &T,
+    a: Global,
+    answers: &mut String,
+) -> Result<(), AllocError> {
+    tell_cases(rt, a, answers, &inner_joins::cases())?;
+    tell_cases(rt, a, answers, &keys::cases())?;
+    tell_cases(rt, a, answers, &full_joins::cases())?;
+    tell_cases(rt, a, answers, &other_joins::cases())?;
+    tell_cases(rt, a, answers, &semi_joins::cases())?;
+    tell_cases(rt, a, answers, &anti_joins::cases())?;
+    tell_cases(rt, a, answers, &scans::cases())?;
+    tell_cases(rt, a, answers, &nodes::cases())?;
+    tell_cases(rt, a, answers, &ledger::cases())?;
     Ok(())
 }
 
 /// The same under one hash for all keys.
-fn tell_hashed(a: Global, answers: &mut String, rows: &[Row]) -> Result<(), AllocError> {
-    for row in rows {
-        row.tell_hashed(a, answers)?;
+fn tell_hashed<T: Threads + Sync>(
+    rt: &T,
+    a: Global,
+    answers: &mut String,
+    cases: &[Case],
+) -> Result<(), AllocError> {
+    for case in cases {
+        told::tell_hashed(rt, a, answers, case)?;
     }
     Ok(())
 }
 
-fn tell_hashed_joins(a: Global, answers: &mut String) -> Result<(), AllocError> {
+fn tell_hashed_joins<T: Threads + Sync>(
+    rt: &T,
+    a: Global,
+    answers: &mut String,
+) -> Result<(), AllocError> {
     tell(answers, "under one hash for all keys")?;
-    tell_hashed(a, answers, &inner_joins::rows())?;
-    tell_hashed(a, answers, &keys::rows())?;
-    tell_hashed(a, answers, &full_joins::rows())?;
-    tell_hashed(a, answers, &other_joins::rows())?;
-    tell_hashed(a, answers, &semi_joins::rows())?;
-    tell_hashed(a, answers, &anti_joins::rows())?;
-    tell_hashed(a, answers, &ledger::rows())?;
+    tell_hashed(rt, a, answers, &inner_joins::cases())?;
+    tell_hashed(rt, a, answers, &keys::cases())?;
+    tell_hashed(rt, a, answers, &full_joins::cases())?;
+    tell_hashed(rt, a, answers, &other_joins::cases())?;
+    tell_hashed(rt, a, answers, &semi_joins::cases())?;
+    tell_hashed(rt, a, answers, &anti_joins::cases())?;
+    tell_hashed(rt, a, answers, &ledger::cases())?;
     Ok(())
 }
 
 /// What each case shows, and its answer.
-pub(crate) fn answers(alloc: Global) -> Result<String, AllocError> {
+pub(crate) fn answers<T: Threads + Sync>(rt: &T, alloc: Global) -> Result<String, AllocError> {
     let mut answers = String::new(alloc);
-    tell_plans(alloc, &mut answers)?;
-    tell_hashed_joins(alloc, &mut answers)?;
-    stopped::tell_stopped(alloc, &mut answers)?;
+    tell_plans(rt, alloc, &mut answers)?;
+    tell_hashed_joins(rt, alloc, &mut answers)?;
+    stopped::tell_stopped(rt, alloc, &mut answers)?;
     Ok(answers)
 }

@@ -3,8 +3,9 @@
 ghost use Rattle.std.specs.Prelude.{◌<◌};
 
 use pipe_cli::{JobReader, MemReader, MemWriter, RowWriter, run_program};
-use pipe_frame::{Bytes, List, NeverStop, OpenGate, StopCheck, Text};
+use pipe_frame::{Bytes, Gate, List, NeverStop, OpenGate, StopCheck, Text};
 use std::alloc::{AllocError, Global};
+use std::thread::Threads;
 
 /// How a run ended: its status, what it wrote, and what it noted.
 #[derive(Drop)]
@@ -38,48 +39,70 @@ pub fn reader(alloc: Global, text: &str, failing: Option<u64>) -> Result<MemRead
     Ok(MemReader::new(standard, List::new(alloc), 400, failing))
 }
 
-/// Runs the program by these words under a stop check. It writes in pieces of 5 bytes, of which one may fail.
-pub fn run_stopping<R: JobReader, C: StopCheck>(
+/// Runs the program by these words under a stop check and behind a gate. It writes in pieces of 5 bytes, of which one
+/// may fail.
+pub fn run_behind<T: Threads + Sync, R: JobReader, C: StopCheck, G: Gate + Sync>(
+    rt: &T,
     alloc: Global,
     words: &[&str],
     input: &mut R,
     failing: Option<u64>,
     stop: &mut C,
+    gate: &G,
 ) -> Result<Ended, AllocError> {
     let words = words_of(alloc, words)?;
     let mut out = MemWriter::new(alloc, 5, at_most_one(alloc, failing)?);
     let mut notes = MemWriter::new(alloc, 1000, List::new(alloc));
     let status = run_program(
+        rt,
         alloc,
         words.as_slice(),
         input,
         &mut out,
         &mut notes,
         stop,
-        &OpenGate,
+        gate,
     );
     Ok(Ended { status, out, notes })
 }
 
+/// The same behind a gate that is always open.
+pub fn run_stopping<T: Threads + Sync, R: JobReader, C: StopCheck>(
+    rt: &T,
+    alloc: Global,
+    words: &[&str],
+    input: &mut R,
+    failing: Option<u64>,
+    stop: &mut C,
+) -> Result<Ended, AllocError> {
+    run_behind(rt, alloc, words, input, failing, stop, &OpenGate)
+}
+
 /// The same, never stopped.
-pub fn run_words<R: JobReader>(
+pub fn run_words<T: Threads + Sync, R: JobReader>(
+    rt: &T,
     alloc: Global,
     words: &[&str],
     input: &mut R,
     failing: Option<u64>,
 ) -> Result<Ended, AllocError> {
-    run_stopping(alloc, words, input, failing, &mut NeverStop::new())
+    let mut stop = NeverStop::new();
+    run_stopping(rt, alloc, words, input, failing, &mut stop)
 }
 
 /// Runs the command `run` with no fault of the output.
-pub fn run<R: JobReader>(alloc: Global, input: &mut R) -> Result<Ended, AllocError> {
-    run_words(alloc, &["run"], input, None)
+pub fn run<T: Threads + Sync, R: JobReader>(
+    rt: &T,
+    alloc: Global,
+    input: &mut R,
+) -> Result<Ended, AllocError> {
+    run_words(rt, alloc, &["run"], input, None)
 }
 
 /// Runs the job of a text.
-pub fn run_text(alloc: Global, text: &str) -> Result<Ended, AllocError> {
+pub fn run_text<T: Threads + Sync>(rt: &T, alloc: Global, text: &str) -> Result<Ended, AllocError> {
     let mut input = reader(alloc, text, None)?;
-    run(alloc, &mut input)
+    run(rt, alloc, &mut input)
 }
 
 /// The first line of a text, and the others in the order of their bytes, since a join's rows have no order.
