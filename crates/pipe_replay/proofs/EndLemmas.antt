@@ -1,5 +1,5 @@
 -- A replay of the events of a plan without a fault ends with the plan's rows.
-use Rattle.std.proofs.Common.{◌≡◌, ℕ, zero, suc, ◌+◌, ◌<◌, ◌≤◌, Bool, true, false, cond, eqb, ◌||◌, length, List, [], ◌∷◌, map, refl, ap, sym, ◌∙◌, subst, arith, Option, Some, None, ◌⊎◌, inl, inr}
+use Rattle.std.proofs.Common.{◌≡◌, ℕ, zero, suc, ◌+◌, ◌<◌, ◌≤◌, Bool, true, false, cond, eqb, ◌||◌, length, List, [], ◌∷◌, take, map, refl, ap, sym, ◌∙◌, subst, arith, Option, Some, None, ◌⊎◌, inl, inr}
 use Rattle.std.specs.Prelude.{slice_index_or}
 use Rattle.std.specs.List.{list_any, range_with_len}
 use Rattle.std.proofs.lemmas.Bool.{cases_lt}
@@ -17,19 +17,21 @@ use Rattle.pipe_plan.specs.PlanRows.{rows_of}
 use Rattle.pipe_events.specs.Stages.{Stage, Union, Stages}
 use Rattle.pipe_events.specs.Worlds.{Event, World, start}
 use Rattle.pipe_events.specs.Schedules.{AllAllowed, run, GivesTheRows}
-use Rattle.pipe_events.specs.Decided.{all_allowed, is_complete}
+use Rattle.pipe_events.specs.Decided.{is_complete}
 use Rattle.pipe_events.specs.PlanStages.{stage_at, stages_of, IsSound}
 use Rattle.pipe_events.proofs.Tests.{any-never}
 use Rattle.pipe_events.proofs.WalkLemmas.{Decides-no}
 use Rattle.pipe_events.proofs.PlanLemmas.{every_of_a_plan}
 use Rattle.pipe_events.proofs.Deciding.{lists_decided, completeness_decided}
 use Rattle.pipe_events.proofs.Unfaulted.{without_fault}
+use Rattle.pipe_typing.specs.Fits.{FramesFit}
 use Rattle.pipe_typing.proofs.Plans.{sorts_sure}
 use Rattle.pipe_stages.specs.StageValues.{stage_value, stage_in}
 use Rattle.pipe_stages.specs.Staged.{IsStaged}
 use Rattle.pipe_stages.specs.declared.plan.StagedPlan.{StagedPlan}
-use Rattle.pipe_replay.specs.Replayed.{parted, replayed}
-use Rattle.pipe_replay.specs.Ends.{setting_of, IsRunnable, EndsWithin, CompletesWith}
+use Rattle.pipe_plan.specs.Faults.{plan_fault}
+use Rattle.pipe_replay.specs.Replayed.{parted, IsPlayed}
+use Rattle.pipe_replay.specs.Ends.{setting_of, HasTheRows}
 
 -- a node past the end is under none
 never-under : (nodes : List Node) (k s t : ℕ) → s ≤ k → walk false (reaches_at nodes k) s t ≡ false
@@ -69,30 +71,25 @@ module _ (hash_of : List ℕ → ℕ) (plan : Plan) (top many : ℕ) (made : Sta
     part = partition_of_key hash_of made.parts;
   }
 
-  module _ (some : 0 < made.parts) (runs : IsRunnable plan top) (events : List Event) where
+  module _ (some : 0 < made.parts) (none : plan_fault plan top ≡ None) (fit : FramesFit plan) where
     sound : IsSound plan top (setting_of hash_of made)
-    sound = let there = without_fault plan top runs.faultless in record {
+    sound = let there = without_fault plan top none in record {
       rooted = there.0;
       smaller = there.1;
-      one_list = sorts_sure plan top runs.faultless runs.frames;
+      one_list = sorts_sure plan top none fit;
       parted = λ key. mod_below (hash_of (equality_row key)) made.parts some;
     }
 
-    given : AllAllowed (parted hash_of made) start events → GivesTheRows (parted hash_of made) events (rows_of plan top)
-    given = subst (λ s. AllAllowed s start events → GivesTheRows s events (rows_of plan top)) (sym same-stages) (every_of_a_plan plan top (setting_of hash_of made) sound events)
+    given : (events : List Event) → AllAllowed (parted hash_of made) start events → GivesTheRows (parted hash_of made) events (rows_of plan top)
+    given events = subst (λ s. AllAllowed s start events → GivesTheRows s events (rows_of plan top)) (sym same-stages) (every_of_a_plan plan top (setting_of hash_of made) sound events)
 
-    pub ends-within : EndsWithin (parted hash_of made) (rows_of plan top) (replayed (parted hash_of made) start events)
-    ends-within =
+    pub has-the-rows : (events : List Event) (w : World) (count : ℕ) → IsPlayed (parted hash_of made) events w count → HasTheRows (parted hash_of made) (rows_of plan top) w
+    has-the-rows events w count played =
         let p = parted hash_of made in
-        elim (all_allowed p start events) as (λ b. all_allowed p start events ≡ b → EndsWithin p (rows_of plan top) (cond b (Some (run p start events)) None)) [
-          | true ↦ λ e. (given ((lists_decided p start events).0 e)).0
-          | false ↦ λ _. tt
-        ] refl
-
-    pub completes-with : CompletesWith (parted hash_of made) (rows_of plan top) (replayed (parted hash_of made) start events)
-    completes-with =
-        let p = parted hash_of made in
-        elim (all_allowed p start events) as (λ b. all_allowed p start events ≡ b → CompletesWith p (rows_of plan top) (cond b (Some (run p start events)) None)) [
-          | true ↦ λ e done. (given ((lists_decided p start events).0 e)).1 ((completeness_decided p (run p start events)).0 done)
-          | false ↦ λ _. tt
-        ] refl
+        let front = take count events in
+        let ends = given front ((lists_decided p start front).0 played.allowed) in
+        let here : HasTheRows p (rows_of plan top) (run p start front) = record {
+          within = ends.0;
+          whole = λ done. ends.1 ((completeness_decided p (run p start front)).0 done);
+        }
+        in subst (HasTheRows p (rows_of plan top)) (sym played.world) here

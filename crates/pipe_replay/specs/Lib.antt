@@ -2,9 +2,11 @@
 pub mod Marks
 -- the answer of a replay
 pub mod Replayed
--- the rows of a source
-pub mod Sources
+-- lists of sorts that are kept
+pub mod KeptLists
+-- columns whose cells fit their type
+pub mod Fitting
 -- sinks that are filled
 pub mod Sinks
--- what a replay ends with
+-- what a world of a plan has at its root
 pub mod Ends

@@ -7,12 +7,14 @@ ghost use Rattle.pipe_events.specs.Decided.{is_allowed as allows};
 ghost use Rattle.pipe_stages.specs.Staged.{staged};
 ghost use Rattle.pipe_world.specs.Shown.{world_of, IsFor};
 ghost use Rattle.pipe_world.specs.EventValues.{side_value};
+ghost use Rattle.pipe_replay.specs.KeptLists.{AreKept};
 ghost use Rattle.pipe_replay.specs.Replayed.{parted, AreBelow};
 
 use crate::emitting::emit;
 use crate::flushing::flushed_rows;
+use crate::lists::SortedLists;
 use crate::marking::{mark_all, mark_all_seen};
-use crate::sources::{picked_rows, source_rows_of};
+use crate::sources::picked_rows;
 use pipe_allowed::side_below;
 use pipe_frame::{List, Row, TryClone};
 use pipe_rows::KeyHasher;
@@ -24,6 +26,7 @@ use std::alloc::{AllocError, Global};
 pub(crate) fn take(
     alloc: Global,
     plan: &StagedPlan,
+    lists: &mut SortedLists,
     world: &mut World,
     worker: u32,
     source: usize,
@@ -31,12 +34,16 @@ pub(crate) fn take(
     amount: u32,
 ) -> Result<(), AllocError>
     requires within { source < length world.old.taken }
+    requires there { source < length lists.old }
+    requires kept { AreKept (staged plan.now) (world_of world.old).bag lists.old }
     ensures world { let event = worlds.Take worker source from amount in
         OnOk result (world_of world.new ≡ after (staged plan.now) (world_of world.old) event) }
     ensures nodes { (n : ℕ) → IsFor n world.old → OnOk result (IsFor n world.new) }
+    ensures kept { let bag = (world_of world.old).bag in
+        OnOk result (AreKept (staged plan.now) bag lists.new) }
 {
-    let source_rows = source_rows_of(alloc, world, plan.stage(source))?;
-    let rows = picked_rows(alloc, source_rows.as_slice(), from, amount)?;
+    lists.update(alloc, plan, world, source)?;
+    let rows = picked_rows(alloc, lists.source_rows(plan, source), from, amount)?;
     world.take(worker, source, from, amount, rows)
 }
 

@@ -7,11 +7,14 @@
 
 mod changing;
 mod emitting;
+mod fitting;
 mod flushing;
 mod key_bytes;
+mod lists;
 mod marking;
 mod marks;
 mod replaying;
 mod sources;
 
+pub use lists::SortedLists;
 pub use replaying::{Played, StepAnswer, play, replay, root_bag, step};
