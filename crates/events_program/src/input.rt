@@ -1,0 +1,119 @@
+//! Events, read from values.
+
+use crate::keys::key_of;
+use pipe_frame::{List, Row};
+use pipe_stages::{Stage, StagedPlan};
+use pipe_world::{Event, Side};
+use serde_json::Value;
+use std::alloc::{AllocError, Global};
+
+/// The number at a place of an array.
+fn number_at(items: &[Value], place: usize) -> Option<u32> {
+    match u32::try_from(items.get(place)?.as_u64()?) {
+        Ok(n) => Some(n),
+        Err(_) => None,
+    }
+}
+
+/// The side that a word names.
+fn side_of(word: &str) -> Option<Side> {
+    match word {
+        "Sort" => Some(Side::Sort),
+        "Build" => Some(Side::Build),
+        "Probe" => Some(Side::Probe),
+        _ => None,
+    }
+}
+
+/// A take.
+fn take_of(items: &[Value]) -> Option<Event> {
+    Some(Event::Take {
+        worker: number_at(items, 1)?,
+        source: number_at(items, 2)?,
+        from: number_at(items, 3)?,
+        count: number_at(items, 4)?,
+    })
+}
+
+/// A closing.
+fn close_of(items: &[Value]) -> Option<Event> {
+    Some(Event::Close {
+        node: number_at(items, 1)?,
+        side: side_of(items.get(2)?.as_str()?)?,
+    })
+}
+
+/// A flush.
+fn flush_of(items: &[Value]) -> Option<Event> {
+    Some(Event::Flush {
+        worker: number_at(items, 1)?,
+        join: number_at(items, 2)?,
+        part: number_at(items, 3)?,
+    })
+}
+
+/// The key at a join that some values spell, none where there is no join.
+fn key_at(
+    alloc: Global,
+    plan: &StagedPlan,
+    join: u32,
+    values: &[Value],
+) -> Result<Row, AllocError> {
+    match plan.stage(join as usize) {
+        Stage::Joined(join) => key_of(alloc, &join, values),
+        _ => Ok(Row::new(alloc)),
+    }
+}
+
+/// A mark.
+fn mark_of(alloc: Global, plan: &StagedPlan, items: &[Value]) -> Result<Option<Event>, AllocError> {
+    let (Some(worker), Some(join)) = (number_at(items, 1), number_at(items, 2)) else {
+        return Ok(None);
+    };
+    match items.get(3) {
+        Some(Value::Array(values)) => {
+            let key = key_at(alloc, plan, join, values.as_slice())?;
+            Ok(Some(Event::Mark { worker, join, key }))
+        }
+        _ => Ok(None),
+    }
+}
+
+/// The event that the items of an array spell.
+fn event_of(
+    alloc: Global,
+    plan: &StagedPlan,
+    items: &[Value],
+) -> Result<Option<Event>, AllocError> {
+    match items.first() {
+        Some(Value::String(word)) => match word.as_str() {
+            "Take" => Ok(take_of(items)),
+            "Mark" => mark_of(alloc, plan, items),
+            "Emit" => Ok(number_at(items, 1).map(|worker| Event::Emit { worker })),
+            "Done" => Ok(number_at(items, 1).map(|worker| Event::Done { worker })),
+            "Close" => Ok(close_of(items)),
+            "Flush" => Ok(flush_of(items)),
+            _ => Ok(None),
+        },
+        _ => Ok(None),
+    }
+}
+
+/// The events that values spell, up to the first that spells none.
+pub(crate) fn events_of(
+    alloc: Global,
+    plan: &StagedPlan,
+    values: &[Value],
+) -> Result<List<Event>, AllocError> {
+    let mut events = List::new(alloc);
+    for value in values {
+        let Value::Array(items) = value else {
+            return Ok(events);
+        };
+        match event_of(alloc, plan, items.as_slice())? {
+            Some(event) => events.push(event)?,
+            None => return Ok(events),
+        }
+    }
+    Ok(events)
+}
