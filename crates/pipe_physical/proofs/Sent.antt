@@ -5,10 +5,10 @@ use denote.Param.Send.{IsSend, IsSync, plain_send, plain_sync, struct_send, stru
 use denote.Struct.Declared.{shape}
 use Rattle.std.below.std_heap.proofs.GlobalAllocator.TheSendSync as frees
 use Rattle.std.proofs.alloc.Global.TheSendSync as global
-use Rattle.core.proofs.marker.PhantomData.TheSendSync as phantom
-use Rattle.core.specs.contracts.option.Option as Option
+use Rattle.std.proofs.marker.PhantomData.TheSendSync as phantom
+use Rattle.std.specs.contracts.option.Option as Option
 use Rattle.pipe_frame.specs.contracts.text.Text as Text
-use Rattle.core.proofs.option.Option.TheSendSync as option
+use Rattle.std.proofs.option.Option.TheSendSync as option
 use Rattle.std.proofs.boxed.Box.TheSendSync as box
 use Rattle.std.proofs.sync.Arc.TheSendSync as arc
 use Rattle.std.specs.contracts.alloc.Global as Global
