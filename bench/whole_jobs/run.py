@@ -44,16 +44,26 @@ MILLER = {
 }
 
 
+# Runs its words, and tells the peak of memory. A process of its own: a child's peak counts what its parent held.
+PEAK = "import os, subprocess, sys; run = subprocess.Popen(sys.argv[1:]); print(os.wait4(run.pid, 0)[2].ru_maxrss, file=sys.stderr)"
+
+
 def timed(command, job, lines):
-    """The seconds of one run, and its peak of memory in bytes."""
+    """The seconds of one run."""
     with open(job, "rb") as source, open(lines, "wb") as sink:
         start = time.perf_counter()
-        run = subprocess.Popen(command, stdin=source, stdout=sink)
-        _, status, used = os.wait4(run.pid, 0)
+        status = subprocess.run(command, stdin=source, stdout=sink).returncode
         seconds = time.perf_counter() - start
     if status != 0:
-        sys.exit(f"{' '.join(map(str, command))} ended with {os.waitstatus_to_exitcode(status)}")
-    return seconds, used.ru_maxrss * 1024
+        sys.exit(f"{' '.join(map(str, command))} ended with {status}")
+    return seconds
+
+
+def peak_of(job):
+    """The program's peak of memory for a job, in bytes."""
+    with open(job, "rb") as source:
+        run = subprocess.run([sys.executable, "-c", PEAK, PROGRAM, "run"], stdin=source, stdout=subprocess.DEVNULL, stderr=subprocess.PIPE)
+    return int(run.stderr) * 1024
 
 
 def text_of(cell):
@@ -123,22 +133,20 @@ def compare(name, work, folder, found, given):
     files = write_frames(made, name, folder)
     commands = {"liskevar": [PROGRAM, "run"], **{peer: command(name, files) for peer, command in found.items()}}
     ordered = made["plan"][-1]["node"] == "Sort"
-    seconds, answers, peak = collections.defaultdict(list), {}, 0
+    seconds, answers = collections.defaultdict(list), {}
     for _ in range(given.turns):
         for peer, command in commands.items():
             if command is None:
                 continue
             lines = folder / f"{name}.{peer}"
-            taken, used = timed(command, job, lines)
-            peak = max(peak, used) if peer == "liskevar" else peak
-            seconds[peer].append(taken)
+            seconds[peer].append(timed(command, job, lines))
             answers[peer] = answer(lines, ordered, peer in ("pandas", "data.table", "miller"))
     differing = [peer for peer, it in answers.items() if it != answers["liskevar"]]
     if differing:
         sys.exit(f"{name}: the rows of {', '.join(differing)} differ from the program's")
     medians = {peer: statistics.median(it) for peer, it in seconds.items()}
     rows = len(answers["liskevar"][1]) if ordered else answers["liskevar"][1].total()
-    cells = [name, f"{len(text) / 2**20:.1f}", str(rows), f"{peak / len(text):.1f}", f"{medians['liskevar']:.3f}"]
+    cells = [name, f"{len(text) / 2**20:.1f}", str(rows), f"{peak_of(job) / len(text):.1f}", f"{medians['liskevar']:.3f}"]
     for peer in found:
         cells += [f"{medians[peer]:.3f}", f"{medians['liskevar'] / medians[peer]:.2f}"] if peer in medians else ["", ""]
     return cells
