@@ -104,7 +104,8 @@ impl Cutter {
 fn visit(alloc: Global, nodes: &[IR], cutter: &mut Cutter, n: u32) -> Result<(), AllocError>
     requires down { goes_down (map node_of nodes.now) n ≡ true }
     requires room { HasRoom cutter.old n }
-    ensures { OnOk result (cutter.new ≡ take_paths cutter.old (paths_of (map node_of nodes.now) n)) }
+    ensures { OnOk result
+        (cutter.new ≡ take_paths cutter.old (paths_of (map node_of nodes.now) n)) }
 {
     let node = &nodes[n as usize];
     match turn_at_node(node) {

@@ -78,7 +78,8 @@ pub(crate) fn texts_of_branches(
     nodes: &[IR],
     branches: &[Branch],
 ) -> Result<List<Text>, AllocError>
-    ensures { IfOk result (λ texts. texts ≡ map (branch_text (map node_of nodes.now)) branches.now) }
+    ensures { IfOk result
+        (λ texts. texts ≡ map (branch_text (map node_of nodes.now)) branches.now) }
 {
     let mut texts = List::new(alloc);
     for branch in branches {

@@ -59,7 +59,8 @@ pub fn join_spec(
     right_on: &[Expr],
     options: &JoinOptions,
 ) -> Result<JoinSpec, AllocError>
-    requires { IsNode plan.now n (node.Join left right (formulas_of left_on.now) (formulas_of right_on.now) options.now) }
+    requires { IsNode plan.now n
+        (node.Join left right (formulas_of left_on.now) (formulas_of right_on.now) options.now) }
     ensures good { IfOk result IsSpec }
     ensures settings { let left_schema = schema_in plan.now left in
         let right_schema = schema_in plan.now right in

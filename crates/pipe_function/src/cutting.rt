@@ -57,7 +57,9 @@ impl Cutting {
         height: u32,
     ) -> Result<Option<(u32, u32)>, AllocError>
         ensures size { self.new.size ≡ self.old.size }
-        ensures first { IfOk result (λ p. IsFirst (begun_pieces self.old.size height self.old.pieces.items) p self.new.pieces.items) }
+        ensures first { IfOk result
+            (λ p. IsFirst (begun_pieces self.old.size height self.old.pieces.items) p
+            self.new.pieces.items) }
     {
         if self.pieces.is_empty() {
             let count = height / self.size;

@@ -142,12 +142,19 @@ impl Operator for FunctionOperator {
         requires takes { Applies self.old.function chunk.now.frame.schema }
         requires size { length chunk.now.frame.rows ≤ 4294967294 }
         requires ready { Fits self.old.function (pieces_of self.old) (length chunk.now.frame.rows) }
-        ensures takes { (s : List Field) → Applies self.old.function s → Applies self.new.function s }
-        ensures output { ◌≡◌ {A = List Field → List Field} (λ s. function_fields self.new.function s) (λ s. function_fields self.old.function s) }
-        ensures each { ◌≡◌ {A = List Field → Unit {0} → Row → List Row} (λ s u. function_rows self.new.function s) (λ s u. function_rows self.old.function s) }
+        ensures takes { (s : List Field) → Applies self.old.function s →
+            Applies self.new.function s }
+        ensures output { ◌≡◌ {A = List Field → List Field}
+            (λ s. function_fields self.new.function s) (λ s. function_fields self.old.function s) }
+        ensures each { ◌≡◌ {A = List Field → Unit {0} → Row → List Row}
+            (λ s u. function_rows self.new.function s) (λ s u. function_rows self.old.function s) }
         ensures piece { IfOk result (IsPieceOf (function_fields self.old.function) chunk.now) }
-        ensures gives { IfOk result (Pays (owed_of self.old.function (pieces_of self.old) chunk.now.frame) (owed_of self.new.function (pieces_of self.new) chunk.now.frame)) }
-        ensures more { IfOk result (λ r. is_more r ≡ true → Fits self.new.function (pieces_of self.new) (length chunk.now.frame.rows)) }
+        ensures gives { IfOk result
+            (Pays (owed_of self.old.function (pieces_of self.old) chunk.now.frame)
+            (owed_of self.new.function (pieces_of self.new) chunk.now.frame)) }
+        ensures more { IfOk result
+            (λ r. is_more r ≡ true →
+            Fits self.new.function (pieces_of self.new) (length chunk.now.frame.rows)) }
         ensures done { IfOk result (λ r. is_more r ≡ false → pieces_of self.new ≡ []) }
         ensures turns { IfOk result (Turns (turn_for self.old chunk.now) self.new) }
     {

@@ -38,7 +38,8 @@ pub(crate) fn repeated_places(
 
 /// Adds some names.
 fn push_names(column: &mut StringColumn, names: &[Text]) -> Result<(), AllocError>
-    ensures { OnOk result (map string_cell column.new ≡ map string_cell column.old ++ map name_cell names.now) }
+    ensures { OnOk result
+        (map string_cell column.new ≡ map string_cell column.old ++ map name_cell names.now) }
 {
     for name in names {
         column.push(Some(name.as_str()))?;
@@ -54,7 +55,8 @@ pub(crate) fn repeated_names(
     names: &[Text],
     height: usize,
 ) -> Result<Series, AllocError>
-    ensures { IfOk result (λ column. column ≡ named_cells name DataType.String (repeated_cells names.now height)) }
+    ensures { IfOk result
+        (λ column. column ≡ named_cells name DataType.String (repeated_cells names.now height)) }
 {
     let mut column = StringColumn::new(alloc);
     for _ in 0..height {

@@ -41,7 +41,8 @@ fn flattened_values<T: Native>(
 ) -> Result<Series, AllocError>
     requires typed { AllByRecursion (HasType T.dtype_of) columns.now }
     requires even { AllOfHeight height columns.now }
-    ensures { IfOk result (λ column. column ≡ named_cells name T.dtype_of (flat_cells columns.now height)) }
+    ensures { IfOk result
+        (λ column. column ≡ named_cells name T.dtype_of (flat_cells columns.now height)) }
 {
     let mut made = Column::new(alloc);
     for i in 0..height {
@@ -54,7 +55,8 @@ fn flattened_values<T: Native>(
 #[tactic(auto, using(crate::proofs::Flat::flat_rules))]
 fn push_texts(made: &mut StringColumn, columns: &[Series], i: usize) -> Result<(), AllocError>
     requires { AllByRecursion (HasCell DataType.String i) columns.now }
-    ensures { OnOk result (map string_cell made.new ≡ map string_cell made.old ++ row_at columns.now i) }
+    ensures { OnOk result
+        (map string_cell made.new ≡ map string_cell made.old ++ row_at columns.now i) }
 {
     for column in columns {
         match column.as_string() {
@@ -75,7 +77,8 @@ fn flattened_texts(
 ) -> Result<Series, AllocError>
     requires typed { AllByRecursion (HasType DataType.String) columns.now }
     requires even { AllOfHeight height columns.now }
-    ensures { IfOk result (λ column. column ≡ named_cells name DataType.String (flat_cells columns.now height)) }
+    ensures { IfOk result
+        (λ column. column ≡ named_cells name DataType.String (flat_cells columns.now height)) }
 {
     let mut made = StringColumn::new(alloc);
     for i in 0..height {
@@ -88,7 +91,8 @@ fn flattened_texts(
 #[tactic(auto, using(crate::proofs::Flat::flat_rules))]
 fn push_bytes(made: &mut BinaryColumn, columns: &[Series], i: usize) -> Result<(), AllocError>
     requires { AllByRecursion (HasCell DataType.Binary i) columns.now }
-    ensures { OnOk result (map binary_cell made.new ≡ map binary_cell made.old ++ row_at columns.now i) }
+    ensures { OnOk result
+        (map binary_cell made.new ≡ map binary_cell made.old ++ row_at columns.now i) }
 {
     for column in columns {
         match column.as_binary() {
@@ -109,7 +113,8 @@ fn flattened_bytes(
 ) -> Result<Series, AllocError>
     requires typed { AllByRecursion (HasType DataType.Binary) columns.now }
     requires even { AllOfHeight height columns.now }
-    ensures { IfOk result (λ column. column ≡ named_cells name DataType.Binary (flat_cells columns.now height)) }
+    ensures { IfOk result
+        (λ column. column ≡ named_cells name DataType.Binary (flat_cells columns.now height)) }
 {
     let mut made = BinaryColumn::new(alloc);
     for i in 0..height {
@@ -128,7 +133,8 @@ pub(crate) fn flattened(
 ) -> Result<Series, AllocError>
     requires typed { AllByRecursion (HasType dtype) columns.now }
     requires even { AllOfHeight height columns.now }
-    ensures { IfOk result (λ column. column ≡ named_cells name dtype (flat_cells columns.now height)) }
+    ensures { IfOk result
+        (λ column. column ≡ named_cells name dtype (flat_cells columns.now height)) }
 {
     match dtype {
         DataType::Int32 => flattened_values::<i32>(alloc, name, columns, height, 0),

@@ -29,7 +29,9 @@ fn unpivoted_columns(
     requires reads { ReadsColumns on.now index.now frame.now.schema }
     requires there { from + count ≤ length frame.now.rows }
     requires size { length frame.now.rows ≤ 4294967294 }
-    ensures { IfOk result (λ v. v.items ≡ unpivot_columns on.now index.now variable.now value.now frame.now from count) }
+    ensures { IfOk result
+        (λ v. v.items ≡
+        unpivot_columns on.now index.now variable.now value.now frame.now from count) }
 {
     let rows = repeated_places(alloc, from, count, 1)?;
     let chosen = named_columns(alloc, frame, on, rows.as_slice())?;

@@ -119,7 +119,8 @@ pub(crate) fn push_quoted(out: &mut Vec<u8>, text: &str) -> Result<(), AllocErro
 /// Appends a lower-case hexadecimal digit, which stands for itself in a JSON string.
 fn push_digit(out: &mut Vec<u8>, value: u8) -> Result<(), AllocError>
     requires { value < 16 }
-    ensures { OnOk result (out.new.items ≡ out.old.items ++ escape_byte (slice_index lower_digits value)) }
+    ensures { OnOk result
+        (out.new.items ≡ out.old.items ++ escape_byte (slice_index lower_digits value)) }
 {
     push_byte(out, DIGITS[value as usize])
 }
@@ -175,7 +176,8 @@ fn push_boolean(out: &mut Vec<u8>, x: Option<bool>) -> Result<(), AllocError>
 
 /// Appends a text, or null.
 fn push_string(out: &mut Vec<u8>, x: Option<&str>) -> Result<(), AllocError>
-    ensures { OnOk result (out.new.items ≡ out.old.items ++ text_or_null quoted (option_copied x.entry)) }
+    ensures { OnOk result
+        (out.new.items ≡ out.old.items ++ text_or_null quoted (option_copied x.entry)) }
 {
     match x {
         Some(text) => push_quoted(out, text),
@@ -185,7 +187,8 @@ fn push_string(out: &mut Vec<u8>, x: Option<&str>) -> Result<(), AllocError>
 
 /// Appends bytes as a text of hexadecimal digits, or null.
 fn push_binary(out: &mut Vec<u8>, x: Option<&[u8]>) -> Result<(), AllocError>
-    ensures { OnOk result (out.new.items ≡ out.old.items ++ text_or_null quoted_hex (option_copied x.entry)) }
+    ensures { OnOk result
+        (out.new.items ≡ out.old.items ++ text_or_null quoted_hex (option_copied x.entry)) }
 {
     match x {
         Some(bytes) => {
@@ -208,7 +211,9 @@ pub(crate) fn push_comma(out: &mut Vec<u8>, later: bool) -> Result<(), AllocErro
 #[tactic(auto, using(crate::proofs::Texts::cell_rules))]
 pub(crate) fn push_cell(out: &mut Vec<u8>, column: &Series, i: usize) -> Result<(), AllocError>
     requires { i < length column.now.cells }
-    ensures { OnOk result (out.new.items ≡ out.old.items ++ compact_text (cell_spelling (cell_at column.now.cells i))) }
+    ensures { OnOk result
+        (out.new.items ≡
+        out.old.items ++ compact_text (cell_spelling (cell_at column.now.cells i))) }
 {
     if let Some(cells) = column.as_column::<i32>() {
         return push_number(out, cells.at(i));

@@ -96,7 +96,8 @@ impl Spelled for DataType {
 
 /// The cell of a type that a value spells.
 pub(crate) fn cell_of(alloc: Global, dtype: DataType, value: &Value) -> Result<AnyValue, Misread>
-    ensures { ReadWhere (is_cell dtype (view value.now)) (λ x. (view value.now ≡ cell_spelling x) × FitsType dtype x) result }
+    ensures { ReadWhere (is_cell dtype (view value.now))
+        (λ x. (view value.now ≡ cell_spelling x) × FitsType dtype x) result }
 {
     if value.is_null() {
         return Ok(AnyValue::Null);

@@ -50,7 +50,8 @@ fn values_of<T: Spelled + Copy>(
 
 /// The text that a value spells, or none of null.
 fn text_of(value: &Value) -> Result<Option<&str>, Misread>
-    ensures { ReadWhere (is_maybe is_text (view value.now)) (λ text. view value.now ≡ maybe string (option_copied text)) result }
+    ensures { ReadWhere (is_maybe is_text (view value.now))
+        (λ text. view value.now ≡ maybe string (option_copied text)) result }
 {
     match value {
         Value::Null => Ok(None),
@@ -61,7 +62,8 @@ fn text_of(value: &Value) -> Result<Option<&str>, Misread>
 
 /// The column of texts that a value spells.
 fn texts_of(alloc: Global, value: &Value) -> Result<StringColumn, Misread>
-    ensures { ReadWhere (is_list (is_maybe is_text) (view value.now)) (λ column. view value.now ≡ list (maybe string) column) result }
+    ensures { ReadWhere (is_list (is_maybe is_text) (view value.now))
+        (λ column. view value.now ≡ list (maybe string) column) result }
 {
     let Value::Array(values) = value else {
         return Err(Misread::Other);

@@ -19,7 +19,8 @@ use std::alloc::{AllocError, Global};
 
 /// The literal that a value spells.
 fn literal_of(alloc: Global, value: &Value) -> Result<Expr, Misread>
-    ensures { ReadWhere (is_literal (view value.now)) (λ x. (expr_spelling x ≡ single (codes "lit") (view value.now)) × ExprFits x) result }
+    ensures { ReadWhere (is_literal (view value.now))
+        (λ x. (expr_spelling x ≡ single (codes "lit") (view value.now)) × ExprFits x) result }
 {
     let mut members = Members::of(value)?;
     let dtype = members.field::<DataType>(alloc, "type")?;
@@ -31,7 +32,8 @@ fn literal_of(alloc: Global, value: &Value) -> Result<Expr, Misread>
 
 /// The column that a value names.
 fn column_of(alloc: Global, value: &Value) -> Result<Expr, Misread>
-    ensures { ReadWhere (is_text (view value.now)) (λ x. (expr_spelling x ≡ single (codes "col") (view value.now)) × ExprFits x) result }
+    ensures { ReadWhere (is_text (view value.now))
+        (λ x. (expr_spelling x ≡ single (codes "col") (view value.now)) × ExprFits x) result }
 {
     Ok(Expr::Col(Text::read(alloc, value)?))
 }

@@ -19,7 +19,8 @@ use std::alloc::Global;
 #[tactic(auto, using(crate::proofs::FrameTests::frame_rules))]
 fn frame_of(alloc: Global, columns: Vec<Series>) -> Result<DataFrame, Misread>
     requires { AllByRecursion ColumnFits columns.items }
-    ensures { ReadWhere (is_table (list column_spelling columns.items)) (IsFrameOf columns.items) result }
+    ensures { ReadWhere (is_table (list column_spelling columns.items))
+        (IsFrameOf columns.items) result }
 {
     match DataFrame::new(alloc, columns) {
         Ok(frame) => Ok(frame),

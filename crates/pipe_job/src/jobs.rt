@@ -50,7 +50,8 @@ struct JobBack {
 
 /// The last members of a job, from its row limit on.
 fn back_of(alloc: Global, members: &mut Members) -> Result<JobBack, Misread>
-    ensures { ReadWhere (is_job_back (members_view members.old.rest)) (IsJobBack (members_view members.old.rest)) result }
+    ensures { ReadWhere (is_job_back (members_view members.old.rest))
+        (IsJobBack (members_view members.old.rest)) result }
 {
     let row_limit = members.field::<u32>(alloc, "row_limit")?;
     let version = version_of(members.take("version")?)?;
@@ -99,8 +100,10 @@ impl Spelled for Job {
 /// The job that a value spells, none exactly where it spells no job.
 #[tactic(auto, using(crate::proofs::Again::no_task))]
 pub fn job_of(alloc: Global, value: &Value) -> Result<Option<Job>, AllocError>
-    ensures found { IfOk result (λ found. IfSome found (λ job. Spells (view value.now) (task_of job))) }
-    ensures none { IfOk result (λ found. IfNone found ((task : Task) → Spells (view value.now) task → ⊥)) }
+    ensures found { IfOk result
+        (λ found. IfSome found (λ job. Spells (view value.now) (task_of job))) }
+    ensures none { IfOk result
+        (λ found. IfNone found ((task : Task) → Spells (view value.now) task → ⊥)) }
 {
     match Job::read(alloc, value) {
         Ok(job) => if job.version == 1 && arena_has_int128(&job.arena) {

@@ -29,7 +29,8 @@ pub(crate) enum Kind {
 impl Kind {
     /// The kind of a name.
     fn named(name: &str) -> Option<Kind>
-        ensures { MatchOption result (contains_text node_words name.now ≡ false) (λ kind. name.now ≡ kind_name kind) }
+        ensures { MatchOption result (contains_text node_words name.now ≡ false)
+            (λ kind. name.now ≡ kind_name kind) }
     {
         match name {
             "DataFrameScan" => Some(Kind::DataFrameScan),

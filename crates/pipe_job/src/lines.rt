@@ -14,7 +14,8 @@ use std::alloc::{AllocError, Global};
 
 /// Appends the array of some fields' names.
 fn push_names(out: &mut Vec<u8>, fields: &[Field]) -> Result<(), AllocError>
-    ensures { OnOk result (out.new.items ≡ out.old.items ++ compact_text (list string (names_of fields.now))) }
+    ensures { OnOk result
+        (out.new.items ≡ out.old.items ++ compact_text (list string (names_of fields.now))) }
 {
     push_byte(out, b'[')?;
     let mut later = false;
@@ -35,7 +36,9 @@ fn push_cells(
 ) -> Result<(), AllocError>
     requires inside { i < height }
     requires even { AllOfHeight height columns.now }
-    ensures { OnOk result (out.new.items ≡ out.old.items ++ compact_text (list cell_spelling (row_at columns.now i))) }
+    ensures { OnOk result
+        (out.new.items ≡
+        out.old.items ++ compact_text (list cell_spelling (row_at columns.now i))) }
 {
     push_byte(out, b'[')?;
     let mut later = false;

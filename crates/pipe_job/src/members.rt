@@ -21,7 +21,8 @@ pub(crate) struct Members<'a> {
 impl<'a> Members<'a> {
     /// The members of a value that is an object.
     pub(crate) fn of(value: &'a Value) -> Result<Members<'a>, Misread>
-        ensures { ReadWhere (is_object (view value.now)) (λ m. view value.now ≡ object (members_view m.rest)) result }
+        ensures { ReadWhere (is_object (view value.now))
+            (λ m. view value.now ≡ object (members_view m.rest)) result }
     {
         match value {
             Value::Object(members) => Ok(Members {
@@ -70,7 +71,8 @@ impl<'a> Members<'a> {
 
     /// Takes no member, where there is none.
     pub(crate) fn end(&mut self) -> Result<(), Misread>
-        ensures { ReadWhere (is_end (members_view self.old.rest)) (λ _. members_view self.old.rest ≡ no_members) result }
+        ensures { ReadWhere (is_end (members_view self.old.rest))
+            (λ _. members_view self.old.rest ≡ no_members) result }
     {
         match self.rest.next() {
             None => Ok(()),
@@ -81,7 +83,8 @@ impl<'a> Members<'a> {
 
 /// The name and the value of an object's one member.
 pub(crate) fn only_member(value: &Value) -> Result<(&str, &Value), Misread>
-    ensures { ReadWhere (is_single (view value.now)) (λ p. view value.now ≡ object (member p.0.now (view p.1.now) no_members)) result }
+    ensures { ReadWhere (is_single (view value.now))
+        (λ p. view value.now ≡ object (member p.0.now (view p.1.now) no_members)) result }
 {
     let mut members = Members::of(value)?;
     match members.rest.next() {
@@ -96,7 +99,8 @@ pub(crate) fn only_member(value: &Value) -> Result<(&str, &Value), Misread>
 /// The items of an array of two.
 #[tactic(auto, using(crate::proofs::Depths::two_of, crate::proofs::Depths::not_two))]
 pub(crate) fn two_items(value: &Value) -> Result<(&Value, &Value), Misread>
-    ensures { ReadWhere (is_couple (view value.now)) (λ p. view value.now ≡ array (item (view p.0.now) (item (view p.1.now) no_items))) result }
+    ensures { ReadWhere (is_couple (view value.now))
+        (λ p. view value.now ≡ array (item (view p.0.now) (item (view p.1.now) no_items))) result }
 {
     match value.as_array() {
         Some(items) if items.len() == 2 => Ok((&items[0], &items[1])),

@@ -111,7 +111,8 @@ fn projection_of(alloc: Global, value: &Value) -> Result<IR, Misread>
 /// The selection that a value spells.
 #[tactic(auto, using(crate::proofs::Formulas::formula_lists))]
 fn select_of(alloc: Global, value: &Value) -> Result<IR, Misread>
-    ensures { ReadWhere (is_exprs (codes "Select") (view value.now)) (IsNode (view value.now)) result }
+    ensures { ReadWhere (is_exprs (codes "Select") (view value.now))
+        (IsNode (view value.now)) result }
 {
     let mut members = Members::of(value)?;
     let exprs = members.field::<List<NamedExpr>>(alloc, "exprs")?;
@@ -124,7 +125,8 @@ fn select_of(alloc: Global, value: &Value) -> Result<IR, Misread>
 /// The extension that a value spells.
 #[tactic(auto, using(crate::proofs::Formulas::formula_lists))]
 fn hstack_of(alloc: Global, value: &Value) -> Result<IR, Misread>
-    ensures { ReadWhere (is_exprs (codes "HStack") (view value.now)) (IsNode (view value.now)) result }
+    ensures { ReadWhere (is_exprs (codes "HStack") (view value.now))
+        (IsNode (view value.now)) result }
 {
     let mut members = Members::of(value)?;
     let exprs = members.field::<List<NamedExpr>>(alloc, "exprs")?;

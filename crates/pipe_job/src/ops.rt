@@ -19,7 +19,8 @@ pub(crate) enum Unary {
 impl Unary {
     /// The operator of a name.
     pub(crate) fn named(name: &str) -> Option<Unary>
-        ensures { MatchOption result (contains_text unary_words name.now ≡ false) (λ op. name.now ≡ unary_name op) }
+        ensures { MatchOption result (contains_text unary_words name.now ≡ false)
+            (λ op. name.now ≡ unary_name op) }
     {
         match name {
             "not" => Some(Unary::Not),
@@ -31,7 +32,8 @@ impl Unary {
 
     /// The operator on an expression.
     pub(crate) fn on(self, inner: Box<Expr>) -> Expr
-        ensures spelled { expr_spelling result ≡ single (unary_name self) (expr_spelling inner.value) }
+        ensures spelled { expr_spelling result ≡
+            single (unary_name self) (expr_spelling inner.value) }
         ensures fits { ExprFits inner.value → ExprFits result }
     {
         match self {
@@ -61,7 +63,8 @@ pub(crate) enum Binary {
 impl Binary {
     /// The operator of a name.
     pub(crate) fn named(name: &str) -> Option<Binary>
-        ensures { MatchOption result (contains_text binary_words name.now ≡ false) (λ op. name.now ≡ binary_name op) }
+        ensures { MatchOption result (contains_text binary_words name.now ≡ false)
+            (λ op. name.now ≡ binary_name op) }
     {
         match name {
             "add" => Some(Binary::Add),
@@ -81,7 +84,9 @@ impl Binary {
 
     /// The operator on two expressions.
     pub(crate) fn on(self, left: Box<Expr>, right: Box<Expr>) -> Expr
-        ensures spelled { expr_spelling result ≡ single (binary_name self) (couple (expr_spelling left.value) (expr_spelling right.value)) }
+        ensures spelled { expr_spelling result ≡
+            single (binary_name self)
+            (couple (expr_spelling left.value) (expr_spelling right.value)) }
         ensures fits { ExprFits left.value → ExprFits right.value → ExprFits result }
     {
         match self {

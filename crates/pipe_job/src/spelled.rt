@@ -96,7 +96,8 @@ impl Spelled for i32 {
 /// The number of 128 bits whose decimal text this is.
 #[tactic(auto, using(crate::proofs::Decimals::decimal_rules))]
 fn decimal_of(text: &str) -> Result<i128, Misread>
-    ensures { ReadWhere (is_decimal (string text.now)) (λ z. (string text.now ≡ decimal_spelling z) × FitsSigned w128 z) result }
+    ensures { ReadWhere (is_decimal (string text.now))
+        (λ z. (string text.now ≡ decimal_spelling z) × FitsSigned w128 z) result }
 {
     let Ok(z) = i128::from_str_radix(text, 10) else {
         return Err(Misread::Other);

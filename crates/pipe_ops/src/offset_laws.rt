@@ -11,10 +11,12 @@ pub fn split_pieces_cover()
 
 /// Joined pieces cover what the pieces covered.
 pub fn joined_pieces_cover()
-    ensures { (at end : ℕ) (ps : List (ℕ × ℕ)) → Covers at ps end → Covers at (joined_pieces ps) end }
+    ensures { (at end : ℕ) (ps : List (ℕ × ℕ)) → Covers at ps end →
+        Covers at (joined_pieces ps) end }
 {}
 
 /// Pieces that cover some rows have each of them once, in order.
 pub fn covered_rows_are_all()
-    ensures { (rows : List Cells) (ps : List (ℕ × ℕ)) → Covers 0 ps (length rows) → rows_in rows ps ≡ rows }
+    ensures { (rows : List Cells) (ps : List (ℕ × ℕ)) → Covers 0 ps (length rows) →
+        rows_in rows ps ≡ rows }
 {}

@@ -82,7 +82,8 @@ pub trait Operator: Send + Sync + Sized {
         ensures each { each self.new ≡ each self.old }
         ensures piece { IfOk result (IsPieceOf (output self.old) chunk.now) }
         ensures gives { IfOk result (Gives (rest self.old) (rest self.new) shared.now chunk.now) }
-        ensures more { IfOk result (λ r. is_more r ≡ true → ready self.new shared.now chunk.now.frame) }
+        ensures more { IfOk result
+            (λ r. is_more r ≡ true → ready self.new shared.now chunk.now.frame) }
         ensures done { IfOk result (λ r. is_more r ≡ false → idle self.new) };
 
     /// The next piece of a flush, under the index 0; `NeedsNewData` where none is due.
@@ -103,8 +104,10 @@ pub trait Operator: Send + Sync + Sized {
         ensures piece { IfOk result (AnswersUnder (flushed self.old) 0) }
         ensures gives { IfOk result (Flushes (owed self.old) (owed self.new) shared.now) }
         ensures more { IfOk result (λ r. is_more r ≡ flushing self.new) }
-        ensures done { flushing self.old ≡ true → IfOk result (λ r. is_more r ≡ false → idle self.new) }
-        ensures undue { flushing self.old ≡ false → IfOk result (λ r. r ≡ OperatorResult.NeedsNewData) }
+        ensures done { flushing self.old ≡ true →
+            IfOk result (λ r. is_more r ≡ false → idle self.new) }
+        ensures undue { flushing self.old ≡ false →
+            IfOk result (λ r. r ≡ OperatorResult.NeedsNewData) }
         ensures unmoved { flushing self.old ≡ false → self.new ≡ self.old };
 
     /// Whether a flush is due.

@@ -59,7 +59,8 @@ pub fn reproject_chunk(
     schema: &Schema,
 ) -> Result<(), AllocError>
     requires { HasFields chunk.old.frame.schema schema.now }
-    ensures ok { OnOk result (chunk.new ≡ record chunk.old { frame = reprojected schema.now chunk.old.frame }) }
+    ensures ok { OnOk result
+        (chunk.new ≡ record chunk.old { frame = reprojected schema.now chunk.old.frame }) }
     ensures err { OnErr result (chunk.new ≡ chunk.old) }
 {
     let names = copied_names(alloc, schema.fields())?;

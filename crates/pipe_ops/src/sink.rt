@@ -99,7 +99,8 @@ pub trait Sink: Send + Sync + Sized {
         ensures number { number self.new ≡ number self.old }
         ensures text { text self.new ≡ text self.old }
         ensures goes_on { IfOk result (λ r. r ≡ SinkResult.CanHaveMoreInput) }
-        ensures held { IfOk result (λ _. Same (held self.new) (held self.old ++ chunk.frame.rows)) };
+        ensures held { IfOk result
+            (λ _. Same (held self.new) (held self.old ++ chunk.frame.rows)) };
 
     /// Adds the rows of another sink of the same settings.
     fn combine(&mut self, alloc: Global, other: Self) -> Result<(), AllocError>
@@ -130,7 +131,9 @@ pub trait Sink: Send + Sync + Sized {
         alloc: Global,
         context: &PExecutionContext,
     ) -> Result<FinalizedSink<Self::Built, Self::Src>, AllocError>
-        ensures { IfOk result (Ends built left supplies (gives self) (builds self) (ends (setting self) (held self))) };
+        ensures { IfOk result
+            (Ends built left supplies (gives self) (builds self)
+            (ends (setting self) (held self))) };
 
     /// Whether it builds a side of a join.
     fn is_join_build(&self) -> bool

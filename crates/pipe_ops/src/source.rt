@@ -44,7 +44,8 @@ pub trait Source: Send + Sync {
     ) -> Result<SourceResult, AllocError>
         requires { next_index.old + 4 * context.now.workers < 2 ^ 64 }
         ensures text { text self.new ≡ text self.old }
-        ensures gives { IfOk result (IsAnswer context.now next_index.old (left self.old) (left self.new)) }
+        ensures gives { IfOk result
+            (IsAnswer context.now next_index.old (left self.old) (left self.new)) }
         ensures index { IfOk result (λ r. next_index.new ≡ index_after next_index.old r) };
 
     /// The text that stands for it in a pipeline.

@@ -18,7 +18,8 @@ fn column_named<E: GivesColumn>(
     name: &Text,
 ) -> Result<Option<Series>, AllocError>
     requires { AllByRecursion (IsMadeFor E.made_for chunk.now.frame.schema) exprs.now }
-    ensures { IfOk result (λ c. c ≡ made_named chunk.now.frame (exprs_in E.named exprs.now) name.now) }
+    ensures { IfOk result
+        (λ c. c ≡ made_named chunk.now.frame (exprs_in E.named exprs.now) name.now) }
 {
     for expr in exprs {
         if expr.name().is_same(name) {
@@ -67,7 +68,8 @@ pub(crate) fn add_new_columns<E: GivesColumn>(
     columns: &mut Vec<Series>,
 ) -> Result<(), AllocError>
     requires { AllByRecursion (IsMadeFor E.made_for chunk.now.frame.schema) exprs.now }
-    ensures { OnOk result (columns.new.items ≡ columns.old.items ++ new_columns schema.now (exprs_in E.named exprs.now) chunk.now.frame) }
+    ensures { let added = new_columns schema.now (exprs_in E.named exprs.now) chunk.now.frame in
+        OnOk result (columns.new.items ≡ columns.old.items ++ added) }
 {
     for expr in exprs {
         if is_new_name(schema, expr.name()) {

@@ -39,7 +39,15 @@ impl MemReader {
     /// name that no file has. Where two files have one name, the first counts. A call that fails takes nothing.
     pub fn new(standard: Bytes, files: List<NamedBytes>, most: u32, failing: List<u64>) -> MemReader
         requires { 0 < most }
-        ensures { result ≡ record { left = standard; files = files; most = most; failing = failing; made = 0; taken = 0; faults = 0 } }
+        ensures { result ≡ record {
+          left = standard;
+          files = files;
+          most = most;
+          failing = failing;
+          made = 0;
+          taken = 0;
+          faults = 0;
+        } }
     {
         MemReader {
             shelf: Shelf::new(standard, files),
@@ -55,8 +63,12 @@ impl JobReader for MemReader {
 
     fn open_named(&mut self, name: &[u8]) -> Result<(), ReadFailed>
         ensures number { self.new.made ≡ call_number self.old.made }
-        ensures fails { is_err result ≡ (is_listed self.new.made self.old.failing || is_none (bytes_named self.old.files name.now)) }
-        ensures ok { OnOk result (IfSome (bytes_named self.old.files name.now) (λ bytes. Some self.new.left ≡ Some bytes)) }
+        ensures fails { is_err result ≡
+            (is_listed self.new.made self.old.failing
+            || is_none (bytes_named self.old.files name.now)) }
+        ensures ok { OnOk result
+            (IfSome (bytes_named self.old.files name.now)
+            (λ bytes. Some self.new.left ≡ Some bytes)) }
         ensures err { OnErr result (Some self.new.left ≡ Some self.old.left) }
         ensures untaken { self.new.taken ≡ self.old.taken }
         ensures cause { OnErr result (Rises self.old.faults self.new.faults) }

@@ -37,7 +37,13 @@ impl MemWriter {
     /// is no memory. A write that fails adds nothing.
     pub fn new(alloc: Global, most: u32, failing: List<u64>) -> MemWriter
         requires { 0 < most }
-        ensures { result ≡ record { written = []; most = most; failing = failing; made = 0; faults = 0 } }
+        ensures { result ≡ record {
+          written = [];
+          most = most;
+          failing = failing;
+          made = 0;
+          faults = 0;
+        } }
     {
         MemWriter {
             bytes: Vec::new(alloc),
@@ -64,7 +70,8 @@ impl RowWriter for MemWriter {
         ensures some { IfOk result (λ n. 0 < n) }
         ensures at_most { IfOk result (λ n. n ≤ self.old.most) }
         ensures within { IfOk result (λ n. n ≤ length piece.now) }
-        ensures writes { IfOk result (λ n. self.new.written ≡ self.old.written ++ take n piece.now) }
+        ensures writes { IfOk result
+            (λ n. self.new.written ≡ self.old.written ++ take n piece.now) }
         ensures err { OnErr result (Some self.new.written ≡ Some self.old.written) }
         ensures cause { OnErr result (Rises self.old.faults self.new.faults) }
         ensures faults { self.old.faults ≤ self.new.faults }

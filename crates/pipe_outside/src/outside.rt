@@ -48,7 +48,8 @@ pub trait RowWriter {
         requires { 0 < length piece.now }
         ensures some { IfOk result (λ n. 0 < n) }
         ensures within { IfOk result (λ n. n ≤ length piece.now) }
-        ensures writes { IfOk result (λ n. Writes (take n piece.now) (seen self.old) (seen self.new)) }
+        ensures writes { IfOk result
+            (λ n. Writes (take n piece.now) (seen self.old) (seen self.new)) }
         ensures err { OnErr result ((seen self.new).written ≡ (seen self.old).written) }
         ensures cause { OnErr result (WriteFails (seen self.old) (seen self.new)) }
         ensures faults { (seen self.old).faults ≤ (seen self.new).faults };

@@ -11,7 +11,8 @@ use std::cmp::min;
 
 /// The place of the first file of this name.
 fn place_of(files: &[NamedBytes], name: &[u8]) -> Option<usize>
-    ensures found { IfSome result (λ place. bytes_named files.now name.now ≡ Some (named_at files.now place)) }
+    ensures found { IfSome result
+        (λ place. bytes_named files.now name.now ≡ Some (named_at files.now place)) }
     ensures missing { IfNone result (bytes_named files.now name.now ≡ None) }
 {
     for (place, file) in files.iter().enumerate() {
@@ -76,7 +77,8 @@ impl Shelf {
     /// Reads a file from its start, and says whether there is one of this name.
     pub(crate) fn open(&mut self, name: &[u8]) -> bool
         ensures files { self.new.files ≡ self.old.files }
-        ensures found { IsTrue result → bytes_named self.old.files name.now ≡ Some (left_of self.new) }
+        ensures found { IsTrue result →
+            bytes_named self.old.files name.now ≡ Some (left_of self.new) }
         ensures missing { IsFalse result → bytes_named self.old.files name.now ≡ None }
         ensures stays { IsFalse result → self.new ≡ self.old }
     {

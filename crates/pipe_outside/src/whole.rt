@@ -44,10 +44,12 @@ fn read_piece<R: JobReader>(
 ) -> Result<usize, WholeError>
     requires { 0 < length buffer.old }
     ensures longer { IfOk result (λ n. length text.new.items ≡ length text.old.items + n) }
-    ensures read { IfOk result (λ n. ReadsOn text.old.items text.new.items (R.seen input.old) (R.seen input.new)) }
+    ensures read { IfOk result
+        (λ n. ReadsOn text.old.items text.new.items (R.seen input.old) (R.seen input.new)) }
     ensures end { IfOk result (λ n. n ≡ 0 → AtEnd (R.seen input.old) (R.seen input.new)) }
     ensures counts { IfOk result (λ n. Counted n (R.seen input.old) (R.seen input.new)) }
-    ensures failed { IsErrOf result WholeError.Failed → ReadFails (R.seen input.old) (R.seen input.new) }
+    ensures failed { IsErrOf result WholeError.Failed →
+        ReadFails (R.seen input.old) (R.seen input.new) }
     ensures never_long { IsErrOf result WholeError.TooLong → ⊥ }
     ensures faults { (R.seen input.old).faults ≤ (R.seen input.new).faults }
 {
@@ -72,10 +74,13 @@ fn read_pieces<R: JobReader>(
     ensures read { OnOk result (Reads text.new.items (R.seen input.old) (R.seen input.new)) }
     ensures end { OnOk result (AtEnd (R.seen input.old) (R.seen input.new)) }
     ensures short { OnOk result (length text.new.items ≤ LIMIT) }
-    ensures counts { OnOk result (Counted (length text.new.items) (R.seen input.old) (R.seen input.new)) }
+    ensures counts { OnOk result
+        (Counted (length text.new.items) (R.seen input.old) (R.seen input.new)) }
     ensures long { IsErrOf result WholeError.TooLong → IsLong LIMIT (R.seen input.old) }
-    ensures many { IsErrOf result WholeError.TooLong → CountedAbove LIMIT (R.seen input.old) (R.seen input.new) }
-    ensures failed { IsErrOf result WholeError.Failed → ReadFails (R.seen input.old) (R.seen input.new) }
+    ensures many { IsErrOf result WholeError.TooLong →
+        CountedAbove LIMIT (R.seen input.old) (R.seen input.new) }
+    ensures failed { IsErrOf result WholeError.Failed →
+        ReadFails (R.seen input.old) (R.seen input.new) }
     ensures faults { (R.seen input.old).faults ≤ (R.seen input.new).faults }
 {
     while text.len() <= LIMIT {
@@ -95,12 +100,15 @@ pub fn read_whole<R: JobReader>(alloc: Global, input: &mut R) -> Result<Vec<u8>,
     ensures whole { IfOk result (λ text. IsAll text.items (R.seen input.old)) }
     ensures end { OnOk result (AtEnd (R.seen input.old) (R.seen input.new)) }
     ensures short { IfOk result (λ text. length text.items ≤ LIMIT) }
-    ensures counts { IfOk result (λ text. Counted (length text.items) (R.seen input.old) (R.seen input.new)) }
+    ensures counts { IfOk result
+        (λ text. Counted (length text.items) (R.seen input.old) (R.seen input.new)) }
 
     // Why nothing was.
-    ensures failed { IsErrOf result WholeError.Failed → ReadFails (R.seen input.old) (R.seen input.new) }
+    ensures failed { IsErrOf result WholeError.Failed →
+        ReadFails (R.seen input.old) (R.seen input.new) }
     ensures long { IsErrOf result WholeError.TooLong → IsLong LIMIT (R.seen input.old) }
-    ensures many { IsErrOf result WholeError.TooLong → CountedAbove LIMIT (R.seen input.old) (R.seen input.new) }
+    ensures many { IsErrOf result WholeError.TooLong →
+        CountedAbove LIMIT (R.seen input.old) (R.seen input.new) }
     ensures faults { (R.seen input.old).faults ≤ (R.seen input.new).faults }
 {
     let mut buffer = buffer_of(alloc, PIECE)?;
@@ -123,7 +131,8 @@ fn write_piece<W: RowWriter>(out: &mut W, text: &[u8], at: usize) -> Result<usiz
     requires { at < length text.now }
     ensures forward { IfOk result (λ end. at < end) }
     ensures within { IfOk result (λ end. end ≤ length text.now) }
-    ensures writes { IfOk result (λ end. WritesOn (take at text.now) (take end text.now) (W.seen out.old) (W.seen out.new)) }
+    ensures writes { IfOk result
+        (λ end. WritesOn (take at text.now) (take end text.now) (W.seen out.old) (W.seen out.new)) }
     ensures err { OnErr result ((W.seen out.new).written ≡ (W.seen out.old).written) }
     ensures cause { OnErr result (WriteFails (W.seen out.old) (W.seen out.new)) }
     ensures faults { (W.seen out.old).faults ≤ (W.seen out.new).faults }

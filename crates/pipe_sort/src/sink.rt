@@ -59,7 +59,8 @@ impl SortSink {
         schema: Schema,
     ) -> SortSink
         requires { AreWithin (length schema) keys }
-        ensures settings { result.settings ≡ record { keys = keys; slice = slice; schema = schema } }
+        ensures settings { result.settings ≡
+            record { keys = keys; slice = slice; schema = schema } }
         ensures empty { result.rows ≡ [] }
     {
         SortSink {

@@ -51,7 +51,8 @@ pub(crate) fn source_batches(
     next_index: &mut u64,
 ) -> Result<SourceResult, AllocError>
     requires { next_index.old + 4 * context.now.workers < 2 ^ 64 }
-    ensures gives { IfOk result (IsAnswer context.now next_index.old (left_of source.old) (left_of source.new)) }
+    ensures gives { IfOk result
+        (IsAnswer context.now next_index.old (left_of source.old) (left_of source.new)) }
     ensures index { IfOk result (λ r. next_index.new ≡ index_after next_index.old r) }
     ensures schemas { schemas_of (left_of source.new) ≡ schemas_of (left_of source.old) }
     ensures depth { depth_of source.new ≡ depth_of source.old }
@@ -73,7 +74,8 @@ pub(crate) fn union_batches(
     next_index: &mut u64,
 ) -> Result<SourceResult, AllocError>
     requires { next_index.old + 4 * context.now.workers < 2 ^ 64 }
-    ensures gives { IfOk result (IsAnswer context.now next_index.old union.old.left union.new.left) }
+    ensures gives { IfOk result
+        (IsAnswer context.now next_index.old union.old.left union.new.left) }
     ensures index { IfOk result (λ r. next_index.new ≡ index_after next_index.old r) }
     ensures schemas { schemas_of union.new.left ≡ schemas_of union.old.left }
     ensures depth { union.new.depth ≡ union.old.depth }
@@ -90,7 +92,8 @@ pub(crate) fn reproject_batches(
     next_index: &mut u64,
 ) -> Result<SourceResult, AllocError>
     requires { next_index.old + 4 * context.now.workers < 2 ^ 64 }
-    ensures gives { IfOk result (IsAnswer context.now next_index.old reproject.old.left reproject.new.left) }
+    ensures gives { IfOk result
+        (IsAnswer context.now next_index.old reproject.old.left reproject.new.left) }
     ensures index { IfOk result (λ r. next_index.new ≡ index_after next_index.old r) }
     ensures schemas { schemas_of reproject.new.left ≡ schemas_of reproject.old.left }
     ensures depth { reproject.new.depth ≡ reproject.old.depth }
@@ -110,7 +113,9 @@ fn list_batches(
 ) -> Result<SourceResult, AllocError>
     requires index { next_index.old + 4 * context.now.workers < 2 ^ 64 }
     requires few { before + length (all_left sources.old) < 2 ^ 32 }
-    ensures gives { IfOk result (IsAnswerFrom before context.now next_index.old (all_left sources.old) (all_left sources.new)) }
+    ensures gives { IfOk result
+        (IsAnswerFrom before context.now next_index.old (all_left sources.old)
+        (all_left sources.new)) }
     ensures index { IfOk result (λ r. next_index.new ≡ index_after next_index.old r) }
     ensures schemas { schemas_of (all_left sources.new) ≡ schemas_of (all_left sources.old) }
     ensures depth { deepest sources.new ≡ deepest sources.old }

@@ -46,7 +46,8 @@ fn chunks_from(
     requires size { 0 < size }
     requires index { index + many < 2 ^ 64 }
     requires from { from ≤ length frame.now.rows }
-    ensures { IfOk result (λ chunks. chunks.items ≡ front_of many size index (left_at from frame.now)) }
+    ensures { IfOk result
+        (λ chunks. chunks.items ≡ front_of many size index (left_at from frame.now)) }
 {
     let mut chunks = Vec::new(alloc);
     let mut at = from;
@@ -109,7 +110,8 @@ impl DataFrameSource {
         next_index: &mut u64,
     ) -> Result<SourceResult, AllocError>
         requires { next_index.old + 4 * context.now.workers < 2 ^ 64 }
-        ensures gives { IfOk result (IsAnswer context.now next_index.old (self.old ∷ []) (self.new ∷ [])) }
+        ensures gives { IfOk result
+            (IsAnswer context.now next_index.old (self.old ∷ []) (self.new ∷ [])) }
         ensures index { IfOk result (λ r. next_index.new ≡ index_after next_index.old r) }
         ensures schema { self.new.schema ≡ self.old.schema }
     {

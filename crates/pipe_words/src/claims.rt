@@ -82,7 +82,8 @@ impl Claims {
         requires seats { All (IsClaimantOf self.now.table) seats.items }
         ensures table { whole.new.table_id ≡ whole.old.table_id }
         ensures parts { whole.new.me.0.parts ≡ whole.old.me.0.parts + vec_len seats }
-        ensures drawn { SameItems whole.new.me.0.drawn (whole.old.me.0.drawn ++ all_drawn seats.items) }
+        ensures drawn { SameItems whole.new.me.0.drawn
+            (whole.old.me.0.drawn ++ all_drawn seats.items) }
     {
         while let Some(seat) = seats.pop() {
             let ClaimSeat { seat } = seat;
@@ -94,7 +95,8 @@ impl Claims {
     /// drawn once.
     pub fn close(self, seats: Vec<ClaimSeat>) -> u64
         requires { All (IsClaimantOf self.table) seats.items }
-        ensures { vec_len seats ≡ self.seats → SameItems (all_drawn seats.items) (range_with_len 0 result) }
+        ensures { vec_len seats ≡ self.seats →
+            SameItems (all_drawn seats.items) (range_with_len 0 result) }
     {
         let (_, mut whole) = self.table.shared.load_new_seat::<EnterClaims>(0);
         self.gather(&mut whole, seats);

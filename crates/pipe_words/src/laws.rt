@@ -8,8 +8,10 @@ ghost use Rattle.pipe_words.specs.Flags.{is_marked, winners, wins};
 /// Each key whose flag stands was won once, and no other key.
 #[tactic(auto, using(crate::proofs::OnceLemmas::one_win, crate::proofs::OnceLemmas::no_win))]
 pub fn each_key_is_won_once()
-    ensures once { (flags : List (Option ℕ)) (key : ℕ) → is_marked flags key ≡ true → wins key (winners flags) ≡ 1 }
-    ensures no_other { (flags : List (Option ℕ)) (key : ℕ) → is_marked flags key ≡ false → wins key (winners flags) ≡ 0 }
+    ensures once { (flags : List (Option ℕ)) (key : ℕ) → is_marked flags key ≡ true →
+        wins key (winners flags) ≡ 1 }
+    ensures no_other { (flags : List (Option ℕ)) (key : ℕ) → is_marked flags key ≡ false →
+        wins key (winners flags) ≡ 0 }
 {}
 
 /// Each number below the count was drawn once, and no other number.

@@ -32,7 +32,8 @@ fn added(
     requires schema { chunk.frame.schema ≡ sink.schema }
     requires few { length (held_in sink) + length chunk.frame.rows ≤ 100 }
     ensures schema { IfOk result (λ made. made.schema ≡ sink.schema) }
-    ensures rows { IfOk result (λ made. length (held_in made) ≡ length (held_in sink) + length chunk.frame.rows) }
+    ensures rows { IfOk result
+        (λ made. length (held_in made) ≡ length (held_in sink) + length chunk.frame.rows) }
 {
     sink.sink(alloc, context, chunk)?;
     Ok(sink)
