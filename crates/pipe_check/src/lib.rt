@@ -16,3 +16,4 @@ mod under;
 mod unknown_column;
 
 pub use checked_plan::{CheckedPlan, check_plan};
+pub use under::nodes_under;

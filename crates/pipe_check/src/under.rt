@@ -58,8 +58,8 @@ pub(crate) fn unmarked(alloc: Global, nodes: usize) -> Result<Vec<bool>, AllocEr
     vec![in alloc; false; nodes]
 }
 
-/// For each node, whether it is under the root.
-pub(crate) fn nodes_under(alloc: Global, nodes: &[IR], root: usize) -> Result<Vec<bool>, AllocError>
+/// For each node, whether it is under the root: by one pass downwards, which looks at each node once.
+pub fn nodes_under(alloc: Global, nodes: &[IR], root: usize) -> Result<Vec<bool>, AllocError>
     requires { root < length nodes.now }
     ensures under { let plan = map node_of nodes.now in
         IfOk result (λ marks. (n : ℕ) → is_marked marks.items n ≡ is_under plan root n) }

@@ -9,7 +9,6 @@ mod evaluating;
 mod flow;
 mod full_join;
 mod halts;
-mod inputs;
 mod join;
 mod node;
 mod places;
