@@ -1,0 +1,2 @@
+-- rounds of events, and their laws
+pub mod Rounds

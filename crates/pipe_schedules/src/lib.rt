@@ -1,0 +1,9 @@
+//! Rounds of events: what workers take of a source, or flush of a join, makes one list that is allowed.
+//!
+//! The one contract used above: where no position is taken twice, and no partition flushed twice, the list of a round is
+//! allowed whatever worker took what, and nothing is on its way at its end.
+#![tactic(auto)]
+
+mod laws;
+
+pub use laws::{rounds_of_flushes, rounds_of_takes};
