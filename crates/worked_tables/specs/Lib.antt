@@ -1,0 +1,2 @@
+-- a join with the frames of its sides
+pub mod Sides
