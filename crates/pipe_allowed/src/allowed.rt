@@ -26,7 +26,7 @@ fn may_take(plan: &StagedPlan, world: &World, source: usize, from: u32, amount: 
     amount >= 1
         && is_source_ready(world, stage)
         && u64::from(from) + u64::from(amount) <= source_count(world, stage) as u64
-        && are_fresh(world.taken(source), from, amount)
+        && are_fresh(world, source, from, amount)
 }
 
 /// Whether a worker with nothing on its way may take positions of a source.

@@ -57,13 +57,28 @@ pub(crate) fn is_source_ready(world: &World, stage: Stage) -> bool
     }
 }
 
-/// Whether none of so many positions, from one on, is taken.
+/// Whether none of so many positions of a source, from one on, is taken.
 #[tactic(auto, using(crate::proofs::Below::below_rules))]
-pub(crate) fn are_fresh(taken: &[u64], from: u32, amount: u32) -> bool
-    ensures { result ≡ all_below (is_fresh taken.now from) amount }
+pub(crate) fn are_fresh(world: &World, source: usize, from: u32, amount: u32) -> bool
+    ensures { let taken = (world_of world.now).taken source in
+        result ≡ all_below (is_fresh taken from) amount }
 {
     for i in 0..amount {
-        if is_among(taken, u64::from(from) + u64::from(i)) {
+        if world.is_taken(source, u64::from(from) + u64::from(i)) {
+            return false;
+        }
+    }
+    true
+}
+
+/// Whether all positions of a source below a number are taken.
+#[tactic(auto, using(crate::proofs::Below::below_rules))]
+pub(crate) fn are_all_taken(world: &World, source: usize, count: usize) -> bool
+    ensures { let taken = (world_of world.now).taken source in
+        result ≡ all_below (stands_in taken) count }
+{
+    for i in 0..count {
+        if !world.is_taken(source, i as u64) {
             return false;
         }
     }

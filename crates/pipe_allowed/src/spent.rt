@@ -6,7 +6,7 @@ ghost use Rattle.pipe_world.specs.Shown.{world_of};
 ghost use Rattle.pipe_allowed.specs.Closing.{spent_at};
 
 use crate::marks::is_flushing;
-use crate::sources::are_all_among;
+use crate::sources::{are_all_among, are_all_taken};
 use pipe_plain::kept_slice;
 use pipe_stages::{Stage, StagedPlan};
 use pipe_world::World;
@@ -17,7 +17,7 @@ pub(crate) fn is_spent(plan: &StagedPlan, world: &World, n: usize) -> bool
     ensures { result ≡ spent_at (staged plan.now) (world_of world.now) n }
 {
     match plan.stage(n) {
-        Stage::Scan(rows) => are_all_among(world.taken(n), rows.len()),
+        Stage::Scan(rows) => are_all_taken(world, n, rows.len()),
         Stage::Each {
             input: _,
             schema: _,
@@ -31,7 +31,7 @@ pub(crate) fn is_spent(plan: &StagedPlan, world: &World, n: usize) -> bool
             options,
         } => {
             let kept = kept_slice(&options.slice, world.bag(input as usize)).len();
-            world.is_closed(input as usize) && are_all_among(world.taken(n), kept)
+            world.is_closed(input as usize) && are_all_taken(world, n, kept)
         }
         Stage::Joined(join) => {
             !is_flushing(&join) || are_all_among(world.flushed(n), plan.parts as usize)

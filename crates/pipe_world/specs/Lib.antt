@@ -4,3 +4,5 @@ pub mod Shown
 pub mod EventValues
 -- what a call changes
 pub mod Changes
+-- marks of the numbers that stand in a list
+pub mod Marks

@@ -8,6 +8,7 @@ mod blanks;
 mod event;
 mod keys;
 mod load;
+mod positions;
 mod world;
 
 pub use event::{Event, Side};

@@ -1,8 +1,8 @@
 //! The world of a run.
 
-ghost use Rattle.std.specs.Prelude.{◌≡◌, ℕ, ◌<◌, ◌++◌, [], ◌∷◌, length, IfOk, OnOk, Some};
-ghost use Rattle.std.specs.List.{range_with_len};
+ghost use Rattle.std.specs.Prelude.{◌≡◌, ℕ, ◌<◌, [], ◌∷◌, length, IfOk, OnOk, Some};
 ghost use Rattle.pipe_events.specs.Worlds.{start, closed_above, others};
+ghost use Rattle.pipe_events.specs.Decided.{stands_in};
 ghost use Rattle.pipe_plain.specs.Tables.{at_place};
 ghost use Rattle.pipe_world.specs.Shown.{Shown, world_of, flag_in, IsFor};
 ghost use Rattle.pipe_world.specs.Changes.{sends, sends_some, notes_taken, notes_flags, sets_flushed, took, flags, flushes_part, fills, hands_on};
@@ -10,6 +10,7 @@ ghost use Rattle.pipe_world.specs.Changes.{sends, sends_some, notes_taken, notes
 use crate::blanks::empty_lists;
 use crate::keys::{is_row_among, push_keys};
 use crate::load::Load;
+use crate::positions::{Positions, no_positions};
 use pipe_frame::{List, Row};
 use pipe_plain::push_rows;
 use std::alloc::{AllocError, Global};
@@ -18,7 +19,7 @@ use std::marker::Model;
 /// What was taken, is on its way, is flagged, flushed and closed, and the rows of each sink.
 #[derive(Debug)]
 pub struct World {
-    taken: Vec<List<u64>>,
+    taken: Vec<Positions>,
     pending: Vec<Load>,
     flagged: Vec<List<Row>>,
     flushed: Vec<List<u64>>,
@@ -51,16 +52,6 @@ impl Model for World {
     ghost Value = { Shown };
 
     ghost view = { λ w. record { taken = w.taken.items; pending = w.pending.items; flagged = w.flagged.items; flushed = w.flushed.items; closed = w.closed.items; bags = w.bags.items } };
-}
-
-/// Adds a range of numbers.
-fn push_range(numbers: &mut List<u64>, from: u32, amount: u32) -> Result<(), AllocError>
-    ensures { OnOk result (numbers.new ≡ numbers.old ++ range_with_len from amount) }
-{
-    for i in 0..amount {
-        numbers.push(u64::from(from) + u64::from(i))?;
-    }
-    Ok(())
 }
 
 /// A number, and then others.
@@ -98,7 +89,7 @@ impl World {
         ensures nodes { IfOk result (IsFor nodes) }
     {
         Ok(World {
-            taken: empty_lists(alloc, nodes)?,
+            taken: no_positions(alloc, nodes)?,
             pending: Vec::new(alloc),
             flagged: empty_lists(alloc, nodes)?,
             flushed: empty_lists(alloc, nodes)?,
@@ -114,6 +105,16 @@ impl World {
         match self.taken.get(n) {
             Some(positions) => positions.as_slice(),
             None => &[],
+        }
+    }
+
+    /// Whether a position of a node was taken.
+    pub fn is_taken(&self, n: usize, position: u64) -> bool
+        ensures { result ≡ stands_in ((world_of self.now).taken n) position }
+    {
+        match self.taken.get(n) {
+            Some(positions) => positions.contains(position),
+            None => false,
         }
     }
 
@@ -186,7 +187,7 @@ impl World {
             OnOk result (world_of self.new ≡ after) }
         ensures nodes { (n : ℕ) → IsFor n self.old → OnOk result (IsFor n self.new) }
     {
-        push_range(&mut self.taken[source], from, amount)
+        self.taken[source].push_range(from, amount)
     }
 
     /// Positions of a source are taken, and their rows are on their way.

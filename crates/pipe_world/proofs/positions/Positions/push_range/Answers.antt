@@ -1,6 +1,6 @@
 use Rattle.std.proofs.Common.{◌≡◌, ℕ, zero, suc, ◌+◌, ◌++◌, [], ◌∷◌, refl, ap, sym, ◌∙◌, append_assoc, arith}
 use Rattle.std.specs.List.{range_with_len}
-use Rattle.pipe_world.proofs.world.push_range.Goals as goal
+use Rattle.pipe_world.proofs.positions.Positions.push_range.Goals as goal
 
 -- one number more
 range-more : (a n : ℕ) → range_with_len a (n + 1) ≡ range_with_len a n ++ (a + n) ∷ []
@@ -9,4 +9,4 @@ range-more a (suc n) = let e : a + 1 + n ≡ a + suc n = omega arith in let next
 
 pub loop-i-preserved : goal.loop-i-preserved
 loop-i-preserved c =
-    c.in_ok-push.ensures.ok ∙ rw (c.from.ensures, c.from-in-loop-i.ensures, c.loop-i.invariant) (append_assoc c.args.numbers.now (range_with_len c.args.from c.loop-i.i) ((c.args.from + c.loop-i.i) ∷ []) ∙ ap (λ l. c.args.numbers.now ++ l) (sym (range-more c.args.from c.loop-i.i)))
+    c.in_ok-push.ensures ∙ rw (c.from.ensures, c.from-in-loop-i.ensures, c.loop-i.invariant) (append_assoc c.args.self.now (range_with_len c.args.from c.loop-i.i) ((c.args.from + c.loop-i.i) ∷ []) ∙ ap (λ l. c.args.self.now ++ l) (sym (range-more c.args.from c.loop-i.i)))
