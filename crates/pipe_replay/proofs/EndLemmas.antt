@@ -1,12 +1,11 @@
 -- A replay of the events of a plan without a fault ends with the plan's rows.
-use Rattle.std.proofs.Common.{◌≡◌, ℕ, zero, suc, ◌+◌, ◌<◌, ◌≤◌, Bool, true, false, cond, eqb, ◌||◌, length, List, [], ◌∷◌, take, map, refl, ap, sym, ◌∙◌, subst, arith, Option, Some, None, ◌⊎◌, inl, inr}
+use Rattle.std.proofs.Common.{◌≡◌, ℕ, zero, suc, ◌<◌, ◌≤◌, true, false, cond, eqb, length, List, [], take, map, refl, ap, sym, ◌∙◌, subst, arith, None, ◌⊎◌, inl, inr}
 use Rattle.std.specs.Prelude.{slice_index_or}
 use Rattle.std.specs.List.{list_any, range_with_len}
 use Rattle.std.proofs.lemmas.Bool.{cases_lt}
 use Rattle.std.proofs.lemmas.List.{get_or_past, length-map}
 use Rattle.std.proofs.lemmas.List.FromFn.{get_or-map-range_with_len, length-map-range_with_len}
 use Rattle.std.proofs.lemmas.Nat.{mod_below}
-use Rattle.pipe_frame.specs.Rows.{Row}
 use Rattle.pipe_rows.specs.Equality.{equality_row}
 use Rattle.pipe_rows.specs.Partition.{partition_of_key}
 use Rattle.pipe_plan.specs.Walk.{walk}
@@ -14,10 +13,9 @@ use Rattle.pipe_plan.specs.Node.{Node}
 use Rattle.pipe_plan.specs.Plan.{Plan}
 use Rattle.pipe_plan.specs.Under.{node_at, inputs_of, is_under, reaches_at}
 use Rattle.pipe_plan.specs.PlanRows.{rows_of}
-use Rattle.pipe_events.specs.Stages.{Stage, Union, Stages}
+use Rattle.pipe_events.specs.Stages.{Union}
 use Rattle.pipe_events.specs.Worlds.{Event, World, start}
 use Rattle.pipe_events.specs.Schedules.{AllAllowed, run, GivesTheRows}
-use Rattle.pipe_events.specs.Decided.{is_complete}
 use Rattle.pipe_events.specs.PlanStages.{stage_at, stages_of, IsSound}
 use Rattle.pipe_events.proofs.Tests.{any-never}
 use Rattle.pipe_events.proofs.WalkLemmas.{Decides-no}

@@ -1,5 +1,5 @@
 -- Cells of typed columns fit their types, and so do the rows of frames.
-use Rattle.std.proofs.Common.{◌≡◌, ℕ, zero, suc, ◌+◌, ◌<◌, ◌≤◌, Bool, true, false, List, [], ◌∷◌, map, length, get_or, take, refl, ap, sym, ◌∙◌, subst, Option, Some, None}
+use Rattle.std.proofs.Common.{◌≡◌, ℕ, zero, suc, ◌+◌, ◌<◌, ◌≤◌, true, false, List, [], ◌∷◌, map, length, get_or, take, refl, ap, sym, ◌∙◌, subst, Option, Some, None}
 use Rattle.std.specs.Prelude.{is_some, IfSome, All}
 use Rattle.std.specs.List.{AllByRecursion, range_with_len}
 use Rattle.std.proofs.lemmas.List.{take_all}
@@ -7,13 +7,12 @@ use Rattle.std.proofs.lemmas.List.Elements.{All-more, recursion_from_All}
 use Rattle.pipe_frame.specs.Cell.{fits_dtype, fits_type, eq_dtype, dtype_of_cell}
 use Rattle.pipe_frame.specs.Series.{Cells, cell_at}
 use Rattle.pipe_frame.specs.Rows.{Row}
-use Rattle.pipe_frame.specs.Frame.{Table, field_of, row_at, column_of, columns_from, columns_of, column_rows}
+use Rattle.pipe_frame.specs.Frame.{Table, field_of, row_at, columns_from, columns_of, column_rows}
 use Rattle.pipe_frame.specs.declared.any_value.AnyValue.{AnyValue}
 use Rattle.pipe_frame.specs.declared.any_value.AnyValue.TheVariants as cell
 use Rattle.pipe_frame.specs.declared.data_type.DataType.{DataType}
 use Rattle.pipe_frame.specs.declared.data_type.DataType.TheVariants as dtype
 use Rattle.pipe_frame.specs.declared.field.Field.{Field}
-use Rattle.pipe_plan.specs.Schemas.{frame_at}
 use Rattle.pipe_typing.specs.Fits.{FitsRow, FitRows}
 use Rattle.pipe_replay.specs.Fitting.{ColumnFits, TableFits, TablesFit}
 
@@ -44,7 +43,7 @@ module _ {T : Type 0} (d : DataType) (value : Option T → AnyValue) (missing : 
 
 -- ---- rows
 
-fields-from : (i : ℕ) (fields : List Field) (rows : List Row) → map field_of (columns_from i fields rows) ≡ fields
+pub fields-from : (i : ℕ) (fields : List Field) (rows : List Row) → map field_of (columns_from i fields rows) ≡ fields
 fields-from i [] rows = refl
 fields-from i (field ∷ fields) rows = ap (λ l. field ∷ l) (fields-from (i + 1) fields rows)
 

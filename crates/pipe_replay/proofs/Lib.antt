@@ -7,3 +7,4 @@ pub mod Sides
 pub mod RowLists
 pub mod FitLemmas
 pub mod KeptLemmas
+pub mod SortLemmas

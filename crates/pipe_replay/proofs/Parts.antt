@@ -1,5 +1,5 @@
 -- There are partitions.
-use Rattle.std.proofs.Common.{◌≡◌, ℕ, ◌<◌, sym, subst}
+use Rattle.std.proofs.Common.{ℕ, ◌<◌, sym, subst}
 use Rattle.std.proofs.lemmas.Nat.{pow_pos}
 use Rattle.pipe_rows.specs.Partition.{IsPartitionCount}
 use Rattle.pipe_plan.specs.Plan.{Plan}

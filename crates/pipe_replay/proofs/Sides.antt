@@ -1,5 +1,5 @@
 -- The node below a side stands below the side's node, in a plan without a fault.
-use Rattle.std.proofs.Common.{◌≡◌, ℕ, ◌<◌, ◌≤◌, Bool, true, false, cond, eqb, ◌||◌, length, List, [], ◌∷◌, refl, ap, sym, ◌∙◌, subst, arith, Option, Some, None, ◌⊎◌, inl, inr}
+use Rattle.std.proofs.Common.{◌≡◌, ℕ, ◌<◌, ◌≤◌, Bool, true, false, cond, ◌||◌, length, List, [], refl, sym, subst, arith, Some, None, ◌⊎◌, inl, inr}
 use Rattle.std.specs.Prelude.{nat_le}
 use Rattle.std.specs.List.{list_any}
 use Rattle.std.proofs.lemmas.Bool.{cases_lt, le-leb}
@@ -12,8 +12,8 @@ use Rattle.pipe_plan.specs.Swap.{swaps}
 use Rattle.pipe_plan.specs.Under.{node_at, inputs_of, is_under}
 use Rattle.pipe_plan.specs.Schemas.{schemas_to}
 use Rattle.pipe_plan.specs.Faults.{plan_fault}
-use Rattle.pipe_events.specs.Stages.{Stage, Stages, JoinStage, Scan, Each, Union, Sort, Joined, IsBelow, flushes}
-use Rattle.pipe_events.specs.Worlds.{World, Side, OfSort, OfBuild, OfProbe, Take, Mark, Emit, Done, Close, Flush, sort_side, join_side, side_below}
+use Rattle.pipe_events.specs.Stages.{Stage, Stages, Scan, Each, Union, Sort, Joined, IsBelow, flushes}
+use Rattle.pipe_events.specs.Worlds.{World, Side, OfSort, OfBuild, OfProbe, Take, Mark, Close, Flush, side_below}
 use Rattle.pipe_events.specs.Decided.{is_allowed}
 use Rattle.pipe_events.specs.PlanStages.{stage_of, stage_at}
 use Rattle.pipe_events.proofs.Deciding.{events_decided}

@@ -10,3 +10,5 @@ pub mod Fitting
 pub mod Sinks
 -- what a world of a plan has at its root
 pub mod Ends
+-- the keys of a sort
+pub mod Sorting

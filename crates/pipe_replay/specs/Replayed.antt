@@ -1,5 +1,5 @@
 -- The answer of a replay.
-use Rattle.std.specs.Prelude.{◌≡◌, ℕ, suc, ◌<◌, ◌≤◌, List, Bool, true, false, if◌then◌else◌, Option, Some, None, length, take}
+use Rattle.std.specs.Prelude.{◌≡◌, ℕ, suc, ◌<◌, ◌≤◌, List, true, false, if◌then◌else◌, Option, Some, None, length, take}
 use Rattle.pipe_rows.specs.Partition.{partition_of_key}
 use Rattle.pipe_events.specs.Stages.{Stages, IsBelow}
 use Rattle.pipe_events.specs.Worlds.{World, Event, start}

@@ -9,11 +9,13 @@ mod changing;
 mod emitting;
 mod fitting;
 mod flushing;
+mod framing;
 mod key_bytes;
 mod lists;
 mod marking;
 mod marks;
 mod replaying;
+mod sorting;
 mod sources;
 
 pub use lists::SortedLists;

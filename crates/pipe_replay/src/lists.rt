@@ -9,8 +9,8 @@ ghost use Rattle.pipe_stages.specs.Staged.{staged};
 ghost use Rattle.pipe_world.specs.Shown.{world_of};
 ghost use Rattle.pipe_replay.specs.KeptLists.{AreKept, list_at, is_made_of, listed, source_by};
 
+use crate::sorting::sliced_list;
 use pipe_frame::{List, Row};
-use pipe_plain::sliced_rows;
 use pipe_stages::{Stage, StagedPlan};
 use pipe_world::World;
 use std::alloc::{AllocError, Global};
@@ -122,7 +122,7 @@ impl SortedLists {
                 if self.is_made_of(n, bag.len()) {
                     return Ok(());
                 }
-                let rows = sliced_rows(alloc, schema, by.as_slice(), options, bag)?;
+                let rows = sliced_list(alloc, schema, by.as_slice(), options, bag)?;
                 let count = bag.len();
                 self.put(n, SortedList { count, rows });
                 Ok(())

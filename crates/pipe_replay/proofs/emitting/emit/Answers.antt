@@ -1,4 +1,4 @@
-use Rattle.std.proofs.Common.{◌≡◌, ◌∙◌, length, arith}
+use Rattle.std.proofs.Common.{◌∙◌, arith}
 use Rattle.pipe_stages.specs.Staged.{staged}
 use Rattle.pipe_world.specs.Shown.{world_of}
 use Rattle.pipe_replay.proofs.FilledLemmas.{emits-all}
