@@ -1,7 +1,7 @@
 -- A worker that alone has something on its way, from a node or above it, hands it on: then nothing is on its way, and
 -- nothing below the node has changed.
-use Rattle.std.proofs.Common.{◌≡◌, ◌≢◌, ℕ, zero, suc, ◌+◌, ◌<◌, ◌≤◌, Bool, true, false, cond, eqb, List, [], ◌∷◌, ◌++◌, refl, ap, sym, ◌∙◌, subst, append-nil, arith, ◌⊎◌, inl, inr}
-use Rattle.std.specs.Prelude.{not, filter}
+use Rattle.std.proofs.Common.{◌≡◌, ℕ, zero, suc, ◌<◌, ◌≤◌, Bool, true, false, cond, eqb, List, [], ◌∷◌, ◌++◌, refl, ap, sym, ◌∙◌, subst, append-nil, arith, ◌⊎◌, inl, inr}
+use Rattle.std.specs.Prelude.{not}
 use Rattle.std.specs.List.{list_any}
 use Rattle.std.proofs.lemmas.Bool.{cases_lt}
 use Rattle.std.proofs.lemmas.Bool.Decides.{Decides-eqb}
@@ -9,10 +9,9 @@ use Rattle.pipe_frame.specs.Rows.{Row, eq_row}
 use Rattle.pipe_expr.specs.declared.join_words.JoinType.{JoinType}
 use Rattle.pipe_expr.specs.declared.join_words.JoinType.TheVariants as how
 use Rattle.pipe_events.specs.Stages.{Key, JoinStage, Stage, Stages, Scan, Each, Union, Sort, Joined, IsStages, IsBelow, build_key, matches_built, marks}
-use Rattle.pipe_events.specs.Worlds.{World, Load, Event, Done, mine, others, is_of, with_load, load_of, given, given_by, newly_marked, seen, is_brought, mark_keys, mark_seen, mark_below, emitted, carried, is_sink, after}
+use Rattle.pipe_events.specs.Worlds.{World, Load, Done, mine, others, is_of, with_load, given, given_by, newly_marked, seen, is_brought, mark_keys, mark_seen, mark_below, emitted, carried, is_sink, after}
 use Rattle.pipe_events.proofs.Facts.{EachLoad, EachLoad-filter, EachLoad-weaker}
 use Rattle.pipe_events.proofs.Tests.{any-never, filter-never}
-use Rattle.pipe_events.proofs.WalkLemmas.{Decides-no}
 use Rattle.pipe_schedules.proofs.Above.{none-carried}
 
 -- a load of a worker, at a node or above it

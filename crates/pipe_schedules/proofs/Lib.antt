@@ -1,3 +1,4 @@
 pub mod Above
 pub mod Handing
 pub mod Rounds
+pub mod Sources

@@ -1,15 +1,15 @@
 -- Rounds are allowed, event by event.
 use Rattle.std.proofs.Common.{◌≡◌, ◌≢◌, ℕ, zero, suc, ◌+◌, ◌<◌, ◌≤◌, Bool, true, false, cond, eqb, List, [], ◌∷◌, ◌++◌, length, map, refl, ap, sym, ◌∙◌, subst, append_assoc, append-nil, arith}
-use Rattle.std.specs.List.{AllByRecursion, flat_map, range_with_len}
+use Rattle.std.specs.List.{AllByRecursion, range_with_len}
 use Rattle.std.proofs.lemmas.Bool.Decides.{Decides-eqb}
 use Rattle.pipe_frame.specs.Rows.{Row}
 use Rattle.pipe_frame.proofs.Weights.{total-append}
-use Rattle.pipe_events.specs.Stages.{JoinStage, Stage, Stages, Scan, Each, Union, Sort, Joined, IsStages, IsBelow, flushes}
-use Rattle.pipe_events.specs.Worlds.{World, Load, Event, Take, Done, Flush, IsReady, ChainBuilt, MayTake, MayDo, MayFlush, count, put, mine, load_of, source_rows, taken_rows, flushed_rows_of, after}
+use Rattle.pipe_events.specs.Stages.{JoinStage, Stage, Stages, Scan, Each, Union, Sort, Joined, IsStages, IsBelow}
+use Rattle.pipe_events.specs.Worlds.{World, Load, Take, Done, Flush, IsReady, ChainBuilt, MayTake, MayDo, MayFlush, count, put, mine, load_of, source_rows, taken_rows, flushed_rows_of, after}
 use Rattle.pipe_events.specs.Schedules.{AllAllowed, run}
 use Rattle.pipe_events.proofs.Facts.{EachLoad}
 use Rattle.pipe_events.proofs.WalkLemmas.{Decides-no}
-use Rattle.pipe_schedules.specs.Rounds.{Chunk, Flushed, positions_in, positions, part_in, takes, flushing, IsChunk, MayTakeAll, IsPart, MayFlushAll, IsRoundOver, HasTaken, HasFlushed, RoundsOfTakes, RoundsOfFlushes}
+use Rattle.pipe_schedules.specs.Rounds.{Chunk, Flushed, positions_in, positions, part_in, takes, flushing, IsChunk, MayTakeAll, MayFlushAll, HasTaken, HasFlushed, RoundsOfTakes, RoundsOfFlushes}
 use Rattle.pipe_schedules.proofs.Handing.{IsAbove, IsHandedOn, handed-on}
 
 eqb-refl : (n : ℕ) → eqb n n ≡ true

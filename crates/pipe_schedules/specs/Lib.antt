@@ -1,2 +1,4 @@
 -- rounds of events, and their laws
 pub mod Rounds
+-- the rows of sources, and when all are taken
+pub mod Sources

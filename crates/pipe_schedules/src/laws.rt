@@ -1,6 +1,7 @@
-//! The laws of rounds.
+//! The laws of rounds, and of the sources that they take.
 
 ghost use Rattle.pipe_schedules.specs.Rounds.{RoundsOfTakes, RoundsOfFlushes};
+ghost use Rattle.pipe_schedules.specs.Sources.{ReadySourcesHaveTheirRows, TakenSourcesAreSpent};
 
 /// Chunks of a ready source that share no position, by whatever workers, are taken one after the other.
 pub fn rounds_of_takes()
@@ -11,4 +12,15 @@ pub fn rounds_of_takes()
 /// other.
 pub fn rounds_of_flushes()
     ensures { RoundsOfFlushes }
+{}
+
+/// A source that has positions has the rows that are its own in the plan: a scan its rows, a closed sort the list of its
+/// input.
+pub fn ready_sources_have_their_rows()
+    ensures { ReadySourcesHaveTheirRows }
+{}
+
+/// A source that has positions is spent where each of them was taken.
+pub fn taken_sources_are_spent()
+    ensures { TakenSourcesAreSpent }
 {}

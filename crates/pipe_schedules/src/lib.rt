@@ -6,4 +6,6 @@
 
 mod laws;
 
-pub use laws::{rounds_of_flushes, rounds_of_takes};
+pub use laws::{
+    ready_sources_have_their_rows, rounds_of_flushes, rounds_of_takes, taken_sources_are_spent,
+};
