@@ -2,3 +2,4 @@ pub mod Above
 pub mod Handing
 pub mod Rounds
 pub mod Sources
+pub mod Journals

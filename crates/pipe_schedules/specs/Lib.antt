@@ -2,3 +2,5 @@
 pub mod Rounds
 -- the rows of sources, and when all are taken
 pub mod Sources
+-- journals that grow round by round
+pub mod Journals

@@ -1,6 +1,7 @@
-//! The laws of rounds, and of the sources that they take.
+//! The laws of rounds, of the sources that they take, and of journals that grow by them.
 
 ghost use Rattle.pipe_schedules.specs.Rounds.{RoundsOfTakes, RoundsOfFlushes};
+ghost use Rattle.pipe_schedules.specs.Journals.{EmptyJournalsStand, JournalsTake, JournalsFlush, JournalsClose, JournalsEnd};
 ghost use Rattle.pipe_schedules.specs.Sources.{ReadySourcesHaveTheirRows, TakenSourcesAreSpent};
 
 /// Chunks of a ready source that share no position, by whatever workers, are taken one after the other.
@@ -23,4 +24,29 @@ pub fn ready_sources_have_their_rows()
 /// A source that has positions is spent where each of them was taken.
 pub fn taken_sources_are_spent()
     ensures { TakenSourcesAreSpent }
+{}
+
+/// The empty journal stands.
+pub fn empty_journals_stand()
+    ensures { EmptyJournalsStand }
+{}
+
+/// A journal that stands does so with a round of takes behind it.
+pub fn journals_take()
+    ensures { JournalsTake }
+{}
+
+/// And with a round of flushes.
+pub fn journals_flush()
+    ensures { JournalsFlush }
+{}
+
+/// And with a side closed that may be.
+pub fn journals_close()
+    ensures { JournalsClose }
+{}
+
+/// Where all is taken, flushed and closed, it is complete.
+pub fn journals_end()
+    ensures { JournalsEnd }
 {}
