@@ -25,7 +25,7 @@ fn framed_column(
     i: usize,
     rows: &[Row],
 ) -> Result<Option<Series>, AllocError>
-    ensures { IfOk result (λ made. IfSome made (λ column. column ≡ column_of rows.now i field.now)) }
+    ensures { IfOk result (λ made. IfSome made (λ cells. cells ≡ column_of rows.now i field.now)) }
 {
     let mut column = Series::new(alloc, field.name.try_clone()?, field.dtype);
     for row in rows {

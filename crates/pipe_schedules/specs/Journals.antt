@@ -1,5 +1,5 @@
--- Journals that grow round by round: each event is allowed where it stands, and nothing is on its way at the end of a
--- round.
+-- Journals that grow round by round: each event is allowed where it stands, and nothing is on its
+-- way at the end of a round.
 use Rattle.std.specs.Prelude.{◌≡◌, ℕ, ◌<◌, List, [], ◌∷◌, ◌++◌, true, Some}
 use Rattle.pipe_events.specs.Stages.{JoinStage, Stages, IsStages}
 use Rattle.pipe_events.specs.Worlds.{World, Event, Close, Side, start, put, side_below, IsSpent, MayClose}

@@ -1,5 +1,5 @@
--- Rounds: what workers take of one source, or flush of one join. What each gives is handed on before
--- the next is taken.
+-- Rounds: what workers take of one source, or flush of one join. What each gives is handed on
+-- before the next is taken.
 use Rattle.std.specs.Prelude.{◌≡◌, ◌≢◌, ℕ, ◌+◌, ◌<◌, ◌≤◌, List, [], ◌∷◌, ◌++◌, true, length, map}
 use Rattle.std.specs.List.{AllByRecursion, flat_map, range_with_len}
 use Rattle.pipe_events.specs.Stages.{JoinStage, Stages, Joined, IsStages, flushes}
@@ -60,8 +60,8 @@ module _ (plan : Stages) where
     pub is_worker : flushed.worker < plan.workers
     pub there : flushed.part < plan.parts
 
-  -- what partitions of a join ask: its probe side is closed, the joins above it are built, nothing is
-  -- on its way, and no partition is flushed twice
+  -- what partitions of a join ask: its probe side is closed, the joins above it are built, nothing
+  -- is on its way, and no partition is flushed twice
   pub record MayFlushAll (w : World) (k : ℕ) (join : JoinStage) (parts : List Flushed) : Type 0
     where
       pub idle : w.pending ≡ []
