@@ -83,3 +83,9 @@ known left right on h =
       rights = selectable right.schema on good (no_name (error.UnknownColumn 1) (first_unknown right.schema on) second.0);
       types = same_types left.schema right.schema on (not_told (types_differ left.schema right.schema on) (error.TypeMismatch 2) third.0);
     }
+
+pub left_selectable : (left right : Table) (on : List (List ℕ)) → recon_fault left right on ≡ None → select_fault left.schema on ≡ None
+left_selectable left right on good = (known left right on good).lefts
+
+pub right_selectable : (left right : Table) (on : List (List ℕ)) → recon_fault left right on ≡ None → select_fault right.schema on ≡ None
+right_selectable left right on good = (known left right on good).rights

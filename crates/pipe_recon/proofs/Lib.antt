@@ -8,3 +8,21 @@ pub mod Partners
 pub mod Known
 -- the least row of each code
 pub mod FirstRows
+-- the least partner of a row, one pair more
+pub mod LeastSteps
+-- frames of codes and row numbers
+pub mod CodedFrames
+-- the plan is well-formed
+pub mod Formed
+-- the rows of the join, by their numbers
+pub mod JoinRows
+-- the classes that the join tells
+pub mod Classes
+-- how many rows the join has
+pub mod JoinCounts
+-- the run of the join
+pub mod Running
+-- how a reconciliation ends, by how its join does
+pub mod Ending
+-- why there is no reconciliation, and that there is one else
+pub mod Causes

@@ -8,6 +8,7 @@ use Rattle.pipe_frame.specs.Rows.{Row}
 use Rattle.pipe_frame.specs.declared.data_type.DataType.{DataType}
 use Rattle.pipe_rows.specs.Equality.{IsRow}
 use Rattle.pipe_recon.specs.Codes.{Code, HasTypedKey, code_of, codes_of, key_types, partner_among, recon_by, same_code}
+use Rattle.pipe_recon.specs.Ends.{AreCodes}
 use Rattle.pipe_recon.specs.Reconciliation.{key_of, left_partner, met_by, meets, partner, reconciliation, right_partner}
 use Rattle.pipe_recon.specs.declared.recon.Partner.{Partner}
 use Rattle.pipe_recon.specs.declared.recon.Recon.{Recon}
@@ -67,27 +68,20 @@ module _ (left right : Table) (spec : ReconSpec) (same : key_types left.schema s
 
 -- ---- what a check finds
 
-pub record Coded (left right : Table) (spec : ReconSpec) (lefts rights : List Code) : Type 0 where
-  pub good : recon_fault left right spec.on ≡ None
-  pub left_codes : lefts ≡ codes_of left.schema spec left.rows
-  pub right_codes : rights ≡ codes_of right.schema spec right.rows
-  pub left_typed : All (HasTypedKey left.schema spec.on) left.rows
-  pub right_typed : All (HasTypedKey right.schema spec.on) right.rows
-
-coded_is : (left right : Table) (spec : ReconSpec) (lefts rights : List Code) → Coded left right spec lefts rights → reconciliation left right spec ≡ recon_by lefts rights
+pub coded_is : (left right : Table) (spec : ReconSpec) (lefts rights : List Code) → AreCodes left right spec lefts rights → reconciliation left right spec ≡ recon_by lefts rights
 coded_is left right spec lefts rights c =
     recon_is left right spec (known left right spec.on c.good).types c.left_typed c.right_typed
     ∙ ap (λ (cs : List Code). recon_by cs (codes_of right.schema spec right.rows)) (sym c.left_codes)
     ∙ ap (λ (cs : List Code). recon_by lefts cs) (sym c.right_codes)
 
-pub both_same : (left right : Table) (spec : ReconSpec) (lefts rights : List Code) (recon : Recon) (ls rs : List Partner) → Coded left right spec lefts rights → ls ≡ recon.left → rs ≡ recon.right → ls ≡ map (partner_among rights) lefts → rs ≡ map (partner_among lefts) rights → recon ≡ reconciliation left right spec
+pub both_same : (left right : Table) (spec : ReconSpec) (lefts rights : List Code) (recon : Recon) (ls rs : List Partner) → AreCodes left right spec lefts rights → ls ≡ recon.left → rs ≡ recon.right → ls ≡ map (partner_among rights) lefts → rs ≡ map (partner_among lefts) rights → recon ≡ reconciliation left right spec
 both_same left right spec lefts rights recon ls rs c a b e f =
     ap (λ (ps : List Partner). record { left = ps; right = recon.right }) (sym a ∙ e)
     ∙ ap (λ (ps : List Partner). record { left = map (partner_among rights) lefts; right = ps }) (sym b ∙ f)
     ∙ sym (coded_is left right spec lefts rights c)
 
-pub left_same : (left right : Table) (spec : ReconSpec) (lefts rights : List Code) (recon : Recon) (ls : List Partner) → Coded left right spec lefts rights → ls ≡ recon.left → recon ≡ reconciliation left right spec → ls ≡ map (partner_among rights) lefts
+pub left_same : (left right : Table) (spec : ReconSpec) (lefts rights : List Code) (recon : Recon) (ls : List Partner) → AreCodes left right spec lefts rights → ls ≡ recon.left → recon ≡ reconciliation left right spec → ls ≡ map (partner_among rights) lefts
 left_same left right spec lefts rights recon ls c a e = a ∙ ap (λ (r : Recon). r.left) (e ∙ coded_is left right spec lefts rights c)
 
-pub right_same : (left right : Table) (spec : ReconSpec) (lefts rights : List Code) (recon : Recon) (rs : List Partner) → Coded left right spec lefts rights → rs ≡ recon.right → recon ≡ reconciliation left right spec → rs ≡ map (partner_among lefts) rights
+pub right_same : (left right : Table) (spec : ReconSpec) (lefts rights : List Code) (recon : Recon) (rs : List Partner) → AreCodes left right spec lefts rights → rs ≡ recon.right → recon ≡ reconciliation left right spec → rs ≡ map (partner_among lefts) rights
 right_same left right spec lefts rights recon rs c b e = b ∙ ap (λ (r : Recon). r.right) (e ∙ coded_is left right spec lefts rights c)
