@@ -4,3 +4,5 @@ pub mod Rounds
 pub mod Sources
 -- journals that grow round by round
 pub mod Journals
+-- the stages of sound plans
+pub mod Sound

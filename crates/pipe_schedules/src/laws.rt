@@ -2,6 +2,7 @@
 
 ghost use Rattle.pipe_schedules.specs.Rounds.{RoundsOfTakes, RoundsOfFlushes};
 ghost use Rattle.pipe_schedules.specs.Journals.{EmptyJournalsStand, JournalsTake, JournalsFlush, JournalsClose, JournalsEnd};
+ghost use Rattle.pipe_schedules.specs.Sound.{PlansHaveStages};
 ghost use Rattle.pipe_schedules.specs.Sources.{ReadySourcesHaveTheirRows, TakenSourcesAreSpent};
 
 /// Chunks of a ready source that share no position, by whatever workers, are taken one after the other.
@@ -49,4 +50,9 @@ pub fn journals_close()
 /// Where all is taken, flushed and closed, it is complete.
 pub fn journals_end()
     ensures { JournalsEnd }
+{}
+
+/// The stages of a sound plan are such as these laws ask.
+pub fn plans_have_stages()
+    ensures { PlansHaveStages }
 {}

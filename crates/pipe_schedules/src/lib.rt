@@ -8,5 +8,6 @@ mod laws;
 
 pub use laws::{
     empty_journals_stand, journals_close, journals_end, journals_flush, journals_take,
-    ready_sources_have_their_rows, rounds_of_flushes, rounds_of_takes, taken_sources_are_spent,
+    plans_have_stages, ready_sources_have_their_rows, rounds_of_flushes, rounds_of_takes,
+    taken_sources_are_spent,
 };
