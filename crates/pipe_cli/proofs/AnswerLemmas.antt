@@ -1,5 +1,5 @@
 -- Bytes have an answer or one cause, and not both.
-use Rattle.std.proofs.Common.{Result, Ok, Err, ◌≡◌, ℕ, Bool, true, false, List, ◌∷◌, ◌++◌, inl, inr, length, map, refl, ap, subst, sym, ◌∙◌, arith}
+use Rattle.std.proofs.Common.{Result, Ok, Err, ◌≡◌, ℕ, Bool, true, false, List, ◌∷◌, ◌++◌, inl, inr, map, refl, ap, subst, sym, ◌∙◌, arith}
 use Rattle.std.specs.Prelude.{IfErr}
 use Rattle.std.specs.Result.{IsErrAnd}
 use Rattle.std.specs.List.{flat_map}
@@ -14,7 +14,6 @@ use Rattle.pipe_exec.specs.Sound.{CheckCauses}
 use Rattle.pipe_exec.proofs.Complete.{sound_refused}
 use Rattle.pipe_exec.proofs.Unstopped.{refused_unstopped}
 use Rattle.pipe_faults.specs.FaultLine.{fault_status}
-use Rattle.pipe_plan.specs.PlanRows.{rows_of}
 use Rattle.pipe_plan.specs.declared.error.PipeError.{PipeError}
 use Rattle.pipe_plan.specs.declared.error.PipeError.TheVariants as error
 use Rattle.pipe_plan.specs.Schemas.{schema_of}

@@ -12,7 +12,6 @@ use Rattle.pipe_cli.specs.Noted.{Noted}
 use Rattle.pipe_cli.specs.Refused.{NotJobOn, NotJsonOn, OfReading, OfText, OfWriting, ToldOn}
 use Rattle.pipe_cli.specs.Status.{OneOf, status_of, yes_in}
 use Rattle.pipe_cli.specs.Texts.{ok_text}
-use Rattle.pipe_cli.specs.Words.{Opened}
 use Rattle.pipe_cli.specs.declared.status.Refusal.{Refusal}
 use Rattle.pipe_cli.specs.declared.status.Refusal.TheVariants as refusal
 

@@ -1,16 +1,18 @@
 -- Which statuses may come, by what the bytes of the job that is asked for are.
-use Rattle.std.proofs.Common.{◌≡◌, ◌≤◌, ℕ, Bool, true, false, List, [], ◌∷◌, length, Option, Some, None, inl, inr, refl, arith}
+use Rattle.std.proofs.Common.{◌≡◌, ◌≤◌, ℕ, true, false, List, [], ◌∷◌, length, Option, Some, None, inl, inr, refl, arith}
 use Rattle.std.specs.Prelude.{IfSome, IsSomeAnd}
 use Rattle.pipe_job.specs.Reading.{ReadsNoJob}
 use Rattle.pipe_outside.specs.Outside.{InputSeen, OutputSeen}
-use Rattle.pipe_cli.specs.Answer.{GoodJob, HasMany, RefusedAs, SoundJob, ToldAs, WideJob}
+use Rattle.pipe_cli.specs.Answer.{HasMany, RefusedAs, SoundJob, ToldAs, WideJob}
 use Rattle.pipe_cli.specs.Headline.{ExplainedOn, ExplainedInPartOn, GoodOn, IsTooMany, RanInPartOn, RanOn, ReadOn, SoundOn, WasRead, Wrote, WroteFor, WroteFrontFor, limit}
 use Rattle.pipe_cli.specs.Noted.{Noted, NotedFault}
-use Rattle.pipe_cli.specs.Refused.{NotJobOn, NotJsonOn, OfText, OfWords, ReadingOf, TextOf, ToldOn, WritingOf}
+use Rattle.pipe_cli.specs.Refused.{NotJobOn, NotJsonOn, OfWords, ReadingOf, TextOf, ToldOn, WritingOf}
 use Rattle.pipe_cli.specs.Status.{IsFixed, OneOf, line_of, status_line, status_of}
+use Rattle.pipe_cli.specs.Tested.{TestOf}
+use Rattle.pipe_cli.proofs.TestLemmas.{fault_tested, line_tested}
 use Rattle.pipe_cli.specs.declared.status.Refusal.{Refusal}
 use Rattle.pipe_cli.specs.declared.status.Refusal.TheVariants as refusal
-use Rattle.pipe_cli.specs.Words.{IfJob, IsJob, Request, Run, Check, Explain, Help, Version, asks_run, bytes_at, is_run, job_asked, job_bytes, request}
+use Rattle.pipe_cli.specs.Words.{IfJob, IsJob, Request, Run, Check, Explain, SelfTest, Help, Version, asks_run, bytes_at, is_run, job_asked, job_bytes, request}
 use Rattle.pipe_cli.proofs.AnswerLemmas.{answered_good, answered_sound, explained_sound, fault_sound, fault_told, good_sound, many_told, many_told_good, many_told_sound, none_job, nothing_job, nothing_none, one_status, sound_as, wide_good, wide_sound}
 
 -- ---- facts of the bytes that are told
@@ -43,6 +45,7 @@ sound_of : (asked : Option Request) (input : InputSeen) (out now : OutputSeen) �
 sound_of (Some (Run name)) input out now h = follows (bytes_at name input) (λ b. RanOn b out now) SoundJob (λ b p. answered_sound b p.text p.answered) h
 sound_of (Some Check) input out now h = h.0
 sound_of (Some Explain) input out now h = follows input.left (λ b. ExplainedOn b out now) SoundJob (λ b p. explained_sound b p.text p.explained) h
+sound_of (Some (SelfTest start rows)) input out now h = tt
 sound_of (Some Help) input out now h = tt
 sound_of (Some Version) input out now h = tt
 sound_of None input out now h = absurd h
@@ -51,6 +54,7 @@ sound_part : (asked : Option Request) (input : InputSeen) (out now : OutputSeen)
 sound_part (Some (Run name)) input out now h = follows (bytes_at name input) (λ b. RanInPartOn b out now) SoundOn (λ b p. record { short = p.short; sound = answered_sound b p.text p.answered }) h
 sound_part (Some Check) input out now h = h.0
 sound_part (Some Explain) input out now h = follows input.left (λ b. ExplainedInPartOn b out now) SoundOn (λ b p. record { short = p.short; sound = explained_sound b p.text p.explained }) h
+sound_part (Some (SelfTest start rows)) input out now h = tt
 sound_part (Some Help) input out now h = tt
 sound_part (Some Version) input out now h = tt
 sound_part None input out now h = absurd h
@@ -127,6 +131,7 @@ wide_wrote : (asked : Option Request) (input : InputSeen) (out now : OutputSeen)
 wide_wrote (Some (Run name)) input out now e h w = clash (bytes_at name input) (λ b. RanOn b out now) WideJob (λ b p q. wide_good b q (answered_good b p.text p.answered)) h w
 wide_wrote (Some Check) input out now e h w = cc
 wide_wrote (Some Explain) input out now e h w = cc
+wide_wrote (Some (SelfTest start rows)) input out now e h w = w
 wide_wrote (Some Help) input out now e h w = w
 wide_wrote (Some Version) input out now e h w = w
 wide_wrote None input out now e h w = w
@@ -135,6 +140,7 @@ wide_front : (asked : Option Request) (input : InputSeen) (out now : OutputSeen)
 wide_front (Some (Run name)) input out now e h w = clash (bytes_at name input) (λ b. RanInPartOn b out now) WideJob (λ b p q. wide_good b q (answered_good b p.text p.answered)) h w
 wide_front (Some Check) input out now e h w = cc
 wide_front (Some Explain) input out now e h w = cc
+wide_front (Some (SelfTest start rows)) input out now e h w = w
 wide_front (Some Help) input out now e h w = w
 wide_front (Some Version) input out now e h w = w
 wide_front None input out now e h w = w
@@ -258,17 +264,17 @@ other_line n six seven (inr (inl h)) = seven h
 other_line n six seven (inr (inr h)) = h
 
 -- the line of a fault is noted
-pub noted_fault : (r : Refusal) (words : List (List ℕ)) (input : InputSeen) (notes now : OutputSeen) → TextOf r words input → Noted (line_of r) notes now → NotedFault (status_of r) words input notes now
-noted_fault (refusal.Fault line) words input notes now t h = λ _. record { line = line; told = follows (job_bytes words input) (ToldOn (asks_run words) 6 line) (ToldAs (asks_run words) 6 line) (λ b p. p.cause) t; noted = h }
-noted_fault (refusal.TooMany line) words input notes now t h = λ _. record { line = line; told = follows (job_bytes words input) (ToldOn (asks_run words) 7 line) (ToldAs (asks_run words) 7 line) (λ b p. p.cause) t; noted = h }
-noted_fault refusal.BadWords words input notes now t h = λ f. absurd (other_line 1 (λ e. omega (arith, e)) (λ e. omega (arith, e)) f)
-noted_fault refusal.ReadFault words input notes now t h = λ f. absurd (other_line 2 (λ e. omega (arith, e)) (λ e. omega (arith, e)) f)
-noted_fault refusal.TooLong words input notes now t h = λ f. absurd (other_line 3 (λ e. omega (arith, e)) (λ e. omega (arith, e)) f)
-noted_fault refusal.NotJson words input notes now t h = λ f. absurd (other_line 4 (λ e. omega (arith, e)) (λ e. omega (arith, e)) f)
-noted_fault refusal.NotJob words input notes now t h = λ f. absurd (other_line 5 (λ e. omega (arith, e)) (λ e. omega (arith, e)) f)
-noted_fault refusal.Stopped words input notes now t h = λ f. absurd (other_line 8 (λ e. omega (arith, e)) (λ e. omega (arith, e)) f)
-noted_fault refusal.WriteFault words input notes now t h = λ f. absurd (other_line 9 (λ e. omega (arith, e)) (λ e. omega (arith, e)) f)
-noted_fault refusal.Memory words input notes now t h = λ f. absurd (other_line 10 (λ e. omega (arith, e)) (λ e. omega (arith, e)) f)
+pub noted_fault : (r : Refusal) (words : List (List ℕ)) (input : InputSeen) (notes now : OutputSeen) → TextOf r words input → TestOf r words → Noted (line_of r) notes now → NotedFault (status_of r) words input notes now
+noted_fault (refusal.Fault line) words input notes now t k h = λ _. record { line = line; tested = fault_tested line words k; told = follows (job_bytes words input) (ToldOn (asks_run words) 6 line) (ToldAs (asks_run words) 6 line) (λ b p. p.cause) t; noted = h }
+noted_fault (refusal.TooMany line) words input notes now t k h = λ _. record { line = line; tested = line_tested line words k; told = follows (job_bytes words input) (ToldOn (asks_run words) 7 line) (ToldAs (asks_run words) 7 line) (λ b p. p.cause) t; noted = h }
+noted_fault refusal.BadWords words input notes now t k h = λ f. absurd (other_line 1 (λ e. omega (arith, e)) (λ e. omega (arith, e)) f)
+noted_fault refusal.ReadFault words input notes now t k h = λ f. absurd (other_line 2 (λ e. omega (arith, e)) (λ e. omega (arith, e)) f)
+noted_fault refusal.TooLong words input notes now t k h = λ f. absurd (other_line 3 (λ e. omega (arith, e)) (λ e. omega (arith, e)) f)
+noted_fault refusal.NotJson words input notes now t k h = λ f. absurd (other_line 4 (λ e. omega (arith, e)) (λ e. omega (arith, e)) f)
+noted_fault refusal.NotJob words input notes now t k h = λ f. absurd (other_line 5 (λ e. omega (arith, e)) (λ e. omega (arith, e)) f)
+noted_fault refusal.Stopped words input notes now t k h = λ f. absurd (other_line 8 (λ e. omega (arith, e)) (λ e. omega (arith, e)) f)
+noted_fault refusal.WriteFault words input notes now t k h = λ f. absurd (other_line 9 (λ e. omega (arith, e)) (λ e. omega (arith, e)) f)
+noted_fault refusal.Memory words input notes now t k h = λ f. absurd (other_line 10 (λ e. omega (arith, e)) (λ e. omega (arith, e)) f)
 
 -- and where there is no refusal, none is
 pub no_fault : (words : List (List ℕ)) (input : InputSeen) (notes now : OutputSeen) → NotedFault 0 words input notes now

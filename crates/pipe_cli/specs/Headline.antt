@@ -1,9 +1,10 @@
 -- What a run of the program says of its input and its output.
 use Rattle.std.specs.Prelude.{ℕ, ◌≡◌, ◌<◌, ◌≤◌, List, [], length, Option, Some, None, IfSome}
 use Rattle.pipe_outside.specs.Outside.{CountedAbove, InputSeen, OutputSeen, Writes, WritesFront}
+use Rattle.pipe_selftest.specs.Lines.{selftest_lines}
 use Rattle.pipe_cli.specs.Answer.{Answered, Explained, GoodJob, SoundJob}
 use Rattle.pipe_cli.specs.Texts.{help_text, ok_text, version_text}
-use Rattle.pipe_cli.specs.Words.{Request, Run, Check, Explain, Help, Version, bytes_at, job_bytes, request}
+use Rattle.pipe_cli.specs.Words.{Request, Run, Check, Explain, SelfTest, Help, Version, bytes_at, job_bytes, request}
 
 -- how many bytes a job has at most
 abbrev pub limit : ℕ
@@ -84,11 +85,13 @@ pub record ExplainedInPartOn (bytes : List ℕ) (out now : OutputSeen) : Type 0 
 abbrev pub WasExplainedInPart : Option (List ℕ) → OutputSeen → OutputSeen → Type 0
 WasExplainedInPart told out now = IfSome told (λ bytes. ExplainedInPartOn bytes out now)
 
--- what was asked for was written: the answer to the job, that it is good, its branches, or a text
+-- what was asked for was written: the answer to the job, that it is good, its branches, the lines of a self-test, or
+-- a text
 abbrev pub WroteFor : Option Request → InputSeen → OutputSeen → OutputSeen → Type 0
 WroteFor (Some (Run name)) input out now = Ran (bytes_at name input) out now
 WroteFor (Some Check) input out now = Passed input.left out now
 WroteFor (Some Explain) input out now = WasExplained input.left out now
+WroteFor (Some (SelfTest start rows)) input out now = Writes (selftest_lines start rows) out now
 WroteFor (Some Help) input out now = Writes help_text out now
 WroteFor (Some Version) input out now = Writes version_text out now
 WroteFor None input out now = ⊥
@@ -101,6 +104,8 @@ abbrev pub WroteFrontFor : Option Request → InputSeen → OutputSeen → Outpu
 WroteFrontFor (Some (Run name)) input out now = RanInPart (bytes_at name input) out now
 WroteFrontFor (Some Check) input out now = PassedInPart input.left out now
 WroteFrontFor (Some Explain) input out now = WasExplainedInPart input.left out now
+WroteFrontFor (Some (SelfTest start rows)) input out now =
+    WritesFront (selftest_lines start rows) out now
 WroteFrontFor (Some Help) input out now = WritesFront help_text out now
 WroteFrontFor (Some Version) input out now = WritesFront version_text out now
 WroteFrontFor None input out now = ⊥

@@ -10,6 +10,8 @@ pub mod Answer
 pub mod Causes
 -- what a run says of its input and its output
 pub mod Headline
+-- why a self-test ends with a refusal
+pub mod Tested
 -- why a run ends with a refusal
 pub mod Refused
 -- lines that are noted

@@ -65,7 +65,7 @@ fn is_stop(error: &PipeError) -> bool
 
 /// The refusal by an error, with its line; want of memory where there is none for the line. That a run was stopped
 /// takes no memory to tell.
-fn refused(alloc: Global, error: PipeError) -> Refusal
+pub(crate) fn refused(alloc: Global, error: PipeError) -> Refusal
     ensures { Tells result error }
 {
     if is_stop(&error) {

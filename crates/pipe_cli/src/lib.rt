@@ -11,6 +11,7 @@ mod explain_command;
 mod help;
 mod program;
 mod run_command;
+mod selftest_command;
 mod status;
 mod streams;
 mod version;

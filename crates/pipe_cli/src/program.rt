@@ -10,12 +10,14 @@ ghost use Rattle.pipe_cli.specs.Headline.{GoodOn, IsTooLong, IsTooMany, SoundOn,
 ghost use Rattle.pipe_cli.specs.Noted.{Noted, NotedFault};
 ghost use Rattle.pipe_cli.specs.Refused.{OfWords, ReadingOf, TextOf, WritingOf};
 ghost use Rattle.pipe_cli.specs.Status.{IsFixed, OneOf, line_of, status_line, yes_in, yes_of};
-ghost use Rattle.pipe_cli.specs.Words.{IfJob, IsJob, IsText, asks_run, request};
+ghost use Rattle.pipe_cli.specs.Tested.{IsNarrowTest, TestOf, WideTest};
+ghost use Rattle.pipe_cli.specs.Words.{AnyNumbers, IfJob, IfTest, IsJob, IsTest, IsText, asks_run, request};
 
 use crate::check_command::check_left;
 use crate::explain_command::explain_left;
 use crate::help::help_text;
 use crate::run_command::run_left;
+use crate::selftest_command::run_selftest;
 use crate::status::Refusal;
 use crate::streams::{open, tell};
 use crate::version::version_text;
@@ -26,7 +28,7 @@ use std::alloc::Global;
 use std::thread::Threads;
 
 /// Does what the words ask for.
-#[tactic(auto, using(crate::proofs::AnswerLemmas::counts_none))]
+#[tactic(auto, using(crate::proofs::AnswerLemmas::counts_none, crate::proofs::TestLemmas::test_words, crate::proofs::TestLemmas::test_reading, crate::proofs::TestLemmas::test_text))]
 fn attempt<T: Threads + Sync, R: JobReader, W: RowWriter, C: StopCheck, G: Gate + Sync>(
     rt: &T,
     alloc: Global,
@@ -46,10 +48,12 @@ fn attempt<T: Threads + Sync, R: JobReader, W: RowWriter, C: StopCheck, G: Gate 
     ensures text { IfErr result (λ r. TextOf r words.now (R.seen input.old)) }
     ensures writing { IfErr result (λ r.
         WritingOf r words.now (R.seen input.old) (W.seen out.old) (W.seen out.new)) }
+    ensures test { IfErr result (λ r. TestOf r words.now) }
     ensures only_told { IsText (request words.now)
         → IfErr result (λ refusal. refusal ≡ Refusal.WriteFault) }
     ensures unread { IsErrOf result Refusal.BadWords → input.new ≡ input.old }
     ensures untouched { IsText (request words.now) → input.new ≡ input.old }
+    ensures test_reads_nothing { IsTest words.now AnyNumbers → input.new ≡ input.old }
     ensures runs { IsErrOf result Refusal.Stopped → asks_run words.now ≡ true }
     ensures unasked { asks_run words.now ≡ false → stop.new ≡ stop.old }
     ensures asked { asks_run words.now ≡ true
@@ -64,6 +68,9 @@ fn attempt<T: Threads + Sync, R: JobReader, W: RowWriter, C: StopCheck, G: Gate 
         }
         Some(Command::Check) => check_left(alloc, input, out),
         Some(Command::Explain) => explain_left(alloc, input, out),
+        Some(Command::SelfTest(start, rows)) => {
+            run_selftest(rt, alloc, start, rows, out, stop, gate)
+        }
         Some(Command::Help) => tell(out, help_text().as_bytes()),
         Some(Command::Version) => tell(out, version_text().as_bytes()),
         None => Err(Refusal::BadWords),
@@ -82,7 +89,7 @@ fn note<N: RowWriter>(notes: &mut N, refusal: &Refusal)
 /// `out`, or that it is good, or the branches of its plan; or writes a text that was asked for. Threads are started in
 /// a run alone, in which each worker is one, and `stop` is asked whether to go on. It answers the status that the
 /// program ends with; for a status other than 0 its line is written to `notes`.
-#[tactic(auto, using(crate::proofs::StatusLemmas::long_ran, crate::proofs::StatusLemmas::long_status, crate::proofs::StatusLemmas::no_job_ran, crate::proofs::StatusLemmas::no_job_status, crate::proofs::StatusLemmas::refused_ran, crate::proofs::StatusLemmas::refused_status, crate::proofs::StatusLemmas::wide_ran, crate::proofs::StatusLemmas::wide_status, crate::proofs::StatusLemmas::good_status, crate::proofs::StatusLemmas::sound_status, crate::proofs::StatusLemmas::told_fault, crate::proofs::StatusLemmas::told_many, crate::proofs::StatusLemmas::told_stop, crate::proofs::StatusLemmas::noted_fault, crate::proofs::StatusLemmas::no_fault, crate::proofs::StatusLemmas::noted_fixed, crate::proofs::StatusLemmas::status_within, crate::proofs::StatusLemmas::is_stop))]
+#[tactic(auto, using(crate::proofs::StatusLemmas::long_ran, crate::proofs::StatusLemmas::long_status, crate::proofs::StatusLemmas::no_job_ran, crate::proofs::StatusLemmas::no_job_status, crate::proofs::StatusLemmas::refused_ran, crate::proofs::StatusLemmas::refused_status, crate::proofs::StatusLemmas::wide_ran, crate::proofs::StatusLemmas::wide_status, crate::proofs::StatusLemmas::good_status, crate::proofs::StatusLemmas::sound_status, crate::proofs::StatusLemmas::told_fault, crate::proofs::StatusLemmas::told_many, crate::proofs::StatusLemmas::told_stop, crate::proofs::StatusLemmas::noted_fault, crate::proofs::StatusLemmas::no_fault, crate::proofs::StatusLemmas::noted_fixed, crate::proofs::StatusLemmas::status_within, crate::proofs::StatusLemmas::is_stop, crate::proofs::TestLemmas::test_status, crate::proofs::TestLemmas::narrow_status, crate::proofs::TestLemmas::wide_test))]
 pub fn run_program<
     T: Threads + Sync,
     R: JobReader,
@@ -114,6 +121,7 @@ pub fn run_program<
     ensures refused { result ≡ 6 → IfJob words.now (R.seen input.old) (RefusedAs 6) }
     ensures too_many { result ≡ 7
         → IfJob words.now (R.seen input.old) (HasMany (asks_run words.now)) }
+    ensures test_too_many { result ≡ 7 → IfTest words.now WideTest }
     ensures stopped { result ≡ 8 → IfJob words.now (R.seen input.old) SoundJob }
     ensures write_fault { result ≡ 9 → WriteFails (W.seen out.old) (W.seen out.new) }
     ensures status { result ≤ 10 }
@@ -134,6 +142,8 @@ pub fn run_program<
         → OneOf (0 ∷ 2 ∷ 8 ∷ 9 ∷ 10 ∷ []) result }
     ensures if_looked { asks_run words.now ≡ false → IsJob words.now (R.seen input.old) SoundOn
         → OneOf (0 ∷ 2 ∷ 9 ∷ 10 ∷ []) result }
+    ensures if_test { IsTest words.now AnyNumbers → OneOf (0 ∷ 7 ∷ 8 ∷ 9 ∷ 10 ∷ []) result }
+    ensures test_complete { IsTest words.now IsNarrowTest → OneOf (0 ∷ 8 ∷ 9 ∷ 10 ∷ []) result }
     ensures if_text { IsText (request words.now) → OneOf (0 ∷ 9 ∷ []) result }
 
     // The stop check is asked in a run. It says yes in one that ends with 8, and in no other.
@@ -147,6 +157,7 @@ pub fn run_program<
     // What is read and written.
     ensures unread { result ≡ 1 → input.new ≡ input.old }
     ensures untouched { IsText (request words.now) → input.new ≡ input.old }
+    ensures test_reads_nothing { IsTest words.now AnyNumbers → input.new ≡ input.old }
     ensures front { result ≡ 9
         → WroteFront words.now (R.seen input.old) (W.seen out.old) (W.seen out.new) }
     ensures nothing { result ≢ 0 → result ≢ 9

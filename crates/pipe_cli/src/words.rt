@@ -1,9 +1,11 @@
 //! The words that the program is called with, and the command that they are.
 
-ghost use Rattle.std.specs.Prelude.{◌≡◌, option_map};
-ghost use Rattle.pipe_cli.specs.Words.{request, request_of};
+ghost use Rattle.std.specs.Prelude.{◌≡◌, option_map, IfSome};
+ghost use Rattle.pipe_cli.specs.Words.{HasGoodRows, request, request_of, test_request};
+ghost use Rattle.pipe_selftest.specs.Words.{rows_in, start_in};
 
 use pipe_frame::Text;
+use pipe_selftest::{rows_in, start_in};
 
 /// What the program is asked to do.
 #[derive(Clone, Copy, Debug)]
@@ -14,15 +16,27 @@ pub enum Command<'a> {
     Check,
     /// `explain`: the branches of the plan of the job on standard input are told.
     Explain,
+    /// `selftest START ROWS`: two frames of so many rows are drawn from a state on and joined.
+    SelfTest(u64, u32),
     /// `--help`: a text tells what the program does.
     Help,
     /// `--version`: the name and the version are told.
     Version,
 }
 
+/// The self-test of two numbers, where both are good.
+fn self_test(start: &str, rows: &str) -> Option<Command<'static>>
+    ensures request { option_map request_of result
+        ≡ test_request (start_in start.now) (rows_in rows.now) }
+    ensures rows { IfSome result HasGoodRows }
+{
+    Some(Command::SelfTest(start_in(start)?, rows_in(rows)?))
+}
+
 /// The command that the words are, by exact words.
 pub fn command_of(words: &[Text]) -> Option<Command<'_>>
-    ensures { option_map request_of result ≡ request words.now }
+    ensures request { option_map request_of result ≡ request words.now }
+    ensures rows { IfSome result HasGoodRows }
 {
     match words {
         [word] => match word.as_str() {
@@ -34,6 +48,9 @@ pub fn command_of(words: &[Text]) -> Option<Command<'_>>
             _ => None,
         },
         [word, name] if word.as_str() == "run" => Some(Command::Run(Some(name))),
+        [word, start, rows] if word.as_str() == "selftest" => {
+            self_test(start.as_str(), rows.as_str())
+        }
         _ => None,
     }
 }

@@ -6,6 +6,7 @@ mod explained;
 mod faulty;
 mod looked_at;
 mod table;
+mod tested;
 
 use std::io;
 

@@ -1,7 +1,7 @@
 //! The cases, in the order in which they are told.
 
 use crate::commands::words;
-use crate::{commands, explained, faulty, looked_at};
+use crate::{commands, explained, faulty, looked_at, tested};
 use std::alloc::{AllocError, Global};
 use std::thread::Threads;
 use worked_runs::{SORTED_JOIN, tell_length, tell_run, tell_text};
@@ -34,7 +34,7 @@ fn tell_words<T: Threads + Sync>(
         a,
         answers,
         "a command that isn't there",
-        words(rt, a, &["selftest", "1", "0"])?,
+        words(rt, a, &["join", "1", "0"])?,
     )?;
     tell_run(a, answers, "an upper-case word", words(rt, a, &["Run"])?)
 }
@@ -119,6 +119,7 @@ pub(crate) fn answers<T: Threads + Sync>(rt: &T, alloc: Global) -> Result<String
     let mut answers = String::new(alloc);
     tell_words(rt, alloc, &mut answers)?;
     tell_commands(rt, alloc, &mut answers)?;
+    tested::tell_tests(rt, alloc, &mut answers)?;
     tell_looked_at(rt, alloc, &mut answers)?;
     explained::tell_explained(rt, alloc, &mut answers)?;
     Ok(answers)

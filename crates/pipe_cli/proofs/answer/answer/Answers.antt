@@ -1,5 +1,5 @@
 use Rattle.std.proofs.Common.{true}
-use Rattle.pipe_cli.proofs.AnswerLemmas.{answered, going_passed, job_caused_err, yes_passed}
+use Rattle.pipe_cli.proofs.AnswerLemmas.{answered, job_caused_err}
 use Rattle.pipe_job.specs.JobSpelling.{task_of}
 use Rattle.pipe_cli.proofs.answer.answer.Goals as goal
 
