@@ -1,8 +1,10 @@
 //! Works operators out: prints what each shows, and what it gives for a chunk.
 #![tactic(auto)]
 
+mod cases;
 mod filters;
 mod numbers;
+mod planned;
 mod told;
 mod written;
 
@@ -15,6 +17,7 @@ fn answers(alloc: Global) -> Result<String, AllocError> {
     answers.push_str(numbers::chunk_sizes(alloc)?.as_str())?;
     answers.push_str(numbers::split_pieces(alloc)?.as_str())?;
     answers.push_str(numbers::joined_pieces(alloc)?.as_str())?;
+    answers.push_str(cases::lines(alloc)?.as_str())?;
     Ok(answers)
 }
 

@@ -1,0 +1,2 @@
+-- the chunk of a scan
+pub mod Planned
