@@ -14,10 +14,11 @@ import sys
 import tempfile
 from pathlib import Path
 
-# Counts the program's allocations, and refuses the one whose number the environment gives.
+# Counts the program's allocations, over all threads, and refuses the one whose number the environment gives.
 SHIM = r"""
 #define _GNU_SOURCE
 #include <dlfcn.h>
+#include <errno.h>
 #include <stdlib.h>
 #include <unistd.h>
 
@@ -29,7 +30,10 @@ static int refuse(void) {
         const char *number = getenv("REFUSED");
         refused = number ? atol(number) : 0;
     }
-    return ++made == refused && write(9, "x", 1) >= -1;
+    if (__atomic_add_fetch(&made, 1, __ATOMIC_RELAXED) != refused) return 0;
+    write(9, "x", 1);
+    errno = ENOMEM;  // which the C library looks at where it starts a thread
+    return 1;
 }
 
 void *malloc(size_t size) {
