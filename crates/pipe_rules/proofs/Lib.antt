@@ -1,0 +1,10 @@
+pub mod Filters
+pub mod Conjoined
+pub mod Renamed
+pub mod Under
+pub mod Columns
+pub mod Sorted
+pub mod Down
+pub mod ColumnTypes
+pub mod TypesDown
+pub mod Parts
