@@ -44,7 +44,7 @@ use Rattle.pipe_job.proofs.FrameTests.{fault_outlined}
 
 -- ---- numbers and bytes
 
-unsigned_again : (bits n : ℕ) → n < 2 ^ bits → is_unsigned bits (number (unsigned n)) ≡ true
+pub unsigned_again : (bits n : ℕ) → n < 2 ^ bits → is_unsigned bits (number (unsigned n)) ≡ true
 unsigned_again bits n h = grind (arith, nat_tests)
 
 int64_again : (z : ℤ) → FitsSigned w64 z → is_signed 63 (number (of_integer z)) ≡ true
@@ -68,7 +68,7 @@ list_again spell Fits shape one (x ∷ xs) h = ap₂ (λ (a b : Bool). a && b) (
 numbers_again : (xs : List ℕ) → AllByRecursion Fits32 xs → is_list (is_unsigned 32) (list whole xs) ≡ true
 numbers_again xs h = list_again whole Fits32 (is_unsigned 32) (unsigned_again 32) xs h
 
-texts_again : (xs : List (List ℕ)) → is_list is_text (list string xs) ≡ true
+pub texts_again : (xs : List (List ℕ)) → is_list is_text (list string xs) ≡ true
 texts_again [] = refl
 texts_again (x ∷ xs) = texts_again xs
 
@@ -213,10 +213,10 @@ no_fault (f ∷ fields) rows good =
 table_again : (f : Table) → FrameFits f → is_table (list column_spelling (columns_of f)) ≡ true
 table_again f h = ap (λ (o : Option FrameError). not (is_some o)) (fault_outlined (columns_of f) ∙ no_fault f.schema f.rows h.schema)
 
-frame_again : (f : Table) → FrameFits f → is_frame (frame_spelling f) ≡ true
+pub frame_again : (f : Table) → FrameFits f → is_frame (frame_spelling f) ≡ true
 frame_again f h = rw (list_again column_spelling ColumnFits is_column column_again (columns_of f) h.cells, table_again f h)
 
-version_again : (n : ℕ) → VersionFits n → is_version (whole n) ≡ true
+pub version_again : (n : ℕ) → VersionFits n → is_version (whole n) ≡ true
 version_again n (inl e) = ap (λ (m : ℕ). is_version (whole m)) e
 version_again n (inr e) = ap (λ (m : ℕ). is_version (whole m)) e
 

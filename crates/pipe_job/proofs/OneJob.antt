@@ -71,7 +71,7 @@ one_boolean x y e = cc
 one_whole : (x y : ℕ) → whole x ≡ whole y → x ≡ y
 one_whole x y e = cc
 
-one_texts : (xs ys : List (List ℕ)) → list string xs ≡ list string ys → xs ≡ ys
+pub one_texts : (xs ys : List (List ℕ)) → list string xs ≡ list string ys → xs ≡ ys
 one_texts = one_list string one_string
 
 one_truths : (xs ys : List Bool) → list boolean xs ≡ list boolean ys → xs ≡ ys
@@ -274,7 +274,7 @@ height_back : (schema : List Field) (rows : List Row) → IsSchema schema → he
 height_back [] rows h = cc
 height_back (f ∷ fields) rows h = length-map rows (cell_of_row 0)
 
-one_frame : (a b : Table) → FrameFits a → FrameFits b → frame_spelling a ≡ frame_spelling b → a ≡ b
+pub one_frame : (a b : Table) → FrameFits a → FrameFits b → frame_spelling a ≡ frame_spelling b → a ≡ b
 one_frame a b h k e =
     let columns = list_same column_spelling ColumnFits one_column (columns_of a) (columns_of b) h.cells k.cells (cc) in
     let high = sym (height_back a.schema a.rows h.schema) ∙ ap height_of columns ∙ height_back b.schema b.rows k.schema in

@@ -42,14 +42,14 @@ impl Drop for Job {
 
 /// What comes of a job from its row limit on.
 #[derive(Clone, Copy)]
-struct JobBack {
-    row_limit: u32,
-    version: u32,
-    workers: u32,
+pub struct JobBack {
+    pub row_limit: u32,
+    pub version: u32,
+    pub workers: u32,
 }
 
 /// The last members of a job, from its row limit on.
-fn back_of(alloc: Global, members: &mut Members) -> Result<JobBack, Misread>
+pub fn back_of(alloc: Global, members: &mut Members) -> Result<JobBack, Misread>
     ensures { ReadWhere (is_job_back (members_view members.old.rest))
         (IsJobBack (members_view members.old.rest)) result }
 {

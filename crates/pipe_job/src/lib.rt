@@ -22,6 +22,10 @@ mod spelled;
 mod spelled_cell;
 mod version;
 
-pub use jobs::{Job, JobError, job_of, read_job, read_value};
+pub use jobs::{Job, JobBack, JobError, back_of, job_of, read_job, read_value};
 pub use laws::{lines_of_frame, one_job};
 pub use lines::{head_line, push_head_line, push_rows, row_line};
+pub use members::{Members, two_items};
+pub use misread::Misread;
+pub use spelled::Spelled;
+pub use version::fields_have_int128;

@@ -14,13 +14,13 @@ use std::collections::btree_map::Iter;
 
 /// What is left of an object's members, in the order of their names.
 #[derive(Drop)]
-pub(crate) struct Members<'a> {
-    rest: Iter<'a, String, Value>,
+pub struct Members<'a> {
+    pub rest: Iter<'a, String, Value>,
 }
 
 impl<'a> Members<'a> {
     /// The members of a value that is an object.
-    pub(crate) fn of(value: &'a Value) -> Result<Members<'a>, Misread>
+    pub fn of(value: &'a Value) -> Result<Members<'a>, Misread>
         ensures { ReadWhere (is_object (view value.now))
             (λ m. view value.now ≡ object (members_view m.rest)) result }
     {
@@ -33,7 +33,7 @@ impl<'a> Members<'a> {
     }
 
     /// The value of the next member, where it has this name.
-    pub(crate) fn take(&mut self, name: &str) -> Result<&'a Value, Misread>
+    pub fn take(&mut self, name: &str) -> Result<&'a Value, Misread>
         ensures { ReadWhere (begins name.now (members_view self.old.rest))
             (λ v. members_view self.old.rest ≡ member name.now (view v.now) (members_view self.new.rest)) result }
     {
@@ -48,7 +48,7 @@ impl<'a> Members<'a> {
     }
 
     /// Reads the value of the next member, where it has this name.
-    pub(crate) fn field<T: Spelled>(&mut self, alloc: Global, name: &str) -> Result<T, Misread>
+    pub fn field<T: Spelled>(&mut self, alloc: Global, name: &str) -> Result<T, Misread>
         ensures { ReadWhere (has name.now T.shape (members_view self.old.rest))
             (λ x. (members_view self.old.rest ≡ member name.now (T.spelling x) (members_view self.new.rest)) × T.fits x) result }
     {
@@ -70,7 +70,7 @@ impl<'a> Members<'a> {
     }
 
     /// Takes no member, where there is none.
-    pub(crate) fn end(&mut self) -> Result<(), Misread>
+    pub fn end(&mut self) -> Result<(), Misread>
         ensures { ReadWhere (is_end (members_view self.old.rest))
             (λ _. members_view self.old.rest ≡ no_members) result }
     {
@@ -98,7 +98,7 @@ pub(crate) fn only_member(value: &Value) -> Result<(&str, &Value), Misread>
 
 /// The items of an array of two.
 #[tactic(auto, using(crate::proofs::Depths::two_of, crate::proofs::Depths::not_two))]
-pub(crate) fn two_items(value: &Value) -> Result<(&Value, &Value), Misread>
+pub fn two_items(value: &Value) -> Result<(&Value, &Value), Misread>
     ensures { ReadWhere (is_couple (view value.now))
         (λ p. view value.now ≡ array (item (view p.0.now) (item (view p.1.now) no_items))) result }
 {

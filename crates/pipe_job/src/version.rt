@@ -114,7 +114,7 @@ fn node_has_int128(node: &IR) -> bool
 }
 
 /// Whether a column of some fields has the type Int128.
-fn fields_have_int128(fields: &[Field]) -> bool
+pub fn fields_have_int128(fields: &[Field]) -> bool
     ensures { result ≡ list_any field_has_int128 fields.now }
 {
     for field in fields {

@@ -1,0 +1,4 @@
+pub mod Shapes
+pub mod Again
+pub mod OneReconJob
+pub mod Texts
