@@ -1,0 +1,17 @@
+mod Tests
+mod Meeting
+mod Changing
+mod Placing
+mod Weighing
+mod Apart
+mod Entries
+mod Putting
+mod Ordering
+mod Local
+mod Taking
+mod Limits
+mod Growing
+mod Edited
+mod Viewed
+mod Told
+mod Filling
