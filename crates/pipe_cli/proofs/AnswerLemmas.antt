@@ -29,7 +29,7 @@ use Rattle.pipe_cli.specs.declared.status.Refusal.{Refusal}
 use Rattle.pipe_cli.specs.declared.status.Refusal.TheVariants as refusal
 
 -- bytes have one reading
-one_reading : (bytes : List ℕ) (v w : Data) → Reading bytes v → Reading bytes w → v ≡ w
+pub one_reading : (bytes : List ℕ) (v w : Data) → Reading bytes v → Reading bytes w → v ≡ w
 one_reading bytes v w r s = same_Some _ _ (sym r.reads ∙ s.reads)
 
 -- and spell one job at most

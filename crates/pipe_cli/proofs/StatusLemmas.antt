@@ -4,30 +4,31 @@ use Rattle.std.specs.Prelude.{IfSome, IsSomeAnd}
 use Rattle.pipe_job.specs.Reading.{ReadsNoJob}
 use Rattle.pipe_outside.specs.Outside.{InputSeen, OutputSeen}
 use Rattle.pipe_cli.specs.Answer.{HasMany, RefusedAs, SoundJob, ToldAs, WideJob}
-use Rattle.pipe_cli.specs.Headline.{ExplainedOn, ExplainedInPartOn, GoodOn, IsTooMany, RanInPartOn, RanOn, ReadOn, SoundOn, WasRead, Wrote, WroteFor, WroteFrontFor, limit}
+use Rattle.pipe_cli.specs.Headline.{ExplainedOn, ExplainedInPartOn, GoodOn, IsTooMany, RanInPartOn, RanOn, SoundOn, Wrote, WroteFor, WroteFrontFor, limit}
 use Rattle.pipe_cli.specs.Noted.{Noted, NotedFault}
-use Rattle.pipe_cli.specs.Refused.{NotJobOn, NotJsonOn, OfWords, ReadingOf, TextOf, ToldOn, WritingOf}
+use Rattle.pipe_cli.specs.Reconciled.{ReconToldAs}
+use Rattle.pipe_cli.specs.Refused.{NotJobOn, NotJsonOn, OfWords, ReadingOf, ReconOf, ReconToldOn, TextOf, ToldOn, WritingOf}
 use Rattle.pipe_cli.specs.Status.{IsFixed, OneOf, line_of, status_line, status_of}
 use Rattle.pipe_cli.specs.Tested.{TestOf}
 use Rattle.pipe_cli.proofs.TestLemmas.{fault_tested, line_tested}
 use Rattle.pipe_cli.specs.declared.status.Refusal.{Refusal}
 use Rattle.pipe_cli.specs.declared.status.Refusal.TheVariants as refusal
-use Rattle.pipe_cli.specs.Words.{IfJob, IsJob, Request, Run, Check, Explain, SelfTest, Help, Version, asks_run, bytes_at, is_run, job_asked, job_bytes, request}
+use Rattle.pipe_cli.specs.Words.{IfJob, IsJob, Request, Run, Check, Explain, SelfTest, Reconcile, Help, Version, asks_run, bytes_at, input_asked, is_run, job_asked, job_bytes, recon_bytes, request}
 use Rattle.pipe_cli.proofs.AnswerLemmas.{answered_good, answered_sound, explained_sound, fault_sound, fault_told, good_sound, many_told, many_told_good, many_told_sound, none_job, nothing_job, nothing_none, one_status, sound_as, wide_good, wide_sound}
 
 -- ---- facts of the bytes that are told
 
 -- what two facts of the bytes give
-both : (told : Option (List ℕ)) (P Q : List ℕ → Type 0) (F : Type 0) → ((bytes : List ℕ) → P bytes → Q bytes → F) → IfSome told P → IsSomeAnd told Q → F
+pub both : (told : Option (List ℕ)) (P Q : List ℕ → Type 0) (F : Type 0) → ((bytes : List ℕ) → P bytes → Q bytes → F) → IfSome told P → IsSomeAnd told Q → F
 both None P Q F gives h k = absurd k
 both (Some bytes) P Q F gives h k = gives bytes h k
 
 -- two facts of which no bytes have both
-clash : (told : Option (List ℕ)) (P Q : List ℕ → Type 0) → ((bytes : List ℕ) → P bytes → Q bytes → ⊥) → IfSome told P → IsSomeAnd told Q → ⊥
+pub clash : (told : Option (List ℕ)) (P Q : List ℕ → Type 0) → ((bytes : List ℕ) → P bytes → Q bytes → ⊥) → IfSome told P → IsSomeAnd told Q → ⊥
 clash told P Q apart h k = both told P Q ⊥ apart h k
 
 -- a fact that follows
-follows : (told : Option (List ℕ)) (P Q : List ℕ → Type 0) → ((bytes : List ℕ) → P bytes → Q bytes) → IfSome told P → IfSome told Q
+pub follows : (told : Option (List ℕ)) (P Q : List ℕ → Type 0) → ((bytes : List ℕ) → P bytes → Q bytes) → IfSome told P → IfSome told Q
 follows None P Q f h = tt
 follows (Some bytes) P Q f h = f bytes h
 
@@ -40,12 +41,24 @@ unknown_job : (asked : Option Request) (input : InputSeen) (fact : List ℕ → 
 unknown_job (Some r) input fact e h = cc
 unknown_job None input fact e h = h
 
+-- a fact of the input is one of the job
+of_job : (asked : Option Request) (input : InputSeen) (P : List ℕ → Type 0) → IfSome (input_asked asked input) P → IfSome (job_asked asked input) P
+of_job (Some (Run name)) input P h = h
+of_job (Some Check) input P h = h
+of_job (Some Explain) input P h = h
+of_job (Some (SelfTest start rows)) input P h = tt
+of_job (Some Reconcile) input P h = tt
+of_job (Some Help) input P h = tt
+of_job (Some Version) input P h = tt
+of_job None input P h = tt
+
 -- what was written tells that the job is sound, where one is asked for
 sound_of : (asked : Option Request) (input : InputSeen) (out now : OutputSeen) → WroteFor asked input out now → IfSome (job_asked asked input) SoundJob
 sound_of (Some (Run name)) input out now h = follows (bytes_at name input) (λ b. RanOn b out now) SoundJob (λ b p. answered_sound b p.text p.answered) h
 sound_of (Some Check) input out now h = h.0
 sound_of (Some Explain) input out now h = follows input.left (λ b. ExplainedOn b out now) SoundJob (λ b p. explained_sound b p.text p.explained) h
 sound_of (Some (SelfTest start rows)) input out now h = tt
+sound_of (Some Reconcile) input out now h = tt
 sound_of (Some Help) input out now h = tt
 sound_of (Some Version) input out now h = tt
 sound_of None input out now h = absurd h
@@ -55,20 +68,18 @@ sound_part (Some (Run name)) input out now h = follows (bytes_at name input) (λ
 sound_part (Some Check) input out now h = h.0
 sound_part (Some Explain) input out now h = follows input.left (λ b. ExplainedInPartOn b out now) SoundOn (λ b p. record { short = p.short; sound = explained_sound b p.text p.explained }) h
 sound_part (Some (SelfTest start rows)) input out now h = tt
+sound_part (Some Reconcile) input out now h = tt
 sound_part (Some Help) input out now h = tt
 sound_part (Some Version) input out now h = tt
 sound_part None input out now h = absurd h
 
-too_many : (bytes : List ℕ) → length bytes ≤ limit → IsTooMany bytes → ⊥
+pub too_many : (bytes : List ℕ) → length bytes ≤ limit → IsTooMany bytes → ⊥
 too_many bytes short many = omega (arith, short, many)
 
 -- ---- more bytes than a job may have
 
 abbrev before_text : List ℕ
 before_text = 2 ∷ 3 ∷ 10 ∷ []
-
-pub long_ran : (words : List (List ℕ)) (input now : InputSeen) → WasRead words input now → IsJob words input IsTooMany → OneOf before_text 0
-long_ran words input now h long = absurd (clash (job_bytes words input) (λ b. ReadOn b now) IsTooMany (λ b p q. too_many b p.short q) h long)
 
 pub long_status : (r : Refusal) (words : List (List ℕ)) (input : InputSeen) (out now : OutputSeen) → OfWords r words → TextOf r words input → WritingOf r words input out now → IsJob words input IsTooMany → OneOf before_text (status_of r)
 long_status refusal.BadWords words input out now w t k long = absurd (unknown_job (request words) input IsTooMany w long)
@@ -132,6 +143,7 @@ wide_wrote (Some (Run name)) input out now e h w = clash (bytes_at name input) (
 wide_wrote (Some Check) input out now e h w = cc
 wide_wrote (Some Explain) input out now e h w = cc
 wide_wrote (Some (SelfTest start rows)) input out now e h w = w
+wide_wrote (Some Reconcile) input out now e h w = w
 wide_wrote (Some Help) input out now e h w = w
 wide_wrote (Some Version) input out now e h w = w
 wide_wrote None input out now e h w = w
@@ -141,6 +153,7 @@ wide_front (Some (Run name)) input out now e h w = clash (bytes_at name input) (
 wide_front (Some Check) input out now e h w = cc
 wide_front (Some Explain) input out now e h w = cc
 wide_front (Some (SelfTest start rows)) input out now e h w = w
+wide_front (Some Reconcile) input out now e h w = w
 wide_front (Some Help) input out now e h w = w
 wide_front (Some Version) input out now e h w = w
 wide_front None input out now e h w = w
@@ -168,7 +181,7 @@ of_good = 0 ∷ 2 ∷ 8 ∷ 9 ∷ 10 ∷ []
 pub good_status : (r : Refusal) (words : List (List ℕ)) (input rest : InputSeen) → OfWords r words → ReadingOf r words input rest → TextOf r words input → IsJob words input GoodOn → OneOf of_good (status_of r)
 good_status refusal.BadWords words input rest w read t g = absurd (unknown_job (request words) input GoodOn w g)
 good_status refusal.ReadFault words input rest w read t g = inr (inl refl)
-good_status refusal.TooLong words input rest w read t g = absurd (clash (job_bytes words input) IsTooMany GoodOn (λ b p q. too_many b q.short p) read.many g)
+good_status refusal.TooLong words input rest w read t g = absurd (clash (job_bytes words input) IsTooMany GoodOn (λ b p q. too_many b q.short p) (of_job (request words) input IsTooMany read.many) g)
 good_status refusal.NotJson words input rest w read t g = absurd (clash (job_bytes words input) NotJsonOn GoodOn (λ b p q. nothing_job b q.job.job p.cause q.job.read) t g)
 good_status refusal.NotJob words input rest w read t g = absurd (clash (job_bytes words input) NotJobOn GoodOn (λ b p q. none_job b q.job.job p.cause q.job.read) t g)
 good_status (refusal.Fault line) words input rest w read t g = absurd (clash (job_bytes words input) (ToldOn (asks_run words) 6 line) GoodOn (λ b p q. fault_sound (asks_run words) line b p.cause (good_sound b q.job)) t g)
@@ -185,7 +198,7 @@ of_sound = 0 ∷ 2 ∷ 9 ∷ 10 ∷ []
 pub sound_status : (r : Refusal) (words : List (List ℕ)) (input rest : InputSeen) → OfWords r words → ReadingOf r words input rest → TextOf r words input → (r ≡ refusal.Stopped → asks_run words ≡ true) → asks_run words ≡ false → IsJob words input SoundOn → OneOf of_sound (status_of r)
 sound_status refusal.BadWords words input rest w read t k e g = absurd (unknown_job (request words) input SoundOn w g)
 sound_status refusal.ReadFault words input rest w read t k e g = inr (inl refl)
-sound_status refusal.TooLong words input rest w read t k e g = absurd (clash (job_bytes words input) IsTooMany SoundOn (λ b p q. too_many b q.short p) read.many g)
+sound_status refusal.TooLong words input rest w read t k e g = absurd (clash (job_bytes words input) IsTooMany SoundOn (λ b p q. too_many b q.short p) (of_job (request words) input IsTooMany read.many) g)
 sound_status refusal.NotJson words input rest w read t k e g = absurd (clash (job_bytes words input) NotJsonOn SoundOn (λ b p q. nothing_job b q.sound.job p.cause q.sound.read) t g)
 sound_status refusal.NotJob words input rest w read t k e g = absurd (clash (job_bytes words input) NotJobOn SoundOn (λ b p q. none_job b q.sound.job p.cause q.sound.read) t g)
 sound_status (refusal.Fault line) words input rest w read t k e g = absurd (clash (job_bytes words input) (ToldOn (asks_run words) 6 line) SoundOn (λ b p q. fault_sound (asks_run words) line b p.cause q.sound) t g)
@@ -264,17 +277,17 @@ other_line n six seven (inr (inl h)) = seven h
 other_line n six seven (inr (inr h)) = h
 
 -- the line of a fault is noted
-pub noted_fault : (r : Refusal) (words : List (List ℕ)) (input : InputSeen) (notes now : OutputSeen) → TextOf r words input → TestOf r words → Noted (line_of r) notes now → NotedFault (status_of r) words input notes now
-noted_fault (refusal.Fault line) words input notes now t k h = λ _. record { line = line; tested = fault_tested line words k; told = follows (job_bytes words input) (ToldOn (asks_run words) 6 line) (ToldAs (asks_run words) 6 line) (λ b p. p.cause) t; noted = h }
-noted_fault (refusal.TooMany line) words input notes now t k h = λ _. record { line = line; tested = line_tested line words k; told = follows (job_bytes words input) (ToldOn (asks_run words) 7 line) (ToldAs (asks_run words) 7 line) (λ b p. p.cause) t; noted = h }
-noted_fault refusal.BadWords words input notes now t k h = λ f. absurd (other_line 1 (λ e. omega (arith, e)) (λ e. omega (arith, e)) f)
-noted_fault refusal.ReadFault words input notes now t k h = λ f. absurd (other_line 2 (λ e. omega (arith, e)) (λ e. omega (arith, e)) f)
-noted_fault refusal.TooLong words input notes now t k h = λ f. absurd (other_line 3 (λ e. omega (arith, e)) (λ e. omega (arith, e)) f)
-noted_fault refusal.NotJson words input notes now t k h = λ f. absurd (other_line 4 (λ e. omega (arith, e)) (λ e. omega (arith, e)) f)
-noted_fault refusal.NotJob words input notes now t k h = λ f. absurd (other_line 5 (λ e. omega (arith, e)) (λ e. omega (arith, e)) f)
-noted_fault refusal.Stopped words input notes now t k h = λ f. absurd (other_line 8 (λ e. omega (arith, e)) (λ e. omega (arith, e)) f)
-noted_fault refusal.WriteFault words input notes now t k h = λ f. absurd (other_line 9 (λ e. omega (arith, e)) (λ e. omega (arith, e)) f)
-noted_fault refusal.Memory words input notes now t k h = λ f. absurd (other_line 10 (λ e. omega (arith, e)) (λ e. omega (arith, e)) f)
+pub noted_fault : (r : Refusal) (words : List (List ℕ)) (input : InputSeen) (notes now : OutputSeen) → TextOf r words input → TestOf r words → ReconOf r words input → Noted (line_of r) notes now → NotedFault (status_of r) words input notes now
+noted_fault (refusal.Fault line) words input notes now t k q h = λ _. record { line = line; tested = fault_tested line words k; reconciled = follows (recon_bytes words input) (ReconToldOn 6 line) (ReconToldAs 6 line) (λ b p. p.cause) q; told = follows (job_bytes words input) (ToldOn (asks_run words) 6 line) (ToldAs (asks_run words) 6 line) (λ b p. p.cause) t; noted = h }
+noted_fault (refusal.TooMany line) words input notes now t k q h = λ _. record { line = line; tested = line_tested line words k; reconciled = follows (recon_bytes words input) (ReconToldOn 7 line) (ReconToldAs 7 line) (λ b p. p.cause) q; told = follows (job_bytes words input) (ToldOn (asks_run words) 7 line) (ToldAs (asks_run words) 7 line) (λ b p. p.cause) t; noted = h }
+noted_fault refusal.BadWords words input notes now t k q h = λ f. absurd (other_line 1 (λ e. omega (arith, e)) (λ e. omega (arith, e)) f)
+noted_fault refusal.ReadFault words input notes now t k q h = λ f. absurd (other_line 2 (λ e. omega (arith, e)) (λ e. omega (arith, e)) f)
+noted_fault refusal.TooLong words input notes now t k q h = λ f. absurd (other_line 3 (λ e. omega (arith, e)) (λ e. omega (arith, e)) f)
+noted_fault refusal.NotJson words input notes now t k q h = λ f. absurd (other_line 4 (λ e. omega (arith, e)) (λ e. omega (arith, e)) f)
+noted_fault refusal.NotJob words input notes now t k q h = λ f. absurd (other_line 5 (λ e. omega (arith, e)) (λ e. omega (arith, e)) f)
+noted_fault refusal.Stopped words input notes now t k q h = λ f. absurd (other_line 8 (λ e. omega (arith, e)) (λ e. omega (arith, e)) f)
+noted_fault refusal.WriteFault words input notes now t k q h = λ f. absurd (other_line 9 (λ e. omega (arith, e)) (λ e. omega (arith, e)) f)
+noted_fault refusal.Memory words input notes now t k q h = λ f. absurd (other_line 10 (λ e. omega (arith, e)) (λ e. omega (arith, e)) f)
 
 -- and where there is no refusal, none is
 pub no_fault : (words : List (List ℕ)) (input : InputSeen) (notes now : OutputSeen) → NotedFault 0 words input notes now

@@ -13,7 +13,7 @@ use Rattle.pipe_cli.specs.Causes.{Tells}
 use Rattle.pipe_cli.specs.Refused.{OfReading, OfText, OfWords}
 use Rattle.pipe_cli.specs.Status.{OneOf, status_of}
 use Rattle.pipe_cli.specs.Tested.{IsNarrowTest, OfTest, TestOf, ToldTest, WideTest}
-use Rattle.pipe_cli.specs.Words.{AnyNumbers, IfTest, IsTest, Request, Run, Check, Explain, SelfTest, Help, Version, if_test, is_test, request}
+use Rattle.pipe_cli.specs.Words.{AnyNumbers, IfTest, IsTest, Request, Run, Check, Explain, SelfTest, Reconcile, Help, Version, if_test, is_test, request}
 use Rattle.pipe_cli.specs.declared.status.Refusal.{Refusal}
 use Rattle.pipe_cli.specs.declared.status.Refusal.TheVariants as refusal
 
@@ -117,6 +117,7 @@ both : (asked : Option Request) (P Q : ℕ → ℕ → Type 0) (F : Type 0) → 
 both (Some (Run name)) P Q F gives h k = absurd k
 both (Some Check) P Q F gives h k = absurd k
 both (Some Explain) P Q F gives h k = absurd k
+both (Some Reconcile) P Q F gives h k = absurd k
 both (Some (SelfTest start rows)) P Q F gives h k = gives start rows h k
 both (Some Help) P Q F gives h k = absurd k
 both (Some Version) P Q F gives h k = absurd k
@@ -126,6 +127,7 @@ follows : (asked : Option Request) (P Q : ℕ → ℕ → Type 0) → ((start ro
 follows (Some (Run name)) P Q f h = tt
 follows (Some Check) P Q f h = tt
 follows (Some Explain) P Q f h = tt
+follows (Some Reconcile) P Q f h = tt
 follows (Some (SelfTest start rows)) P Q f h = f start rows h
 follows (Some Help) P Q f h = tt
 follows (Some Version) P Q f h = tt

@@ -3,8 +3,9 @@ use Rattle.std.specs.Prelude.{ℕ, ◌≡◌, ◌<◌, ◌≤◌, List, [], leng
 use Rattle.pipe_outside.specs.Outside.{CountedAbove, InputSeen, OutputSeen, Writes, WritesFront}
 use Rattle.pipe_selftest.specs.Lines.{selftest_lines}
 use Rattle.pipe_cli.specs.Answer.{Answered, Explained, GoodJob, SoundJob}
+use Rattle.pipe_cli.specs.Reconciled.{GoodRecon, ReconAnswered, SoundRecon}
 use Rattle.pipe_cli.specs.Texts.{help_text, ok_text, version_text}
-use Rattle.pipe_cli.specs.Words.{Request, Run, Check, Explain, SelfTest, Help, Version, bytes_at, job_bytes, request}
+use Rattle.pipe_cli.specs.Words.{Request, Run, Check, Explain, SelfTest, Reconcile, Help, Version, bytes_at, input_bytes, request}
 
 -- how many bytes a job has at most
 abbrev pub limit : ℕ
@@ -22,9 +23,9 @@ pub record ReadOn (bytes : List ℕ) (now : InputSeen) : Type 0 where
 abbrev pub IsWhole : Option (List ℕ) → InputSeen → Type 0
 IsWhole told now = IfSome told (λ bytes. ReadOn bytes now)
 
--- the job that words ask for was read to its end, and isn't too long
+-- the job or the reconciliation that words ask for was read to its end, and isn't too long
 abbrev pub WasRead : List (List ℕ) → InputSeen → InputSeen → Type 0
-WasRead words input now = IsWhole (job_bytes words input) now
+WasRead words input now = IsWhole (input_bytes words input) now
 
 -- a text is the answer to the bytes of a job, where they are told
 abbrev pub IsAnswer : List ℕ → Option (List ℕ) → Type 0
@@ -85,13 +86,37 @@ pub record ExplainedInPartOn (bytes : List ℕ) (out now : OutputSeen) : Type 0 
 abbrev pub WasExplainedInPart : Option (List ℕ) → OutputSeen → OutputSeen → Type 0
 WasExplainedInPart told out now = IfSome told (λ bytes. ExplainedInPartOn bytes out now)
 
--- what was asked for was written: the answer to the job, that it is good, its branches, the lines of a self-test, or
--- a text
+-- a text is the answer to the bytes of a reconciliation, where they are told
+abbrev pub IsReconAnswer : List ℕ → Option (List ℕ) → Type 0
+IsReconAnswer text told = IfSome told (λ bytes. ReconAnswered bytes text)
+
+-- the lines of the reconciliation of bytes were written
+pub record ReconciledOn (bytes : List ℕ) (out now : OutputSeen) : Type 0 where
+  pub text : List ℕ
+  pub answered : ReconAnswered bytes text
+  pub wrote : Writes text out now
+
+abbrev pub WasReconciled : Option (List ℕ) → OutputSeen → OutputSeen → Type 0
+WasReconciled told out now = IfSome told (λ bytes. ReconciledOn bytes out now)
+
+-- a front of them was written, to bytes of which a job may have so many
+pub record ReconciledInPartOn (bytes : List ℕ) (out now : OutputSeen) : Type 0 where
+  pub short : length bytes ≤ limit
+  pub text : List ℕ
+  pub answered : ReconAnswered bytes text
+  pub wrote : WritesFront text out now
+
+abbrev pub WasReconciledInPart : Option (List ℕ) → OutputSeen → OutputSeen → Type 0
+WasReconciledInPart told out now = IfSome told (λ bytes. ReconciledInPartOn bytes out now)
+
+-- what was asked for was written: the answer to the job, that it is good, its branches, the lines of a self-test or of
+-- a reconciliation, or a text
 abbrev pub WroteFor : Option Request → InputSeen → OutputSeen → OutputSeen → Type 0
 WroteFor (Some (Run name)) input out now = Ran (bytes_at name input) out now
 WroteFor (Some Check) input out now = Passed input.left out now
 WroteFor (Some Explain) input out now = WasExplained input.left out now
 WroteFor (Some (SelfTest start rows)) input out now = Writes (selftest_lines start rows) out now
+WroteFor (Some Reconcile) input out now = WasReconciled input.left out now
 WroteFor (Some Help) input out now = Writes help_text out now
 WroteFor (Some Version) input out now = Writes version_text out now
 WroteFor None input out now = ⊥
@@ -106,6 +131,7 @@ WroteFrontFor (Some Check) input out now = PassedInPart input.left out now
 WroteFrontFor (Some Explain) input out now = WasExplainedInPart input.left out now
 WroteFrontFor (Some (SelfTest start rows)) input out now =
     WritesFront (selftest_lines start rows) out now
+WroteFrontFor (Some Reconcile) input out now = WasReconciledInPart input.left out now
 WroteFrontFor (Some Help) input out now = WritesFront help_text out now
 WroteFrontFor (Some Version) input out now = WritesFront version_text out now
 WroteFrontFor None input out now = ⊥
@@ -119,9 +145,19 @@ pub record IsLongOn (told : Option (List ℕ)) (input now : InputSeen) : Type 0 
   pub counted : CountedAbove limit input now
 
 abbrev pub IsTooLong : List (List ℕ) → InputSeen → InputSeen → Type 0
-IsTooLong words input now = IsLongOn (job_bytes words input) input now
+IsTooLong words input now = IsLongOn (input_bytes words input) input now
 
 -- bytes within the limit that spell a good job
 pub record GoodOn (bytes : List ℕ) : Type 0 where
   pub short : length bytes ≤ limit
   pub job : GoodJob bytes
+
+-- bytes within the limit that spell a sound reconciliation
+pub record SoundReconOn (bytes : List ℕ) : Type 0 where
+  pub short : length bytes ≤ limit
+  pub sound : SoundRecon bytes
+
+-- and a good one
+pub record GoodReconOn (bytes : List ℕ) : Type 0 where
+  pub short : length bytes ≤ limit
+  pub job : GoodRecon bytes

@@ -8,6 +8,8 @@ pub mod Status
 pub mod Answer
 -- why bytes have no answer
 pub mod Causes
+-- the answer to a reconciliation, and why there is none
+pub mod Reconciled
 -- what a run says of its input and its output
 pub mod Headline
 -- why a self-test ends with a refusal

@@ -1,10 +1,12 @@
 -- Why a run ends with a refusal.
 use Rattle.std.specs.Prelude.{ℕ, ◌≡◌, ◌≤◌, List, Bool, length, Option, None, IfSome, IsSome}
 use Rattle.pipe_job.specs.Reading.{ReadsNoJob, ReadsNothing}
+use Rattle.pipe_recon_text.specs.ReconReading.{ReadsNoReconJob}
 use Rattle.pipe_outside.specs.Outside.{InputSeen, OutputSeen, ReadFails, WriteFails}
 use Rattle.pipe_cli.specs.Answer.{ToldAs}
-use Rattle.pipe_cli.specs.Headline.{IsLongOn, PassedInPart, RanInPart, SoundOn, WasExplainedInPart, WroteFront, limit}
-use Rattle.pipe_cli.specs.Words.{asks_run, job_bytes, request}
+use Rattle.pipe_cli.specs.Reconciled.{ReconToldAs}
+use Rattle.pipe_cli.specs.Headline.{IsLongOn, PassedInPart, RanInPart, SoundOn, SoundReconOn, WasExplainedInPart, WasReconciledInPart, WroteFront, limit}
+use Rattle.pipe_cli.specs.Words.{asks_run, input_bytes, job_bytes, recon_bytes, request}
 use Rattle.pipe_cli.specs.declared.status.Refusal.{Refusal}
 use Rattle.pipe_cli.specs.declared.status.Refusal.TheVariants as refusal
 
@@ -62,6 +64,30 @@ OfText runs refusal.TooLong told = Unit {0}
 OfText runs refusal.WriteFault told = Unit {0}
 OfText runs refusal.Memory told = Unit {0}
 
+-- a job may have so many bytes, and the value that is read of them spells no reconciliation
+pub record NotReconOn (bytes : List ℕ) : Type 0 where
+  pub short : length bytes ≤ limit
+  pub cause : ReadsNoReconJob bytes
+
+-- a job may have so many bytes, and the value that is read of them spells a reconciliation that ends with this status and
+-- line
+pub record ReconToldOn (status : ℕ) (line bytes : List ℕ) : Type 0 where
+  pub short : length bytes ≤ limit
+  pub cause : ReconToldAs status line bytes
+
+-- what a refusal says of the text of a reconciliation
+abbrev pub OfRecon : Refusal → Option (List ℕ) → Type 0
+OfRecon refusal.NotJson told = IfSome told NotJsonOn
+OfRecon refusal.NotJob told = IfSome told NotReconOn
+OfRecon (refusal.Fault line) told = IfSome told (ReconToldOn 6 line)
+OfRecon (refusal.TooMany line) told = IfSome told (ReconToldOn 7 line)
+OfRecon refusal.Stopped told = IfSome told SoundReconOn
+OfRecon refusal.BadWords told = Unit {0}
+OfRecon refusal.ReadFault told = Unit {0}
+OfRecon refusal.TooLong told = Unit {0}
+OfRecon refusal.WriteFault told = Unit {0}
+OfRecon refusal.Memory told = Unit {0}
+
 -- what a refusal says of the output, of which some front may be written
 abbrev pub OfWriting : Refusal → Type 0 → OutputSeen → OutputSeen → Type 0
 OfWriting refusal.WriteFault front out now = WriteFails out now × front
@@ -89,13 +115,19 @@ CheckedLeft r input out now = OfWriting r (PassedInPart input.left out now) out 
 abbrev pub ExplainedLeft : Refusal → InputSeen → OutputSeen → OutputSeen → Type 0
 ExplainedLeft r input out now = OfWriting r (WasExplainedInPart input.left out now) out now
 
--- ---- the same of the job that words ask for
+abbrev pub ReconciledLeft : Refusal → InputSeen → OutputSeen → OutputSeen → Type 0
+ReconciledLeft r input out now = OfWriting r (WasReconciledInPart input.left out now) out now
+
+-- ---- the same of what words ask for
 
 abbrev pub ReadingOf : Refusal → List (List ℕ) → InputSeen → InputSeen → Type 0
-ReadingOf r words input now = OfReading r (job_bytes words input) input now
+ReadingOf r words input now = OfReading r (input_bytes words input) input now
 
 abbrev pub TextOf : Refusal → List (List ℕ) → InputSeen → Type 0
 TextOf r words input = OfText (asks_run words) r (job_bytes words input)
+
+abbrev pub ReconOf : Refusal → List (List ℕ) → InputSeen → Type 0
+ReconOf r words input = OfRecon r (recon_bytes words input)
 
 abbrev pub WritingOf : Refusal → List (List ℕ) → InputSeen → OutputSeen → OutputSeen → Type 0
 WritingOf r words input out now = OfWriting r (WroteFront words input out now) out now

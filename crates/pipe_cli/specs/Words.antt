@@ -8,12 +8,14 @@ use Rattle.pipe_cli.specs.declared.words.Command.{Command}
 use Rattle.pipe_cli.specs.declared.words.Command.TheVariants as command
 
 -- what is asked for: that a job is run, on standard input or under a name; that the job on standard input is looked at,
--- or that its branches are told; that a self-test is run; or that a text is told
+-- or that its branches are told; that a self-test is run; that the tables on standard input are reconciled; or that a
+-- text is told
 pub data Request : Type 0 where
   Run : (name : Option (List ℕ)) → Request
   Check : Request
   Explain : Request
   SelfTest : (start rows : ℕ) → Request
+  Reconcile : Request
   Help : Request
   Version : Request
 
@@ -23,6 +25,7 @@ request_of (command.Run name) = Run (option_copied name)
 request_of command.Check = Check
 request_of command.Explain = Explain
 request_of (command.SelfTest start rows) = SelfTest start rows
+request_of command.Reconcile = Reconcile
 request_of command.Help = Help
 request_of command.Version = Version
 
@@ -32,6 +35,7 @@ word_request word =
     if bytes_eq word (codes "run") then Some (Run None)
     else if bytes_eq word (codes "check") then Some Check
     else if bytes_eq word (codes "explain") then Some Explain
+    else if bytes_eq word (codes "reconcile") then Some Reconcile
     else if bytes_eq word (codes "--help") then Some Help
     else if bytes_eq word (codes "--version") then Some Version
     else None
@@ -74,6 +78,7 @@ job_asked (Some (Run name)) input = bytes_at name input
 job_asked (Some Check) input = input.left
 job_asked (Some Explain) input = input.left
 job_asked (Some (SelfTest start rows)) input = None
+job_asked (Some Reconcile) input = None
 job_asked (Some Help) input = None
 job_asked (Some Version) input = None
 job_asked None input = None
@@ -90,26 +95,70 @@ IfJob words input fact = IfSome (job_bytes words input) fact
 abbrev pub IsJob : List (List ℕ) → InputSeen → (List ℕ → Type 0) → Type 0
 IsJob words input fact = IsSomeAnd (job_bytes words input) fact
 
--- whether something is to be run: a job, or a self-test
+-- the bytes of the reconciliation that is asked for, where they are told
+abbrev pub recon_asked : Option Request → InputSeen → Option (List ℕ)
+recon_asked (Some (Run name)) input = None
+recon_asked (Some Check) input = None
+recon_asked (Some Explain) input = None
+recon_asked (Some (SelfTest start rows)) input = None
+recon_asked (Some Reconcile) input = input.left
+recon_asked (Some Help) input = None
+recon_asked (Some Version) input = None
+recon_asked None input = None
+
+abbrev pub recon_bytes : List (List ℕ) → InputSeen → Option (List ℕ)
+recon_bytes words input = recon_asked (request words) input
+
+-- a fact of the bytes of the reconciliation that words ask for, where they are told
+abbrev pub IfRecon : List (List ℕ) → InputSeen → (List ℕ → Type 0) → Type 0
+IfRecon words input fact = IfSome (recon_bytes words input) fact
+
+-- words ask for a reconciliation whose bytes are told, and of which this is a fact
+abbrev pub IsRecon : List (List ℕ) → InputSeen → (List ℕ → Type 0) → Type 0
+IsRecon words input fact = IsSomeAnd (recon_bytes words input) fact
+
+-- the bytes of the job or the reconciliation that is asked for, where they are told
+abbrev pub input_asked : Option Request → InputSeen → Option (List ℕ)
+input_asked (Some (Run name)) input = bytes_at name input
+input_asked (Some Check) input = input.left
+input_asked (Some Explain) input = input.left
+input_asked (Some (SelfTest start rows)) input = None
+input_asked (Some Reconcile) input = input.left
+input_asked (Some Help) input = None
+input_asked (Some Version) input = None
+input_asked None input = None
+
+abbrev pub input_bytes : List (List ℕ) → InputSeen → Option (List ℕ)
+input_bytes words input = input_asked (request words) input
+
+abbrev pub IfInput : List (List ℕ) → InputSeen → (List ℕ → Type 0) → Type 0
+IfInput words input fact = IfSome (input_bytes words input) fact
+
+abbrev pub IsInput : List (List ℕ) → InputSeen → (List ℕ → Type 0) → Type 0
+IsInput words input fact = IsSomeAnd (input_bytes words input) fact
+
+-- whether something is to be run: a job, a self-test, or a reconciliation
 abbrev pub is_run : Option Request → Bool
 is_run (Some (Run name)) = true
 is_run (Some Check) = false
 is_run (Some Explain) = false
 is_run (Some (SelfTest start rows)) = true
+is_run (Some Reconcile) = true
 is_run (Some Help) = false
 is_run (Some Version) = false
 is_run None = false
 
--- words ask that a job or a self-test be run
+-- words ask that a job, a self-test or a reconciliation be run
 abbrev pub asks_run : List (List ℕ) → Bool
 asks_run words = is_run (request words)
 
--- no job is asked for, but a text
+-- nothing is asked for but a text
 abbrev pub IsText : Option Request → Type 0
 IsText (Some (Run name)) = ⊥
 IsText (Some Check) = ⊥
 IsText (Some Explain) = ⊥
 IsText (Some (SelfTest start rows)) = ⊥
+IsText (Some Reconcile) = ⊥
 IsText (Some Help) = ⊤
 IsText (Some Version) = ⊤
 IsText None = ⊥
@@ -120,6 +169,7 @@ if_test (Some (Run name)) fact = ⊤
 if_test (Some Check) fact = ⊤
 if_test (Some Explain) fact = ⊤
 if_test (Some (SelfTest start rows)) fact = fact start rows
+if_test (Some Reconcile) fact = ⊤
 if_test (Some Help) fact = ⊤
 if_test (Some Version) fact = ⊤
 if_test None fact = ⊤
@@ -133,6 +183,7 @@ is_test (Some (Run name)) fact = ⊥
 is_test (Some Check) fact = ⊥
 is_test (Some Explain) fact = ⊥
 is_test (Some (SelfTest start rows)) fact = fact start rows
+is_test (Some Reconcile) fact = ⊥
 is_test (Some Help) fact = ⊥
 is_test (Some Version) fact = ⊥
 is_test None fact = ⊥
@@ -146,6 +197,7 @@ HasGoodRows (command.Run name) = ⊤
 HasGoodRows command.Check = ⊤
 HasGoodRows command.Explain = ⊤
 HasGoodRows (command.SelfTest start rows) = (1 ≤ rows) × (rows ≤ 1000000)
+HasGoodRows command.Reconcile = ⊤
 HasGoodRows command.Help = ⊤
 HasGoodRows command.Version = ⊤
 

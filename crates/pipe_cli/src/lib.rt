@@ -10,6 +10,7 @@ mod check_command;
 mod explain_command;
 mod help;
 mod program;
+mod recon_command;
 mod run_command;
 mod selftest_command;
 mod status;

@@ -18,6 +18,8 @@ pub enum Command<'a> {
     Explain,
     /// `selftest START ROWS`: two frames of so many rows are drawn from a state on and joined.
     SelfTest(u64, u32),
+    /// `reconcile`: the two tables on standard input are reconciled.
+    Reconcile,
     /// `--help`: a text tells what the program does.
     Help,
     /// `--version`: the name and the version are told.
@@ -43,6 +45,7 @@ pub fn command_of(words: &[Text]) -> Option<Command<'_>>
             "run" => Some(Command::Run(None)),
             "check" => Some(Command::Check),
             "explain" => Some(Command::Explain),
+            "reconcile" => Some(Command::Reconcile),
             "--help" => Some(Command::Help),
             "--version" => Some(Command::Version),
             _ => None,
