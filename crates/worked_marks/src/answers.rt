@@ -1,0 +1,65 @@
+//! The lines of all cases.
+
+ghost use Rattle.worked_marks.specs.Sides.{AreSides};
+
+use crate::cases::{CASES, Case};
+use crate::full::through_full;
+use crate::marking::through_marks;
+use crate::sides::{Sides, join_at_root};
+use pipe_check::check_plan;
+use pipe_expr::JoinType;
+use pipe_index::HashesKeys;
+use pipe_plan::PipeError;
+use pipe_rows::{ConstHash, Fnv};
+use std::alloc::{AllocError, Global};
+use worked_builders::{BuiltPlan, plan_of};
+
+/// How many rows a piece has.
+const PIECE_ROWS: u32 = 2;
+
+/// What comes of a join under a hasher.
+fn joined<H: HashesKeys>(
+    alloc: Global,
+    sides: Sides,
+    whole: bool,
+    hasher: H,
+) -> Result<String, AllocError>
+    requires { AreSides sides }
+{
+    match sides.spec.how {
+        JoinType::Full => through_full(alloc, sides, whole, PIECE_ROWS, hasher),
+        _ => through_marks(alloc, sides, whole, PIECE_ROWS, hasher),
+    }
+}
+
+/// What comes of a plan's join.
+fn plan_text(alloc: Global, plan: &BuiltPlan, case: &Case) -> Result<String, AllocError> {
+    let checked = match check_plan(alloc, &plan.arena, plan.root) {
+        Ok(checked) => checked,
+        Err(PipeError::Memory) => return Err(AllocError),
+        Err(_) => return String::from_str(alloc, "refused"),
+    };
+    match join_at_root(alloc, &checked)? {
+        Some(sides) => match case.hash {
+            None => joined(alloc, sides, case.whole, Fnv),
+            Some(value) => joined(alloc, sides, case.whole, ConstHash { value }),
+        },
+        None => String::from_str(alloc, "no join of two scans"),
+    }
+}
+
+/// The line of a case.
+fn case_line(alloc: Global, case: &Case) -> Result<String, AllocError> {
+    let plan = plan_of(alloc, case.nodes)?;
+    let text = plan_text(alloc, &plan, case)?;
+    format!(in alloc; "{}: {text}\n", case.shows)
+}
+
+/// The lines of all cases.
+pub(crate) fn answers(alloc: Global) -> Result<String, AllocError> {
+    let mut answers = String::new(alloc);
+    for case in CASES {
+        answers.push_str(case_line(alloc, case)?.as_str())?;
+    }
+    Ok(answers)
+}
