@@ -9,6 +9,7 @@ It builds in FOLDER, which it keeps, or else in a folder that it removes.
 A benchmark is a folder beside this script:
     main.rattle     the program over the crates, as src/main.rt
     proofs/F.txt    the loop invariants of its function F, if it wants any
+    proofs/F/A.txt  a file A of the proof of its function F
     crates          the crates that it uses, in one line
     plain.rs        the counterpart
 Both programs write lines of a name, nanoseconds, and a number that must be the same in both.
@@ -51,6 +52,9 @@ def make_repository(top, names):
         for text in (HERE / name).glob("proofs/*.txt"):
             (crate / "proofs" / text.stem).mkdir(parents=True, exist_ok=True)
             (crate / "proofs" / text.stem / "Invariants.antt").write_text(text.read_text())
+        for text in (HERE / name).glob("proofs/*/*.txt"):
+            (crate / "proofs" / text.parent.name).mkdir(parents=True, exist_ok=True)
+            (crate / "proofs" / text.parent.name / f"{text.stem}.antt").write_text(text.read_text())
         lines.append(f"bench_{name}: {' '.join(uses[name])}")
     (top / "crates.txt").write_text("\n".join(lines) + "\n")
 
