@@ -7,6 +7,7 @@ Files are UTF-8 and as RFC 4180 says: a header, quotes round a field that holds 
 A column's type is told with --types, or is the narrowest of Int64, UInt64, Int128 and Boolean that all its values
 spell in their one way, and else String: `007` stays a text. An empty field is null unless --empty-is-text is given.
 The plan is read with --plan from a JSON file (an array of nodes, of which the last is the root), or is made of --join.
+With --reconcile it makes what `liskevar reconcile` reads of two files and the key --on.
 Nothing is proved of this tool, and nothing is written where it refuses.
 """
 
@@ -210,6 +211,21 @@ def told_types(texts):
     return told
 
 
+def reconciled(given, tables):
+    """What is said of two files beside their frames where they are to be reconciled."""
+    if len(tables) != 2:
+        raise Refused("--reconcile takes two files")
+    if not given.on:
+        raise Refused("--reconcile wants --on")
+    return {"on": given.on, "join_nulls": given.join_nulls}
+
+
+def planned(given, tables):
+    """What is said of files beside their frames where a plan is to be run over them."""
+    plan = read_plan(given.plan) if given.plan else joined(given, tables)
+    return {"plan": plan, "root": len(plan) - 1}
+
+
 def job_of(given):
     """The text of the job."""
     delimiter = lambda path: "\t" if given.tabs or path.endswith(".tsv") else ","
@@ -219,16 +235,16 @@ def job_of(given):
     unknown = [it for it in told if not any(it in table.names for table in tables)]
     if unknown:
         raise Refused(f"--types names {unknown[0]!r}, which is no column of any file")
-    plan = read_plan(given.plan) if given.plan else joined(given, tables)
+    asked = reconciled(given, tables) if given.reconcile else planned(given, tables)
     frames = [
         {"columns": [column_of(table, place, told, given.empty_is_text) for place in range(len(table.names))]}
         for table in tables
     ]
     is_wide = any(column["type"] == "Int128" for frame in frames for column in frame["columns"])
-    version = 2 if is_wide or '"Int128"' in json.dumps(plan) else 1
+    version = 2 if is_wide or '"Int128"' in json.dumps(asked) else 1
     job = {
         "version": version, "workers": given.workers, "chunk_rows": given.chunk_rows, "row_limit": given.row_limit,
-        "frames": frames, "plan": plan, "root": len(plan) - 1,
+        "frames": frames, **asked,
     }  # fmt: skip
     text = json.dumps(job, ensure_ascii=False, separators=(",", ":")).encode() + b"\n"
     if len(text) > BYTES_OF_A_JOB:
@@ -262,8 +278,9 @@ def parse(words):
     parser.add_argument("--empty-is-text", action="store_true", help="an empty field of a String or Binary column is no null")
     plan = parser.add_mutually_exclusive_group(required=True)
     plan.add_argument("--plan", metavar="FILE", help="the plan, a JSON array of nodes; the last is the root")
+    plan.add_argument("--reconcile", action="store_true", help="no plan: two files to be reconciled by --on")
     plan.add_argument("--join", choices=["inner", "left", "full", "semi", "anti"], help="joins the two files")
-    parser.add_argument("--on", type=names_of, metavar="NAME,..", help="the key columns of a join, of one name on both sides")
+    parser.add_argument("--on", type=names_of, metavar="NAME,..", help="the key columns, of one name on both sides")
     parser.add_argument("--left-on", type=names_of, metavar="NAME,..", help="the left side's key columns")
     parser.add_argument("--right-on", type=names_of, metavar="NAME,..", help="the right side's key columns")
     parser.add_argument("--join-nulls", action="store_true", help="null keys match each other")
