@@ -27,7 +27,7 @@ pub(crate) fn is_bare<O>(flow: &Flow<O>) -> bool
     flow.stages.len() == 0
 }
 
-/// The flow of a frame that was made for a node. `TooMany` where the frame has more rows than the limit.
+/// The flow of a frame that was made for a node, whose chunks share its memory. `TooMany` where the frame has more rows than the limit.
 pub(crate) fn begin_flow<O: Operator<Shared = ()> + Drop>(
     alloc: Global,
     plan: &CheckedPlan,
@@ -46,7 +46,7 @@ pub(crate) fn begin_flow<O: Operator<Shared = ()> + Drop>(
         return Err(PipeError::TooMany(n));
     }
     Ok(Flow {
-        frame,
+        frame: frame.shared()?,
         stages: Vec::new(alloc),
     })
 }

@@ -58,13 +58,13 @@ pub(crate) fn collect_into<S: NullableValues, K: Kernel<S::Value, Output = S::Va
     left: Column<S::Value>,
     right: &S,
     kernel: K,
-) -> Column<S::Value>
+) -> Result<Column<S::Value>, AllocError>
 where
-    S::Value: Copy,
+    S::Value: Copy + Drop,
     requires { length (S.nullables right.now) ≡ length left }
-    ensures { result ≡ zip_with K.gives left (S.nullables right.now) }
+    ensures { IfOk result (λ made. made ≡ zip_with K.gives left (S.nullables right.now)) }
 {
-    let (mut validity, mut values) = left.into_parts();
+    let (mut validity, mut values) = left.into_parts()?;
     replace(&mut validity, &mut values, right, kernel);
-    Column::from_parts(validity, values)
+    Ok(Column::from_parts(validity, values))
 }

@@ -128,13 +128,13 @@ where
 
 /// What a kernel gives of a column and an operand's values, row by row, in the column's memory.
 #[tactic(auto, using(crate::proofs::Operands::operand_rules))]
-fn zip_column<'a, T: Copy, K: Kernel<T, Output = T>>(
+fn zip_column<'a, T: Copy + Drop, K: Kernel<T, Output = T>>(
     left: Column<T>,
     right: NativeOperand<'a, T>,
     kernel: K,
-) -> Column<T>
+) -> Result<Column<T>, AllocError>
     requires { length (native_values right) ≡ length left }
-    ensures { result ≡ zip_with K.gives left (native_values right.entry) }
+    ensures { IfOk result (λ made. made ≡ zip_with K.gives left (native_values right.entry)) }
 {
     match right {
         NativeOperand::Column(right) => collect_into(left, &right, kernel),
@@ -162,7 +162,7 @@ pub(crate) fn zip_into<T: Native, K: Kernel<T, Output = T>>(
     match left {
         Operand::Owned(series) => {
             let right = native_operand::<T>(rows, &right);
-            let column = zip_column(T::into_column(series), right, kernel);
+            let column = zip_column(T::into_column(series), right, kernel)?;
             Ok(T::into_series(Text::new(alloc), column))
         }
         left => Ok(zip::<T, K>(alloc, rows, left, right, kernel)?),

@@ -1,3 +1,4 @@
+pub mod Parts
 pub mod Nullables
 pub mod Texts
 pub mod Pieces

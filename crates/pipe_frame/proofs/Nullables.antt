@@ -102,6 +102,13 @@ nullable_seen {T = T} validity xs i m d x v h lt p q =
     get_or-nullables validity xs i m x h inside p (q ∙ get_or_default xs i d x inside)
     in subst Claim v below lt
 
+-- the same where the validity and the values are read off slices
+pub nullable_shown : {T : Type 0} (validity : List Bool) (xs : List T) (i : ℕ) (d x : T) {ms : List Bool} {ys : List T} {now : List (Option T)} → nullables validity xs ≡ now → length validity ≡ length xs → ms ≡ validity → ys ≡ xs → x ≡ get_or ys i d → nullable_at now i ≡ nullable (get_or ms i false) x
+nullable_shown validity xs i d x v h p q at =
+    let valid : nullable (get_or _ i false) x ≡ nullable (get_or validity i false) x = ap (λ l. nullable (get_or l i false) x) p in
+    let value : nullable (get_or validity i false) x ≡ nullable (get_or validity i false) (get_or xs i d) = ap (nullable (get_or validity i false)) (at ∙ ap (λ l. get_or l i d) q) in
+    sym (valid ∙ value ∙ nullable_at-nullables validity xs d i h ∙ ap (λ l. nullable_at l i) v)
+
 pub nullables_gathered : {T : Type 0} (validity : List Bool) (xs : List T) (other : T) (places : List (Option ℕ)) {ms : List Bool} {ys : List T} {now : List (Option T)} → nullables validity xs ≡ now → length validity ≡ length xs → ms ≡ map (value_at validity false) places → ys ≡ map (value_at xs other) places → nullables ms ys ≡ map (nullable_in now) places
 nullables_gathered validity xs other places v h p q = rw (p, q) (nullables-gather validity xs other places h ∙ ap (λ now. map (nullable_in now) places) v)
 

@@ -5,7 +5,9 @@ ghost use Rattle.std.specs.Option.{option_copied};
 ghost use Rattle.pipe_frame.specs.Column.{nullable, nullable_at, nullables_in};
 ghost use Rattle.pipe_frame.specs.Sizes.{nullable_length};
 
+use crate::buffer::Buffer;
 use crate::bytes_list::BytesList;
+use crate::piece_buffer::PieceBuffer;
 use crate::place::{Place, gather};
 use std::alloc::{AllocError, Global};
 use std::marker::Model;
@@ -13,8 +15,8 @@ use std::marker::Model;
 /// A column of byte strings, seen as a list of nullable byte strings. Where one is missing an empty one stands.
 #[derive(Debug, Drop)]
 pub struct BinaryColumn {
-    validity: Vec<bool>,
-    pieces: BytesList,
+    validity: Buffer<bool>,
+    pieces: PieceBuffer,
 }
 
 impl Model for BinaryColumn {
@@ -23,9 +25,9 @@ impl Model for BinaryColumn {
 
     ghost Value = { List (Option (List ℕ)) };
 
-    ghost view = { λ c. nullables c.validity.items c.pieces };
+    ghost view = { λ c. nullables c.validity c.pieces };
 
-    ghost invariant = { λ c. length c.validity.items ≡ length c.pieces };
+    ghost invariant = { λ c. length c.validity ≡ length c.pieces };
 }
 
 #[tactic(auto, using(crate::proofs::Nullables::nullable_rules))]
@@ -35,9 +37,19 @@ impl BinaryColumn {
         ensures { result ≡ [] }
     {
         BinaryColumn {
-            validity: Vec::new(alloc),
-            pieces: BytesList::new(alloc),
+            validity: Buffer::new(alloc),
+            pieces: PieceBuffer::new(alloc),
         }
+    }
+
+    /// A column with no place, and room for so many but for their bytes.
+    pub fn with_capacity(alloc: Global, places: usize) -> Result<BinaryColumn, AllocError>
+        ensures { IfOk result (λ made. made ≡ []) }
+    {
+        Ok(BinaryColumn {
+            validity: Buffer::from_vec(Vec::with_capacity(alloc, places)?),
+            pieces: PieceBuffer::from_list(BytesList::with_room(alloc, places)?),
+        })
     }
 
     /// The allocator of the column.
@@ -57,7 +69,7 @@ impl BinaryColumn {
         requires { i < length self.now }
         ensures { nullable_at self.now i ≡ nullable result.0 result.1.now }
     {
-        (self.validity[i], self.pieces.get(i))
+        (self.validity.as_slice()[i], self.pieces.get(i))
     }
 
     /// The bytes at a place, or none where they are missing.
@@ -74,9 +86,11 @@ impl BinaryColumn {
         ensures ok { OnOk result (self.new ≡ self.old ++ nullable valid bytes.now ∷ []) }
         ensures err { OnErr result (self.new ≡ self.old) }
     {
-        self.validity.reserve(1)?;
-        self.pieces.push(bytes)?;
-        self.validity.push_reserved(valid);
+        self.validity.push(valid)?;
+        if let Err(error) = self.pieces.push(bytes) {
+            self.validity.truncate(self.pieces.len());
+            return Err(error);
+        }
         Ok(())
     }
 
@@ -103,7 +117,7 @@ impl BinaryColumn {
         ensures { IfOk result (λ taken. taken ≡ nullables_in self.now (map P.place places.now)) }
     {
         Ok(BinaryColumn {
-            validity: gather(alloc, self.validity.as_slice(), places, false)?,
+            validity: Buffer::from_vec(gather(alloc, self.validity.as_slice(), places, false)?),
             pieces: self.pieces.take_at(alloc, places)?,
         })
     }
@@ -113,9 +127,8 @@ impl BinaryColumn {
         requires { from + count ≤ length self.now }
         ensures { IfOk result (λ part. part ≡ take count (drop from self.now)) }
     {
-        let alloc = self.allocator();
         Ok(BinaryColumn {
-            validity: Vec::from_slice(alloc, &self.validity[from..from + count])?,
+            validity: self.validity.slice(from, count)?,
             pieces: self.pieces.slice(from, count)?,
         })
     }
@@ -125,10 +138,20 @@ impl BinaryColumn {
         ensures ok { OnOk result (self.new ≡ self.old ++ other.now) }
         ensures err { OnErr result (self.new ≡ self.old) }
     {
-        self.validity.reserve(other.validity.len())?;
-        self.pieces.append(&other.pieces)?;
-        self.validity.extend_from_slice(other.validity.as_slice())?;
+        self.validity.append(other.validity.as_slice())?;
+        if let Err(error) = self.pieces.append(&other.pieces) {
+            self.validity.truncate(self.pieces.len());
+            return Err(error);
+        }
         Ok(())
+    }
+
+    /// Lets copies and parts of the column share its memory from now on.
+    pub(crate) fn share(&mut self) -> Result<(), AllocError>
+        ensures { self.new ≡ self.old }
+    {
+        self.validity.share()?;
+        self.pieces.share()
     }
 
     /// Keeps so many places, from the front.
@@ -144,7 +167,7 @@ impl BinaryColumn {
         ensures { IfOk result (λ copy. copy ≡ self.now) }
     {
         Ok(BinaryColumn {
-            validity: Vec::from_slice(self.allocator(), self.validity.as_slice())?,
+            validity: self.validity.copied()?,
             pieces: self.pieces.copied()?,
         })
     }

@@ -1,9 +1,8 @@
 //! Byte strings one after another in one buffer, so that none of them has an allocation of its own.
 
 ghost use Rattle.std.specs.Prelude.{◌≡◌, ℕ, ◌<◌, ◌≤◌, ◌+◌, ◌^◌, [], ◌∷◌, ◌++◌, length, All, IfOk, OnOk, OnErr, map, take, drop, slice_index_or, vec_len, vec_capacity};
-ghost use Rattle.pipe_frame.specs.Column.{EndsFrom, pieces_from, values_at, less, more};
+ghost use Rattle.pipe_frame.specs.Column.{EndsFrom, pieces_from, less, more};
 
-use crate::place::Place;
 use std::alloc::{AllocError, Global};
 use std::marker::Model;
 
@@ -78,6 +77,16 @@ impl BytesList {
         }
     }
 
+    /// A list with no byte string, and room for the ends of so many.
+    pub(crate) fn with_room(alloc: Global, ends: usize) -> Result<BytesList, AllocError>
+        ensures { IfOk result (λ made. made ≡ []) }
+    {
+        Ok(BytesList {
+            bytes: Vec::new(alloc),
+            ends: Vec::with_capacity(alloc, ends)?,
+        })
+    }
+
     /// The byte strings of a buffer that end at these places.
     pub fn from_parts(bytes: Vec<u8>, ends: Vec<usize>) -> BytesList
         requires { EndsFrom 0 (length bytes.items) ends.items }
@@ -120,27 +129,6 @@ impl BytesList {
 
 #[tactic(auto, using(crate::proofs::Pieces::pieces_rules))]
 impl BytesList {
-    /// The byte strings at these places, and an empty one where there is none.
-    pub(crate) fn take_at<P: Place>(
-        &self,
-        alloc: Global,
-        places: &[P],
-    ) -> Result<BytesList, AllocError>
-        ensures { IfOk result (λ taken. taken ≡ values_at self.now [] (map P.place places.now)) }
-    {
-        let mut taken = BytesList {
-            bytes: Vec::new(alloc),
-            ends: Vec::with_capacity(alloc, places.len())?,
-        };
-        for place in places {
-            match place.place() {
-                Some(i) if i < self.len() => taken.push(self.get(i))?,
-                _ => taken.push(&[])?,
-            }
-        }
-        Ok(taken)
-    }
-
     /// So many byte strings from a place on.
     pub(crate) fn slice(&self, from: usize, count: usize) -> Result<BytesList, AllocError>
         requires { from + count ≤ length self.now }

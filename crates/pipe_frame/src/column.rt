@@ -6,6 +6,7 @@ ghost use Rattle.pipe_frame.specs.Cell.{fits_dtype};
 ghost use Rattle.pipe_frame.specs.Column.{nullable, nullable_at, nullables_in, nullables};
 
 use crate::any_value::AnyValue;
+use crate::buffer::Buffer;
 use crate::native::Native;
 use crate::place::{Place, gather};
 use std::alloc::{AllocError, Global};
@@ -14,8 +15,8 @@ use std::marker::Model;
 /// A column, seen as a list of nullable values.
 #[derive(Debug, Drop)]
 pub struct Column<T> {
-    validity: Vec<bool>,
-    values: Vec<T>,
+    validity: Buffer<bool>,
+    values: Buffer<T>,
 }
 
 impl<T> Model for Column<T> {
@@ -24,9 +25,9 @@ impl<T> Model for Column<T> {
 
     ghost Value = { List (Option T) };
 
-    ghost view = { λ c. nullables c.validity.items c.values.items };
+    ghost view = { λ c. nullables c.validity c.values };
 
-    ghost invariant = { λ c. length c.validity.items ≡ length c.values.items };
+    ghost invariant = { λ c. length c.validity ≡ length c.values };
 }
 
 #[tactic(auto, using(crate::proofs::Nullables::nullable_rules))]
@@ -36,9 +37,19 @@ impl<T> Column<T> {
         ensures { result ≡ [] }
     {
         Column {
-            validity: Vec::new(alloc),
-            values: Vec::new(alloc),
+            validity: Buffer::new(alloc),
+            values: Buffer::new(alloc),
         }
+    }
+
+    /// A column with no place, and room for so many.
+    pub fn with_capacity(alloc: Global, places: usize) -> Result<Column<T>, AllocError>
+        ensures { IfOk result (λ made. made ≡ []) }
+    {
+        Ok(Column {
+            validity: Buffer::from_vec(Vec::with_capacity(alloc, places)?),
+            values: Buffer::from_vec(Vec::with_capacity(alloc, places)?),
+        })
     }
 
     /// A column of these values, each missing where its validity is false.
@@ -46,10 +57,11 @@ impl<T> Column<T> {
         requires { length validity.items ≡ length values.items }
         ensures { result ≡ nullables validity.items values.items }
     {
-        Column { validity, values }
+        Column {
+            validity: Buffer::from_vec(validity),
+            values: Buffer::from_vec(values),
+        }
     }
-
-    /// The validity, which are false where a value is missing, and the values with fillers there: for loops over a whole column.
 
     /// The validity, which is false where a value is missing, and the values, with any there: for loops over a
     /// whole column.
@@ -58,15 +70,6 @@ impl<T> Column<T> {
         ensures nullables { nullables result.0.now result.1.now ≡ self.now }
     {
         (self.validity.as_slice(), self.values.as_slice())
-    }
-
-    /// The same by value: for a loop that writes over the column.
-    pub fn into_parts(self) -> (Vec<bool>, Vec<T>)
-        ensures even { length result.0.items ≡ length result.1.items }
-        ensures nullables { nullables result.0.items result.1.items ≡ self }
-    {
-        let Column { validity, values } = self;
-        (validity, values)
     }
 
     /// How many places there are.
@@ -78,7 +81,7 @@ impl<T> Column<T> {
 
     /// The allocator of the column.
     pub(crate) fn allocator(&self) -> Global {
-        *self.values.allocator()
+        self.values.allocator()
     }
 
     /// Whether the value at a place is there, and the value.
@@ -86,7 +89,7 @@ impl<T> Column<T> {
         requires { i < length self.now }
         ensures { nullable_at self.now i ≡ nullable result.0 result.1.now }
     {
-        (self.validity[i], &self.values[i])
+        (self.validity.as_slice()[i], &self.values.as_slice()[i])
     }
 
     /// The value at a place, or none where it is missing.
@@ -101,14 +104,27 @@ impl<T> Column<T> {
 
 #[tactic(auto, using(crate::proofs::Nullables::nullable_rules))]
 impl<T: Drop> Column<T> {
+    /// Lets copies and parts of the column share its memory from now on.
+    pub(crate) fn share(&mut self) -> Result<(), AllocError>
+        ensures { self.new ≡ self.old }
+    {
+        self.validity.share()?;
+        self.values.share()
+    }
+}
+
+#[tactic(auto, using(crate::proofs::Nullables::nullable_rules))]
+impl<T: Copy + Drop> Column<T> {
     /// Puts a value at the end, which is missing where it isn't valid.
     fn put(&mut self, valid: bool, x: T) -> Result<(), AllocError>
         ensures ok { OnOk result (self.new ≡ self.old ++ nullable valid x ∷ []) }
         ensures err { OnErr result (self.new ≡ self.old) }
     {
-        self.validity.reserve(1)?;
-        self.values.push(x)?;
-        self.validity.push_reserved(valid);
+        self.validity.push(valid)?;
+        if let Err(error) = self.values.push(x) {
+            self.validity.truncate(self.values.len());
+            return Err(error);
+        }
         Ok(())
     }
 
@@ -138,10 +154,7 @@ impl<T: Drop> Column<T> {
     {
         self.put(false, filler)
     }
-}
 
-#[tactic(auto, using(crate::proofs::Nullables::nullable_rules))]
-impl<T: Copy + Drop> Column<T> {
     /// The value at a place, or none where it is missing.
     pub fn at(&self, i: usize) -> Option<T>
         requires { i < length self.now }
@@ -149,6 +162,15 @@ impl<T: Copy + Drop> Column<T> {
     {
         let (valid, value) = self.nullable(i);
         if valid { Some(*value) } else { None }
+    }
+
+    /// The validity and the values, for a loop that writes over the column: copied where others share them.
+    pub fn into_parts(self) -> Result<(Vec<bool>, Vec<T>), AllocError>
+        ensures even { IfOk result (λ parts. length parts.0.items ≡ length parts.1.items) }
+        ensures nullables { IfOk result (λ parts. nullables parts.0.items parts.1.items ≡ self) }
+    {
+        let Column { validity, values } = self;
+        Ok((validity.into_vec()?, values.into_vec()?))
     }
 
     /// The values at these places.
@@ -161,8 +183,8 @@ impl<T: Copy + Drop> Column<T> {
         ensures { IfOk result (λ taken. taken ≡ nullables_in self.now (map P.place places.now)) }
     {
         Ok(Column {
-            validity: gather(alloc, self.validity.as_slice(), places, false)?,
-            values: gather(alloc, self.values.as_slice(), places, filler)?,
+            validity: Buffer::from_vec(gather(alloc, self.validity.as_slice(), places, false)?),
+            values: Buffer::from_vec(gather(alloc, self.values.as_slice(), places, filler)?),
         })
     }
 
@@ -171,10 +193,9 @@ impl<T: Copy + Drop> Column<T> {
         requires { from + count ≤ length self.now }
         ensures { IfOk result (λ part. part ≡ take count (drop from self.now)) }
     {
-        let alloc = self.allocator();
         Ok(Column {
-            validity: Vec::from_slice(alloc, &self.validity[from..from + count])?,
-            values: Vec::from_slice(alloc, &self.values[from..from + count])?,
+            validity: self.validity.slice(from, count)?,
+            values: self.values.slice(from, count)?,
         })
     }
 
@@ -183,9 +204,11 @@ impl<T: Copy + Drop> Column<T> {
         ensures ok { OnOk result (self.new ≡ self.old ++ other.now) }
         ensures err { OnErr result (self.new ≡ self.old) }
     {
-        self.validity.reserve(other.validity.len())?;
-        self.values.extend_from_slice(other.values.as_slice())?;
-        self.validity.extend_from_slice(other.validity.as_slice())?;
+        self.validity.append(other.validity.as_slice())?;
+        if let Err(error) = self.values.append(other.values.as_slice()) {
+            self.validity.truncate(self.values.len());
+            return Err(error);
+        }
         Ok(())
     }
 
@@ -201,10 +224,9 @@ impl<T: Copy + Drop> Column<T> {
     pub(crate) fn copied(&self) -> Result<Column<T>, AllocError>
         ensures { IfOk result (λ copy. copy ≡ self.now) }
     {
-        let alloc = self.allocator();
         Ok(Column {
-            validity: Vec::from_slice(alloc, self.validity.as_slice())?,
-            values: Vec::from_slice(alloc, self.values.as_slice())?,
+            validity: self.validity.copied()?,
+            values: self.values.copied()?,
         })
     }
 }

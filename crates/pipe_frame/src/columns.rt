@@ -115,6 +115,16 @@ fn truncate_columns(columns: &mut [Series], count: usize)
     }
 }
 
+/// Lets copies and parts of some columns share their memory from now on.
+pub(crate) fn share_columns(columns: &mut [Series]) -> Result<(), AllocError>
+    ensures { columns.new ≡ columns.old }
+{
+    for i in 0..columns.len() {
+        columns[i].share()?;
+    }
+    Ok(())
+}
+
 /// Puts the cells of other columns of the same types behind those of some columns.
 pub(crate) fn append_columns(
     columns: &mut [Series],

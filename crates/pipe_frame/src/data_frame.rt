@@ -8,7 +8,7 @@ ghost use Rattle.pipe_frame.specs.Sizes.{frame_size};
 use crate::any_value::AnyValue;
 use crate::columns::{
     append_columns, differing_height, empty_columns, fields_of, first_height, places_of_true,
-    row_of, select_columns, size_of_columns, slice_columns, take_columns,
+    row_of, select_columns, share_columns, size_of_columns, slice_columns, take_columns,
 };
 use crate::data_type::DataType;
 use crate::error::FrameError;
@@ -214,6 +214,22 @@ impl DataFrame {
             columns: empty_columns(alloc, schema.fields())?,
             height: 0,
         })
+    }
+
+    /// Lets copies and parts of the frame share its memory from now on.
+    fn share(&mut self) -> Result<(), AllocError>
+        ensures { self.new ≡ self.old }
+    {
+        share_columns(self.columns.as_mut_slice())
+    }
+
+    /// The same frame, whose copies and parts share its memory instead of taking some for its cells. One that changes
+    /// gets memory of its own first.
+    pub fn shared(mut self) -> Result<DataFrame, AllocError>
+        ensures { IfOk result (λ shared. shared ≡ self) }
+    {
+        self.share()?;
+        Ok(self)
     }
 
     /// Puts the rows of a frame of the same schema behind these.

@@ -5,6 +5,7 @@
 #![tactic(auto)]
 
 mod any_value;
+mod buffer;
 mod bytes_column;
 mod bytes_list;
 mod chunk;
@@ -19,6 +20,9 @@ mod list;
 mod name_order;
 mod names;
 mod native;
+mod part;
+mod piece_buffer;
+mod piece_part;
 mod place;
 mod schema;
 mod series;

@@ -157,6 +157,13 @@ impl Series {
         self.values.size()
     }
 
+    /// Lets copies and parts of the column share its memory from now on.
+    pub(crate) fn share(&mut self) -> Result<(), AllocError>
+        ensures { self.new ≡ self.old }
+    {
+        self.values.share()
+    }
+
     /// Keeps so many cells, from the front.
     pub(crate) fn truncate(&mut self, count: usize)
         ensures { self.new ≡ front_column count self.old }

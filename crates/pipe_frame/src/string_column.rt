@@ -38,6 +38,15 @@ impl StringColumn {
         }
     }
 
+    /// A column with no place, and room for so many but for their bytes.
+    pub fn with_capacity(alloc: Global, places: usize) -> Result<StringColumn, AllocError>
+        ensures { IfOk result (λ made. made ≡ []) }
+    {
+        Ok(StringColumn {
+            inner: BinaryColumn::with_capacity(alloc, places)?,
+        })
+    }
+
     /// The allocator of the column.
     pub(crate) fn allocator(&self) -> Global {
         self.inner.allocator()
@@ -102,6 +111,13 @@ impl StringColumn {
         ensures err { OnErr result (self.new ≡ self.old) }
     {
         self.inner.append(&other.inner)
+    }
+
+    /// Lets copies and parts of the column share its memory from now on.
+    pub(crate) fn share(&mut self) -> Result<(), AllocError>
+        ensures { self.new ≡ self.old }
+    {
+        self.inner.share()
     }
 
     /// Keeps so many places, from the front.

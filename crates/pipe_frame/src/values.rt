@@ -174,6 +174,23 @@ impl Values {
         }
     }
 
+    /// Lets copies and parts of the values share their memory from now on.
+    pub(crate) fn share(&mut self) -> Result<(), AllocError>
+        ensures dtype { dtype_of_values self.new ≡ dtype_of_values self.old }
+        ensures cells { cells_of self.new ≡ cells_of self.old }
+    {
+        match self {
+            Values::Int32(column) => column.share(),
+            Values::Int64(column) => column.share(),
+            Values::UInt32(column) => column.share(),
+            Values::UInt64(column) => column.share(),
+            Values::Boolean(column) => column.share(),
+            Values::String(column) => column.share(),
+            Values::Binary(column) => column.share(),
+            Values::Int128(column) => column.share(),
+        }
+    }
+
     /// Keeps so many cells, from the front.
     pub(crate) fn truncate(&mut self, count: usize)
         ensures dtype { dtype_of_values self.new ≡ dtype_of_values self.old }

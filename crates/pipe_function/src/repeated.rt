@@ -29,7 +29,7 @@ pub(crate) fn repeated_places(
     requires { from + count < 2 ^ 32 }
     ensures { IfOk result (λ places. places.items ≡ repeated times from count) }
 {
-    let mut places = Vec::new(alloc);
+    let mut places = Vec::with_capacity(alloc, (count as usize).saturating_mul(times))?;
     for i in 0..count {
         push_times(&mut places, from + i, times)?;
     }
@@ -58,7 +58,8 @@ pub(crate) fn repeated_names(
     ensures { IfOk result
         (λ column. column ≡ named_cells name DataType.String (repeated_cells names.now height)) }
 {
-    let mut column = StringColumn::new(alloc);
+    let cells = names.len().saturating_mul(height);
+    let mut column = StringColumn::with_capacity(alloc, cells)?;
     for _ in 0..height {
         push_names(&mut column, names)?;
     }

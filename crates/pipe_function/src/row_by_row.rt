@@ -44,7 +44,8 @@ fn flattened_values<T: Native>(
     ensures { IfOk result
         (λ column. column ≡ named_cells name T.dtype_of (flat_cells columns.now height)) }
 {
-    let mut made = Column::new(alloc);
+    let cells = height.saturating_mul(columns.len());
+    let mut made = Column::with_capacity(alloc, cells)?;
     for i in 0..height {
         push_values(&mut made, columns, i, filler)?;
     }
@@ -80,7 +81,8 @@ fn flattened_texts(
     ensures { IfOk result
         (λ column. column ≡ named_cells name DataType.String (flat_cells columns.now height)) }
 {
-    let mut made = StringColumn::new(alloc);
+    let cells = height.saturating_mul(columns.len());
+    let mut made = StringColumn::with_capacity(alloc, cells)?;
     for i in 0..height {
         push_texts(&mut made, columns, i)?;
     }
@@ -116,7 +118,8 @@ fn flattened_bytes(
     ensures { IfOk result
         (λ column. column ≡ named_cells name DataType.Binary (flat_cells columns.now height)) }
 {
-    let mut made = BinaryColumn::new(alloc);
+    let cells = height.saturating_mul(columns.len());
+    let mut made = BinaryColumn::with_capacity(alloc, cells)?;
     for i in 0..height {
         push_bytes(&mut made, columns, i)?;
     }

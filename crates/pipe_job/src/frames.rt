@@ -15,7 +15,7 @@ use pipe_frame::{DataFrame, FrameError, List, Series};
 use serde_json::Value;
 use std::alloc::Global;
 
-/// The frame of some columns.
+/// The frame of some columns, which scans share.
 #[tactic(auto, using(crate::proofs::FrameTests::frame_rules))]
 fn frame_of(alloc: Global, columns: Vec<Series>) -> Result<DataFrame, Misread>
     requires { AllByRecursion ColumnFits columns.items }
@@ -23,7 +23,7 @@ fn frame_of(alloc: Global, columns: Vec<Series>) -> Result<DataFrame, Misread>
         (IsFrameOf columns.items) result }
 {
     match DataFrame::new(alloc, columns) {
-        Ok(frame) => Ok(frame),
+        Ok(frame) => Ok(frame.shared()?),
         Err(FrameError::Memory) => Err(Misread::Memory),
         Err(_) => Err(Misread::Other),
     }
