@@ -18,7 +18,7 @@ fn numbers(alloc: Global, values: &[Option<i32>]) -> Result<Column<i32>, AllocEr
 
 /// Each value doubled, in the column's memory.
 fn doubled(alloc: Global) -> Result<String, AllocError> {
-    let (validity, mut values) = numbers(alloc, &[Some(3), None, Some(-4)])?.into_parts();
+    let (validity, mut values) = numbers(alloc, &[Some(3), None, Some(-4)])?.into_parts()?;
     for value in values.iter_mut() {
         *value = value.wrapping_mul(2);
     }

@@ -7,7 +7,7 @@ use pipe_frame::{AnyValue, DataType, List, Text, TryClone};
 use std::alloc::{AllocError, Global};
 use worked_columns::{INT, TEXT, WrittenColumn, frame_of, texts};
 
-const LEDGER: &[WrittenColumn] = &[
+pub(crate) const LEDGER: &[WrittenColumn] = &[
     ("id", TEXT, &["A-1", "A-2", "-", "A-9"]),
     ("part", DataType::Int32, &["1", "-2147483648", "1", "-"]),
     ("amount", INT, &["500", "-", "60", "300"]),

@@ -9,6 +9,7 @@ mod numbers;
 mod refusals;
 mod rows;
 mod series;
+mod shared;
 mod sizes;
 mod stacks;
 mod stops;

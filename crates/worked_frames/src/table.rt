@@ -1,6 +1,8 @@
 //! The worked frames, in the order in which they are told.
 
-use crate::{chunks, columns, copies, names, refusals, rows, series, sizes, stacks, stops, wide};
+use crate::{
+    chunks, columns, copies, names, refusals, rows, series, shared, sizes, stacks, stops, wide,
+};
 use std::alloc::{AllocError, Global};
 
 /// What each case shows, and its answer.
@@ -13,6 +15,7 @@ pub(crate) fn answers(alloc: Global) -> Result<String, AllocError> {
     names::tell(alloc, &mut answers)?;
     wide::tell(alloc, &mut answers)?;
     copies::tell(alloc, &mut answers)?;
+    shared::tell(alloc, &mut answers)?;
     chunks::tell(alloc, &mut answers)?;
     sizes::tell(alloc, &mut answers)?;
     stacks::tell(alloc, &mut answers)?;
