@@ -15,3 +15,6 @@ mod Edited
 mod Viewed
 mod Told
 mod Filling
+mod Made
+mod Framed
+mod Checked

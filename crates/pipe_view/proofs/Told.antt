@@ -98,7 +98,7 @@ module _ (left right : List Field) (left_on right_on : List Expr) (options : Joi
 
 -- ---- answers that are passed on
 
-pub err-told : {X : Type 0} (r : Result X ViewError) (e : ViewError) (P : ViewError → Type 0) → IsErrAnd r (λ f. f ≡ e) → P e → IfErr r P
+pub err-told : {X E : Type 0} (r : Result X E) (e : E) (P : E → Type 0) → IsErrAnd r (λ f. f ≡ e) → P e → IfErr r P
 err-told (Ok x) e P h p = tt
 err-told (Err f) e P h p = subst P (sym h) p
 

@@ -1,5 +1,5 @@
 -- Why a view isn't made, and why it isn't changed.
-use Rattle.std.specs.Prelude.{◌≡◌, ℕ, ◌⊎◌, Bool, not, nat_lt, Option, Some, None, length}
+use Rattle.std.specs.Prelude.{◌≡◌, ℕ, ◌<◌, ◌⊎◌, Bool, not, nat_lt, Option, Some, None, length}
 use Rattle.pipe_plan.specs.Faults.{or_else, told}
 use Rattle.pipe_plan.specs.declared.error.PipeError.{PipeError}
 use Rattle.pipe_plan.specs.declared.error.PipeError.TheVariants as error
@@ -24,6 +24,11 @@ abbrev pub view_fault : Kept → Option PipeError
 view_fault v =
     or_else (check_fault (view_plan v) 2)
     (or_else (told (not (is_view_kind v.options.how)) (error.BadJoin 2)) (first_over v))
+
+-- why a view whose tables are within the limit isn't made: the join has more rows than the limit, or there isn't
+-- the memory
+abbrev pub IsJoinTooLong : Kept → PipeError → Type 0
+IsJoinTooLong v e = (e ≡ error.Memory) ⊎ ((e ≡ error.TooMany 2) × (v.limit < length (view_rows v)))
 
 -- why no row is put in: a table or the view would have too many, or there isn't the memory
 abbrev pub IsInsertRefusal : ViewSide → Row → Kept → ViewError → Type 0
