@@ -170,7 +170,8 @@ fn visit_join(
     requires built { is_down (map node_of nodes.now) n built ≡ true }
     requires probed { is_down (map node_of nodes.now) n probed ≡ true }
     ensures { let paths = paths_of (map node_of nodes.now) in
-        OnOk result (cutter.new ≡ take_paths cutter.old (join_paths n (paths built) (paths probed))) }
+        OnOk result
+        (cutter.new ≡ take_paths cutter.old (join_paths n (paths built) (paths probed))) }
 {
     visit_below(alloc, nodes, cutter, Step::Build(n), built)?;
     visit_below(alloc, nodes, cutter, Step::Operator(n), probed)?;

@@ -66,7 +66,8 @@ pub fn join_spec(
         let right_schema = schema_in plan.now right in
         let left_keys = formulas_of left_on.now in
         let right_keys = formulas_of right_on.now in
-        IfOk result (λ spec. settings_of spec ≡ join_over left_schema right_schema left_keys right_keys options.now) }
+        IfOk result (λ spec. settings_of spec
+        ≡ join_over left_schema right_schema left_keys right_keys options.now) }
 {
     let _ = plan.root();
     let _ = plan.schema(n).fields();

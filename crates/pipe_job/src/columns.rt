@@ -35,7 +35,8 @@ fn values_of<T: Spelled + Copy>(
     filler: T,
 ) -> Result<Column<T>, Misread>
     ensures { ReadWhere (is_list (is_maybe T.shape) (view value.now))
-        (λ column. (view value.now ≡ list (maybe T.spelling) column) × AllByRecursion (MaybeFits T.fits) column) result }
+        (λ column. (view value.now ≡ list (maybe T.spelling) column)
+        × AllByRecursion (MaybeFits T.fits) column) result }
 {
     let Value::Array(values) = value else {
         return Err(Misread::Other);
@@ -89,7 +90,8 @@ fn push_bytes(column: &mut BinaryColumn, bytes: &Option<Bytes>) -> Result<(), Al
 /// The column of byte strings that a value spells.
 fn bytes_of(alloc: Global, value: &Value) -> Result<BinaryColumn, Misread>
     ensures { ReadWhere (is_list (is_maybe is_hex) (view value.now))
-        (λ column. (view value.now ≡ list (maybe hex_spelling) column) × AllByRecursion (MaybeFits IsBytes) column) result }
+        (λ column. (view value.now ≡ list (maybe hex_spelling) column)
+        × AllByRecursion (MaybeFits IsBytes) column) result }
 {
     let Value::Array(values) = value else {
         return Err(Misread::Other);

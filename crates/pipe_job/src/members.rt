@@ -35,7 +35,8 @@ impl<'a> Members<'a> {
     /// The value of the next member, where it has this name.
     pub fn take(&mut self, name: &str) -> Result<&'a Value, Misread>
         ensures { ReadWhere (begins name.now (members_view self.old.rest))
-            (λ v. members_view self.old.rest ≡ member name.now (view v.now) (members_view self.new.rest)) result }
+            (λ v. members_view self.old.rest
+            ≡ member name.now (view v.now) (members_view self.new.rest)) result }
     {
         match self.rest.next() {
             Some((key, value)) => if key.as_str() == name {
@@ -50,7 +51,8 @@ impl<'a> Members<'a> {
     /// Reads the value of the next member, where it has this name.
     pub fn field<T: Spelled>(&mut self, alloc: Global, name: &str) -> Result<T, Misread>
         ensures { ReadWhere (has name.now T.shape (members_view self.old.rest))
-            (λ x. (members_view self.old.rest ≡ member name.now (T.spelling x) (members_view self.new.rest)) × T.fits x) result }
+            (λ x. (members_view self.old.rest
+            ≡ member name.now (T.spelling x) (members_view self.new.rest)) × T.fits x) result }
     {
         let value = self.take(name)?;
         T::read(alloc, value)
@@ -59,7 +61,8 @@ impl<'a> Members<'a> {
     /// Takes a member of this name with this word for its value.
     pub(crate) fn word(&mut self, name: &str, word: &str) -> Result<(), Misread>
         ensures { ReadWhere (has name.now (is_word word.now) (members_view self.old.rest))
-            (λ _. members_view self.old.rest ≡ member name.now (string word.now) (members_view self.new.rest)) result }
+            (λ _. members_view self.old.rest
+            ≡ member name.now (string word.now) (members_view self.new.rest)) result }
     {
         let value = self.take(name)?;
         if value.as_str() == Some(word) {
