@@ -4,6 +4,7 @@ pub mod Filtered
 pub mod MadeColumns
 pub mod Projected
 pub mod StackedNames
+pub mod StackedColumns
 pub mod Extended
 pub mod NamedFields
 pub mod Covered
