@@ -1,13 +1,12 @@
 -- Why a view isn't made, and that there is no fault where it is.
-use Rattle.std.proofs.Common.{◌≡◌, ℕ, ◌+◌, ◌≤◌, ◌<◌, Bool, true, false, List, [], ◌∷◌, ◌++◌, length, refl, ap, ap₂, sym, ◌∙◌, subst, arith, append-nil, get_or, Result, Ok, Err, IfOk, IfErr, inl, inr}
-use Rattle.std.specs.Prelude.{OnOk, not, ◌⊎◌, nat_lt, Option, Some, None}
+use Rattle.std.proofs.Common.{◌≡◌, ℕ, ◌+◌, ◌≤◌, ◌<◌, Bool, true, false, List, [], ◌∷◌, ◌++◌, length, refl, ap, ap₂, sym, ◌∙◌, subst, arith, get_or, Result, Ok, Err, IfOk, IfErr, inl, inr}
+use Rattle.std.specs.Prelude.{OnOk, not, nat_lt, Option, Some, None}
 use Rattle.std.proofs.lemmas.Bool.Decides.{Decides-ltb}
 use Rattle.pipe_frame.specs.Frame.{Table}
 use Rattle.pipe_frame.specs.Rows.{Row, Same}
 use Rattle.pipe_frame.specs.declared.field.Field.{Field}
 use Rattle.pipe_frame.proofs.Weights.{total, total-append, Same-from_bag, SameBag-from_rows}
 use Rattle.pipe_expr.specs.declared.expr.Expr.{Expr}
-use Rattle.pipe_expr.specs.Joins.{join_rows}
 use Rattle.pipe_plan.specs.Faults.{or_else, told}
 use Rattle.pipe_plan.specs.declared.error.PipeError.{PipeError}
 use Rattle.pipe_plan.specs.declared.error.PipeError.TheVariants as error

@@ -1,5 +1,5 @@
 -- Edits of a view as its caller sees it: its fields by their names, its join by the sides, its side by a truth value.
-use Rattle.std.proofs.Common.{◌≡◌, ℕ, ◌+◌, ◌<◌, Bool, List, length, ap, sym, ◌∙◌, subst, Result, Ok, Err, IfOk, IfErr}
+use Rattle.std.proofs.Common.{◌≡◌, ℕ, ◌<◌, Bool, List, length, ap, sym, ◌∙◌, subst, Result, Ok, Err, IfOk, IfErr}
 use Rattle.std.specs.Prelude.{OnErr}
 use Rattle.std.specs.Result.{IsErrAnd}
 use Rattle.std.specs.List.{flat_map}
@@ -11,7 +11,7 @@ use Rattle.pipe_expr.specs.declared.expr.Expr.{Expr}
 use Rattle.pipe_expr.specs.Joins.{Join}
 use Rattle.pipe_plan.specs.Schemas.{join_over}
 use Rattle.pipe_plan.specs.declared.ir.JoinOptions.{JoinOptions}
-use Rattle.pipe_view.specs.Kept.{Kept, kept_join, view_rows, fields_on, times_on, with_row}
+use Rattle.pipe_view.specs.Kept.{Kept, kept_join, view_rows, fields_on, times_on}
 use Rattle.pipe_view.specs.Sides.{right_is_built}
 use Rattle.pipe_view.specs.Codes.{GroupList, group_at, group_with, group_without, AreSorted, HasGroup}
 use Rattle.pipe_view.specs.Joined.{group_join}

@@ -1,5 +1,5 @@
 -- Why a view isn't made, and why it isn't changed.
-use Rattle.std.specs.Prelude.{◌≡◌, ℕ, ◌<◌, ◌⊎◌, Bool, not, nat_lt, Option, Some, None, length}
+use Rattle.std.specs.Prelude.{◌≡◌, ◌<◌, ◌⊎◌, not, nat_lt, Option, length}
 use Rattle.pipe_plan.specs.Faults.{or_else, told}
 use Rattle.pipe_plan.specs.declared.error.PipeError.{PipeError}
 use Rattle.pipe_plan.specs.declared.error.PipeError.TheVariants as error

@@ -1,5 +1,5 @@
 -- Seats taken and handed back, and flushes begun.
-use Rattle.std.proofs.Common.{◌≡◌, ℕ, ◌<◌, List, [], ◌∷◌, ◌++◌, Option, Some, None, length, ap, subst, sym, ◌∙◌, arith}
+use Rattle.std.proofs.Common.{◌≡◌, ℕ, ◌<◌, List, [], ◌∷◌, ◌++◌, Option, Some, subst, sym, arith}
 use Rattle.std.specs.Prelude.{All, option_to_list, IfSome}
 use Rattle.std.proofs.lemmas.List.Elements.{All-nil, All-push, All-pop}
 use Rattle.pipe_words.specs.Flags.{SeatMarks, IsSeatOf}
@@ -9,7 +9,6 @@ use Rattle.pipe_marks.specs.Unmet.{FullRows, AreFresh, AreSeatsOf, EndsMarking, 
 use Rattle.pipe_marks.specs.declared.due.FlushDue.{FlushDue}
 use Rattle.pipe_marks.specs.declared.marks.Marks.{Marks}
 use Rattle.pipe_marks.specs.declared.marks.Marks.TheVariants as marks
-use Rattle.worked_marks.specs.Working.{IsFullOf}
 
 pub fresh-seats : (it : Marks) (count : ℕ) (seats : List SeatMarks) → AreFresh count it seats → AreSeatsOf it seats
 fresh-seats (marks.Running flags) count seats fresh = fresh.2

@@ -1,4 +1,4 @@
-use Rattle.worked_marks.specs.Working.{IsProbedPart, IsIdleFull}
+use Rattle.worked_marks.specs.Working.{IsIdleFull}
 use Rattle.worked_marks.proofs.full.answers_in_turn.Given as goal
 
 abbrev pub invariant-loop-i : goal.invariant-loop-i

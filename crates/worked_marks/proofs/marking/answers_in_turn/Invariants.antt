@@ -1,4 +1,4 @@
-use Rattle.worked_marks.specs.Working.{IsProbedPart, IsIdle}
+use Rattle.worked_marks.specs.Working.{IsIdle}
 use Rattle.worked_marks.proofs.marking.answers_in_turn.Given as goal
 
 abbrev pub invariant-loop-i : goal.invariant-loop-i

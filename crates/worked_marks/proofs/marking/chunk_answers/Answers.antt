@@ -1,10 +1,6 @@
-use Rattle.std.proofs.Common.{◌≡◌, rules, ap, sym, subst, ◌∙◌}
-use Rattle.std.specs.Prelude.{Option}
-use Rattle.pipe_frame.specs.Chunks.{HasSchema}
+use Rattle.std.proofs.Common.{rules, ap, sym, subst, ◌∙◌}
 use Rattle.pipe_table.specs.Spec.{probed_schema}
-use Rattle.pipe_table.specs.declared.spec.JoinSpec.{JoinSpec}
 use Rattle.pipe_marks.specs.MarkProbe.{IsGivenReady}
-use Rattle.pipe_marks.specs.declared.given.Given.{Given}
 use Rattle.worked_marks.proofs.marking.chunk_answers.Goals as goal
 
 pub loop-piece-init : goal.loop-piece-init
