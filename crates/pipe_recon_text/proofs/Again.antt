@@ -1,9 +1,11 @@
 -- What is spelled so has the shape.
-use Rattle.std.proofs.Common.{◌≡◌, true, false, ap, sym, ◌∙◌, true≢false}
+use Rattle.std.proofs.Common.{◌≡◌, ℕ, Bool, true, false, ◌&&◌, ap, sym, ◌∙◌, true≢false}
 use Rattle.serde_json.specs.Data.{Data}
+use Rattle.pipe_frame.specs.Frame.{Table}
+use Rattle.pipe_job.specs.FrameSpelling.{FrameFits}
 use Rattle.pipe_job.proofs.Again.{frame_again, texts_again, unsigned_again, version_again}
-use Rattle.pipe_recon_text.specs.ReconShape.{is_recon_job}
-use Rattle.pipe_recon_text.specs.ReconSpelling.{PartsFit, Spells, recon_spelling}
+use Rattle.pipe_recon_text.specs.ReconShape.{are_two_frames, is_recon_job}
+use Rattle.pipe_recon_text.specs.ReconSpelling.{PartsFit, Spells, frames_spelling, recon_spelling}
 use Rattle.pipe_recon_text.specs.declared.recon_job.ReconJob.{ReconJob}
 
 recon_job_again : (job : ReconJob) → PartsFit job → is_recon_job (recon_spelling job) ≡ true

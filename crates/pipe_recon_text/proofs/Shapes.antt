@@ -1,5 +1,5 @@
 -- Where a member isn't as it has to be, the value spells no reconciliation.
-use Rattle.std.proofs.Common.{◌≡◌, Bool, false, codes, ap, ◌∙◌, Result, Ok, Err}
+use Rattle.std.proofs.Common.{◌≡◌, ℕ, List, Bool, false, ◌&&◌, codes, ap, ◌∙◌, Result, Ok, Err}
 use Rattle.std.specs.Result.{IsErrAnd}
 use Rattle.serde_json.specs.Data.{Data, object, Members, member}
 use Rattle.pipe_job.specs.Kinds.{is_job_back}

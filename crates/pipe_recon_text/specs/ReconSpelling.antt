@@ -3,7 +3,7 @@
 --
 -- A worked case: {"version":1,"workers":3,"chunk_rows":2,"row_limit":100,"frames":[FRAME,FRAME],"on":["k"],
 -- "join_nulls":false}, by the order of the members' names.
-use Rattle.std.specs.Prelude.{◌≡◌, Bool, false, ◌||◌, codes}
+use Rattle.std.specs.Prelude.{ℕ, ◌≡◌, List, Bool, false, ◌||◌, codes}
 use Rattle.serde_json.specs.Data.{Data, boolean, string, object, Members, member}
 use Rattle.pipe_frame.specs.Frame.{Table}
 use Rattle.pipe_job.specs.FrameSpelling.{frame_spelling, FrameFits}
