@@ -11,3 +11,4 @@ pub mod Shares
 pub mod Sides
 pub mod Steps
 pub mod Unions
+pub mod JoinRuns

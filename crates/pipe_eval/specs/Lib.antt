@@ -12,3 +12,5 @@ pub mod Asked
 pub mod Halts
 -- the node that the parts of a join make
 pub mod JoinNodes
+-- why there is no frame of a join's rows
+pub mod JoinEnds

@@ -7,6 +7,8 @@
 mod collecting;
 mod evaluating;
 mod flow;
+mod frame_join;
+mod full_frames;
 mod full_join;
 mod halts;
 mod join;
