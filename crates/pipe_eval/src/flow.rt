@@ -27,7 +27,8 @@ pub(crate) fn is_bare<O>(flow: &Flow<O>) -> bool
     flow.stages.len() == 0
 }
 
-/// The flow of a frame that was made for a node, whose chunks share its memory. `TooMany` where the frame has more rows than the limit.
+/// The flow of a frame that was made for a node, whose chunks share its memory. `TooMany` where the frame has more rows
+/// than the limit.
 pub(crate) fn begin_flow<O: Operator<Shared = ()> + Drop>(
     alloc: Global,
     plan: &CheckedPlan,
