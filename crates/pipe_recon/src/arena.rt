@@ -78,7 +78,7 @@ fn nodes(alloc: Global, left: usize, right: usize) -> Result<List<IR>, AllocErro
     Ok(nodes)
 }
 
-/// The frames of both sides.
+/// The frames of both sides. The scans of them take no memory for cells.
 fn frames(
     alloc: Global,
     lefts: BinaryColumn,
@@ -91,8 +91,8 @@ fn frames(
     let left = coded_frame(alloc, "left_key", "left_row", lefts)?;
     let right = coded_frame(alloc, "right_key", "right_row", rights)?;
     let mut frames = List::new(alloc);
-    frames.push(left)?;
-    frames.push(right)?;
+    frames.push(left.shared()?)?;
+    frames.push(right.shared()?)?;
     Ok(frames)
 }
 

@@ -98,14 +98,14 @@ fn frame_from(
     }
 }
 
-/// The two frames.
+/// The two frames. The scans of them take no memory for cells.
 pub(crate) fn frames(alloc: Global, start: u64, rows: u32) -> Result<List<DataFrame>, AllocError>
     ensures { IfOk result (λ made. made ≡ left_frame start rows ∷ right_frame start rows ∷ []) }
 {
     let (left, middle) = frame_from(alloc, start, "a", rows)?;
     let (right, _) = frame_from(alloc, middle, "b", rows)?;
     let mut frames = List::new(alloc);
-    frames.push(left)?;
-    frames.push(right)?;
+    frames.push(left.shared()?)?;
+    frames.push(right.shared()?)?;
     Ok(frames)
 }
