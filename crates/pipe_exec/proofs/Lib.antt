@@ -1,2 +1,4 @@
 pub mod Unstopped
 pub mod Complete
+pub mod Hints
+pub mod SideCauses

@@ -1,5 +1,5 @@
 -- No check says that a run was stopped.
-use Rattle.std.proofs.Common.{◌≡◌, ℕ, Bool, true, false, List, [], ◌∷◌, Option, Some, None, Result, Ok, Err, inl, inr, refl, subst, length}
+use Rattle.std.proofs.Common.{◌≡◌, ℕ, Bool, true, false, List, [], ◌∷◌, Option, Some, None, Result, inl, inr, refl, subst, length}
 use Rattle.std.specs.Prelude.{if◌then◌else◌, nat_le, nat_lt, IfErr, IsErrOf, ⊤}
 use Rattle.std.specs.List.{range_with_len}
 use Rattle.pipe_check.specs.Checked.{MemoryOr, check_fault}

@@ -2,3 +2,5 @@
 pub mod Sound
 -- why a run gives no rows
 pub mod Runs
+-- which side of a join is built, and runs of both
+pub mod Sides

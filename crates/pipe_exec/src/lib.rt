@@ -2,11 +2,14 @@
 #![tactic(auto)]
 
 mod answer;
+mod building;
 mod check;
 mod numbers;
 mod running;
+mod sides;
 
 pub use answer::RunAnswer;
 pub use check::check_job;
 pub use pipe_plan::PipeConfig;
 pub use running::{run_plan, run_plan_with};
+pub use sides::both_sides;
