@@ -8,7 +8,7 @@ use std::alloc::{AllocError, Global};
 use std::thread::Threads;
 
 /// The lines of a frame.
-fn lines_of(alloc: Global, frame: &DataFrame) -> Result<Vec<u8>, AllocError> {
+pub(crate) fn lines_of(alloc: Global, frame: &DataFrame) -> Result<Vec<u8>, AllocError> {
     let mut lines = Vec::new(alloc);
     lines.extend_from_slice(head_line(alloc, frame.schema())?.as_slice())?;
     for i in 0..frame.height() {

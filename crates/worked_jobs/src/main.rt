@@ -11,6 +11,7 @@ mod nodes;
 mod other_joins;
 mod scans;
 mod semi_joins;
+mod sides;
 mod stopped;
 mod table;
 mod told;

@@ -2,7 +2,7 @@
 
 use crate::{
     anti_joins, full_joins, inner_joins, keys, ledger, nodes, other_joins, scans, semi_joins,
-    stopped, told,
+    sides, stopped, told,
 };
 use std::alloc::{AllocError, Global};
 use std::thread::Threads;
@@ -72,6 +72,7 @@ pub(crate) fn answers<T: Threads + Sync>(rt: &T, alloc: Global) -> Result<String
     let mut answers = String::new(alloc);
     tell_plans(rt, alloc, &mut answers)?;
     tell_hashed_joins(rt, alloc, &mut answers)?;
+    sides::tell_sides(rt, alloc, &mut answers)?;
     stopped::tell_stopped(rt, alloc, &mut answers)?;
     Ok(answers)
 }

@@ -6,7 +6,7 @@ use std::thread::Threads;
 use worked_runs::{Case, Numbers, run_text, said, shown, sorted_lines};
 
 /// Several chunks, and several threads.
-const SEVERAL: Numbers = Numbers {
+pub(crate) const SEVERAL: Numbers = Numbers {
     workers: 3,
     chunk_rows: 2,
 };
@@ -55,7 +55,7 @@ pub(crate) fn tell<T: Threads + Sync>(
 }
 
 /// The lines of a run, in their order where the root is a sort, and else sorted.
-fn lines_of(alloc: Global, case: &Case, lines: &[u8]) -> Result<String, AllocError> {
+pub(crate) fn lines_of(alloc: Global, case: &Case, lines: &[u8]) -> Result<String, AllocError> {
     if case.is_sorted {
         String::from_str(alloc, shown(lines))
     } else {
