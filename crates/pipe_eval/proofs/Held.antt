@@ -15,7 +15,7 @@ use Rattle.pipe_check.proofs.Walks.{different, itself, member, none-member}
 use Rattle.pipe_convert.proofs.Granted.{granted, first_false, second_false}
 use Rattle.pipe_eval.specs.Flows.{IsFlowOf, IsUnder}
 use Rattle.pipe_eval.specs.Places.{AreHeld, AreReady, IsFlowUnder, IsHeld, OthersStay, inputs_in, place_at}
-use Rattle.pipe_eval.specs.declared.flow.Flow.{Flow}
+use Rattle.pipe_pipeline.specs.declared.flow.Flow.{Flow}
 
 -- ---- members of lists of numbers
 

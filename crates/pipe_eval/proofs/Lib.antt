@@ -1,6 +1,10 @@
+pub mod Alone
 pub mod Asked
+pub mod Branches
 pub mod Ending
+pub mod Filled
 pub mod Frames
+pub mod Gives
 pub mod Held
 pub mod Joined
 pub mod JoinsAlike

@@ -1,13 +1,18 @@
--- Flows: the rows of a node, as a frame and the stages that its chunks go through.
-use Rattle.std.specs.Prelude.{◌≡◌, ℕ, ◌≤◌, List, [], ◌∷◌, true, false, length}
-use Rattle.std.specs.List.{flat_map}
+-- Flows: the rows of a node, as branches and the stages behind them.
+use Rattle.std.specs.Prelude.{◌≡◌, ◌⊎◌, ℕ, ◌≤◌, List, [], ◌∷◌, true, false, length}
+use Rattle.std.specs.List.{AllByRecursion, flat_map}
 use Rattle.pipe_frame.specs.Frame.{Table}
 use Rattle.pipe_frame.specs.Rows.{Row, Same}
 use Rattle.pipe_frame.specs.declared.field.Field.{Field}
 use Rattle.pipe_expr.specs.Joins.{join_fields, join_rows}
 use Rattle.pipe_ops.specs.declared.operator.Operator.{Ghosts as OperatorWords}
+use Rattle.pipe_lanes.specs.Counts.{operators_of}
+use Rattle.pipe_lanes.specs.Through.{IsChain, AllServe}
 use Rattle.pipe_lanes.specs.declared.stage.Stage.{Stage}
-use Rattle.pipe_pipeline.specs.Pipelines.{made_at, AllFew}
+use Rattle.pipe_pipeline.specs.Branches.{AllCanRun, made_in, left_in, AllFewIn, IsTooFullIn}
+use Rattle.pipe_pipeline.specs.Pipelines.{made_by, made_at, filled, AllFew, IsTooFull}
+use Rattle.pipe_pipeline.specs.declared.flow.Branch.{Branch}
+use Rattle.pipe_pipeline.specs.declared.flow.Flow.{Flow}
 use Rattle.pipe_plan.specs.Plan.{plan_of}
 use Rattle.pipe_plan.specs.PlanRows.{rows_of}
 use Rattle.pipe_plan.specs.Under.{inputs_of, is_under, node_at}
@@ -16,8 +21,7 @@ use Rattle.pipe_table.specs.Spec.{IsSpec, built_schema, settings_of}
 use Rattle.pipe_probe.specs.Probed.{TakesProbed, shares_of}
 use Rattle.pipe_table.specs.declared.spec.JoinSpec.{JoinSpec}
 use Rattle.pipe_convert.specs.Converted.{schema_in}
-use Rattle.pipe_eval.specs.Evaluated.{AllWithin, HasRowsOf, is_sort}
-use Rattle.pipe_eval.specs.declared.flow.Flow.{Flow}
+use Rattle.pipe_eval.specs.Evaluated.{AllWithin, HasRowsOf, HasTooMany, is_sort}
 
 -- the rows of a node of a checked plan
 abbrev pub rows_in : Checked → ℕ → List Row
@@ -38,7 +42,7 @@ pub record AreOf (plan : Checked) (n : ℕ) (schema : List Field) (rows : List R
   pub same : Same rows (rows_in plan n)
 
 -- rows of a schema go through stages and end as those of a node: the rows that come to a stage are those
--- of its node, and its operator takes their schema
+-- of its node, its operator takes their schema, and it was given none before
 abbrev pub EndAs : {O : Type 0} → OperatorWords O (Unit {0}) → Checked → (n : ℕ) → List Field →
     List Row → List (Stage O) → Type 0
 EndAs op plan n from rows [] = AreOf plan n from rows
@@ -46,18 +50,54 @@ EndAs op plan n from rows (stage ∷ stages) =
     AreOf plan stage.node from rows
     × op.takes stage.operator from
     × op.serves stage.operator tt
+    × (stage.given ≡ 0)
     × EndAs op plan n (op.output stage.operator from) (made_at op tt from stage rows) stages
 
--- a flow is that of a node: its frame is within the limit and ends as the node's rows; where no count of
--- it is past the limit, all nodes under the node are within it; and a sort's frame has the very rows
+-- branches give some rows of a schema to whatever stages stand behind them: run through these, they make
+-- of them what these make of the rows, and leave them as the rows do; where no count is past the limit,
+-- some nodes are settled; and where one is, it is that of a node with too many rows, or of those stages
+pub record Give {O : Type 0} (op : OperatorWords O (Unit {0})) (limit : ℕ) (plan : Checked)
+    (below : List ℕ) (from : List Field) (rows : List Row) (branches : List (Branch O)) : Type 0 where
+  pub runs : (stages : List (Stage O)) (end : List Field) → IsChain op from (operators_of stages) end
+      → AllServe op tt (operators_of stages) → AllCanRun op tt end branches stages
+  pub makes : (stages : List (Stage O)) → made_in op tt branches stages ≡ made_by op tt from stages rows
+  pub leaves : (stages : List (Stage O)) → left_in op tt branches stages ≡ filled op tt from rows stages
+  pub settled : (stages : List (Stage O)) (given : ℕ) → AllFewIn op tt limit branches stages given
+      → AllByRecursion (IsSettled limit plan) below
+  pub few : (branches ≡ [] → ⊥) → (stages : List (Stage O)) (given : ℕ)
+      → AllFewIn op tt limit branches stages given → AllFew op tt limit from rows stages given
+  pub many : (stages : List (Stage O)) (given last node : ℕ)
+      → IsTooFullIn op tt limit branches stages given last node
+      → HasTooMany limit (plan_of plan.arena) plan.root node
+      ⊎ IsTooFull op tt limit from rows stages given last node
+
+-- a flow that is a frame alone, within the limit
+pub record IsBare {O : Type 0} (limit : ℕ) (flow : Flow O) : Type 0 where
+  pub branch : Branch O
+  pub only : flow.branches.items ≡ branch ∷ []
+  pub entering : branch.entering.items ≡ []
+  pub stages : flow.stages.items ≡ []
+  pub few : length branch.frame.rows ≤ limit
+
+-- one whose frame has these very rows
+pub record IsExact {O : Type 0} (limit : ℕ) (rows : List Row) (flow : Flow O) : Type 0 where
+  pub bare : IsBare limit flow
+  pub exact : bare.branch.frame.rows ≡ rows
+
+-- a flow is that of a node: what its branches give ends as the node's rows; where no count of it is past
+-- the limit, all nodes under the node are within it; and a sort's is a frame with the very rows
 pub record IsFlowOf {O : Type 0} (op : OperatorWords O (Unit {0})) (limit : ℕ) (plan : Checked)
     (n : ℕ) (flow : Flow O) : Type 0 where
-  pub few : length flow.frame.rows ≤ limit
-  pub ends : EndAs op plan n flow.frame.schema flow.frame.rows flow.stages.items
-  pub settles : AllFew op tt limit flow.frame.schema flow.frame.rows flow.stages.items
-      → IsSettled limit plan n
+  pub below : List ℕ
+  pub from : List Field
+  pub rows : List Row
+  pub some : flow.branches.items ≡ [] → ⊥
+  pub give : Give op limit plan below from rows flow.branches.items
+  pub ends : EndAs op plan n from rows flow.stages.items
+  pub settles : AllByRecursion (IsSettled limit plan) below
+      → AllFew op tt limit from rows flow.stages.items 0 → IsSettled limit plan n
   pub in_order : is_sort (node_at (plan_of plan.arena).nodes n) ≡ true
-      → (flow.stages.items ≡ []) × (flow.frame.rows ≡ rows_in plan n)
+      → IsExact limit (rows_in plan n) flow
 
 -- a frame is that of a node: its schema and its rows, in order where it is a sort
 pub record IsFrameOf (plan : Checked) (n : ℕ) (frame : Table) : Type 0 where

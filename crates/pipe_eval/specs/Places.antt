@@ -7,7 +7,7 @@ use Rattle.pipe_plan.specs.Plan.{plan_of}
 use Rattle.pipe_plan.specs.Under.{inputs_of, is_under, node_at}
 use Rattle.pipe_check.specs.Checked.{Checked}
 use Rattle.pipe_eval.specs.Flows.{IsFlowOf, IsUnder}
-use Rattle.pipe_eval.specs.declared.flow.Flow.{Flow}
+use Rattle.pipe_pipeline.specs.declared.flow.Flow.{Flow}
 
 -- the inputs of a node of a checked plan
 abbrev pub inputs_in : Checked → ℕ → List ℕ

@@ -1,30 +1,53 @@
-//! Flows: the rows of a node, of which the last steps are still to be made.
+//! Flows of nodes.
 
-ghost use Rattle.std.specs.Prelude.{◌≡◌, [], ◌∷◌, ◌++◌, true, false, IfOk, IfErr};
+ghost use Rattle.std.specs.Prelude.{◌≡◌, ◌∷◌, [], true, false, IfOk, IfErr};
+ghost use Rattle.pipe_pipeline.specs.declared.flow.Branch.{Branch};
 ghost use Rattle.pipe_plan.specs.Plan.{plan_of};
 ghost use Rattle.pipe_eval.specs.Evaluated.{EndsWith, stops};
-ghost use Rattle.pipe_eval.specs.Flows.{IsFlowOf, IsMadeFor};
+ghost use Rattle.pipe_eval.specs.Flows.{IsBare, IsFlowOf, IsMadeFor};
 
 use pipe_check::CheckedPlan;
 use pipe_frame::DataFrame;
-use pipe_lanes::Stage;
 use pipe_ops::{Operator, PExecutionContext};
+use pipe_pipeline::Flow;
 use pipe_plan::PipeError;
-use std::alloc::{AllocError, Global};
+use std::alloc::Global;
 
-/// A frame, and the stages that its chunks go through.
-#[derive(Drop)]
-pub(crate) struct Flow<O> {
-    pub(crate) frame: DataFrame,
-    pub(crate) stages: Vec<Stage<O>>,
+/// Whether there is no item.
+fn has_none<T>(items: &Vec<T>) -> bool
+    ensures none { result ≡ true → items.now.items ≡ [] }
+    ensures some { result ≡ false → items.now.items ≡ [] → ⊥ }
+{
+    items.len() == 0
 }
 
-/// Whether there is no stage.
-pub(crate) fn is_bare<O>(flow: &Flow<O>) -> bool
-    ensures bare { result ≡ true → flow.now.stages.items ≡ [] }
-    ensures staged { result ≡ false → flow.now.stages.items ≡ [] → ⊥ }
+/// Whether a flow has one branch and no stage, and its frame no more rows than the limit.
+pub(crate) fn is_bare<O>(context: &PExecutionContext, flow: &Flow<O>) -> bool
+    ensures bare { result ≡ true → IsBare context.now.row_limit flow.now }
+    ensures staged { result ≡ false → IsBare context.now.row_limit flow.now → ⊥ }
 {
-    flow.stages.len() == 0
+    let [only] = flow.branches.as_slice() else {
+        return false;
+    };
+    if only.frame.height() > context.row_limit as usize {
+        return false;
+    }
+    has_none(&only.entering) && has_none(&flow.stages)
+}
+
+/// The frame of a flow's last branch.
+pub(crate) fn last_frame<O: Drop>(flow: Flow<O>) -> DataFrame
+    requires { flow.branches.items ≡ [] → ⊥ }
+    ensures { (branch : Branch _) → flow.branches.items ≡ branch ∷ [] → result ≡ branch.frame }
+{
+    let Flow {
+        mut branches,
+        stages: _,
+    } = flow;
+    match branches.pop() {
+        Some(branch) => branch.frame,
+        None => unreachable!(),
+    }
 }
 
 /// The flow of a frame that was made for a node, whose chunks share its memory. `TooMany` where the frame has more rows
@@ -46,26 +69,6 @@ pub(crate) fn begin_flow<O: Operator<Shared = ()> + Drop>(
     if frame.height() > context.row_limit as usize {
         return Err(PipeError::TooMany(n));
     }
-    Ok(Flow {
-        frame: frame.shared()?,
-        stages: Vec::new(alloc),
-    })
-}
-
-/// The flow with one operator more, to which the rows of a node come.
-pub(crate) fn push_stage<O: Drop>(
-    mut flow: Flow<O>,
-    operator: O,
-    node: u32,
-) -> Result<Flow<O>, AllocError>
-    ensures frame { IfOk result (λ made. made.frame ≡ flow.frame) }
-    ensures stages { IfOk result (λ made. made.stages.items ≡ flow.stages.items
-        ++ record { operator = operator; node = node; given = 0 } ∷ []) }
-{
-    flow.stages.push(Stage {
-        operator,
-        node,
-        given: 0,
-    })?;
+    let flow = Flow::new(alloc, frame.shared()?)?;
     Ok(flow)
 }

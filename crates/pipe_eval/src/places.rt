@@ -3,7 +3,7 @@
 ghost use Rattle.std.specs.Prelude.{◌≡◌, ◌<◌, [], ◌∷◌, ◌++◌, Some, None, OnOk, length, set};
 ghost use Rattle.pipe_eval.specs.Places.{place_at};
 
-use crate::flow::Flow;
+use pipe_pipeline::Flow;
 use std::alloc::AllocError;
 
 /// Takes the flow of a node out of its place.

@@ -8,7 +8,6 @@ ghost use Rattle.pipe_eval.specs.Flows.{IsFlowOf, IsUnder};
 ghost use Rattle.pipe_eval.specs.Places.{AreHeld, OthersStay};
 ghost use Rattle.pipe_eval.specs.Words.{phys_words};
 
-use crate::flow::{Flow, push_stage};
 use crate::places::take_flow;
 use pipe_check::CheckedPlan;
 use pipe_convert::{
@@ -19,6 +18,7 @@ use pipe_expr::{Expr, FunctionIR, NamedExpr};
 use pipe_frame::{List, Text};
 use pipe_ops::{Operator, PExecutionContext};
 use pipe_physical::PhysOperator;
+use pipe_pipeline::Flow;
 use pipe_rows::KeyHasher;
 use std::alloc::{AllocError, Global};
 
@@ -42,7 +42,7 @@ fn through_operator<O: Operator<Shared = ()> + Drop>(
 {
     let _ = plan.root();
     let flow = take_flow(places, input);
-    let longer = push_stage(flow, operator, input)?;
+    let longer = flow.push(operator, input)?;
     Ok(longer)
 }
 

@@ -7,11 +7,12 @@ ghost use Rattle.pipe_convert.specs.Converted.{IsNode};
 ghost use Rattle.pipe_eval.specs.Evaluated.{EndsWith, stops};
 ghost use Rattle.pipe_eval.specs.Flows.{IsFlowOf};
 
-use crate::flow::{Flow, begin_flow};
+use crate::flow::begin_flow;
 use pipe_check::CheckedPlan;
 use pipe_convert::scan_frame;
 use pipe_frame::{List, Text};
 use pipe_ops::{Operator, PExecutionContext};
+use pipe_pipeline::Flow;
 use pipe_plan::PipeError;
 use std::alloc::Global;
 

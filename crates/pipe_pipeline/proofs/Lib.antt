@@ -1,1 +1,4 @@
+mod AddSteps
+mod FlowSteps
+mod InOrder
 mod Nodes

@@ -1,5 +1,5 @@
 -- What a pipeline makes of rows, how many of them come to its nodes, and why it ends early.
-use Rattle.std.specs.Prelude.{◌≡◌, ℕ, ◌-◌, ◌*◌, ◌<◌, ◌≤◌, ◌⊎◌, List, [], ◌∷◌, length}
+use Rattle.std.specs.Prelude.{◌≡◌, ℕ, ◌+◌, ◌-◌, ◌*◌, ◌<◌, ◌≤◌, ◌⊎◌, List, [], ◌∷◌, length}
 use Rattle.std.specs.List.{flat_map}
 use Rattle.pipe_frame.specs.Frame.{Table}
 use Rattle.pipe_frame.specs.Rows.{Row}
@@ -24,34 +24,44 @@ abbrev pub made_at : {O S : Type 0} → OperatorWords O S → S → List Field �
     List Row
 made_at op s from stage rows = flat_map (op.each stage.operator from s) rows
 
--- no more rows than the limit come to any operator of a pipeline, or to its sink
-abbrev pub AllFew : {O S : Type 0} → OperatorWords O S → S → (limit : ℕ) → List Field →
-    List Row → List (Stage O) → Type 0
-AllFew op s limit from rows [] = length rows ≤ limit
-AllFew op s limit from rows (stage ∷ stages) =
-    (length rows ≤ limit)
-    × AllFew op s limit (op.output stage.operator from) (made_at op s from stage rows) stages
+-- the stages of a pipeline, each given the rows that come to it besides those that it was given before
+abbrev pub filled : {O S : Type 0} → OperatorWords O S → S → List Field → List Row →
+    List (Stage O) → List (Stage O)
+filled op s from rows [] = []
+filled op s from rows (stage ∷ stages) =
+    record stage { given = stage.given + length rows }
+    ∷ filled op s (op.output stage.operator from) (made_at op s from stage rows) stages
 
--- more rows than the limit come to a node of a pipeline, whose sink takes the rows of the last
+-- no operator of a pipeline, nor its sink, is given more rows than the limit, with those that it was given before
+abbrev pub AllFew : {O S : Type 0} → OperatorWords O S → S → (limit : ℕ) → List Field →
+    List Row → List (Stage O) → (given : ℕ) → Type 0
+AllFew op s limit from rows [] given = given + length rows ≤ limit
+AllFew op s limit from rows (stage ∷ stages) given =
+    (stage.given + length rows ≤ limit)
+    × AllFew op s limit (op.output stage.operator from) (made_at op s from stage rows) stages given
+
+-- more rows than the limit are given to a node of a pipeline, with those before; its sink takes the rows of the last
 abbrev pub IsTooFull : {O S : Type 0} → OperatorWords O S → S → (limit : ℕ) → List Field →
-    List Row → List (Stage O) → (last node : ℕ) → Type 0
-IsTooFull op s limit from rows [] last node = (node ≡ last) × (limit < length rows)
-IsTooFull op s limit from rows (stage ∷ stages) last node =
-    ((node ≡ stage.node) × (limit < length rows))
+    List Row → List (Stage O) → (given last node : ℕ) → Type 0
+IsTooFull op s limit from rows [] given last node =
+    (node ≡ last) × (limit < given + length rows)
+IsTooFull op s limit from rows (stage ∷ stages) given last node =
+    ((node ≡ stage.node) × (limit < stage.given + length rows))
     ⊎ IsTooFull op s limit (op.output stage.operator from) (made_at op s from stage rows) stages
-    last node
+    given last node
 
 -- why a pipeline ended early: a stop, no memory, or a node to which too many rows come
 abbrev pub RefusedBy : {O S : Type 0} → OperatorWords O S → S → (limit : ℕ) → List Field →
-    List Row → List (Stage O) → (last : ℕ) → Refusal → Type 0
-RefusedBy op s limit from rows stages last (TooMany node) =
-    IsTooFull op s limit from rows stages last node
-RefusedBy op s limit from rows stages last Memory = Unit {0}
+    List Row → List (Stage O) → (given last : ℕ) → Refusal → Type 0
+RefusedBy op s limit from rows stages given last (TooMany node) =
+    IsTooFull op s limit from rows stages given last node
+RefusedBy op s limit from rows stages given last Memory = Unit {0}
 
 abbrev pub HaltsBy : {O S : Type 0} → OperatorWords O S → S → (limit : ℕ) → List Field →
-    List Row → List (Stage O) → (last : ℕ) → Halt → Type 0
-HaltsBy op s limit from rows stages last Stopped = Unit {0}
-HaltsBy op s limit from rows stages last (Refused r) = RefusedBy op s limit from rows stages last r
+    List Row → List (Stage O) → (given last : ℕ) → Halt → Type 0
+HaltsBy op s limit from rows stages given last Stopped = Unit {0}
+HaltsBy op s limit from rows stages given last (Refused r) =
+    RefusedBy op s limit from rows stages given last r
 
 -- a run over a frame has one lane, or no more lanes than chunks: before the last lane's chunk is no whole frame
 abbrev pub HasLanesFor : Table → PExecutionContext → Type 0

@@ -1,4 +1,5 @@
-use Rattle.std.proofs.Common.{arith}
+use Rattle.std.proofs.Common.{arith, subst}
+use Rattle.pipe_pipeline.specs.Added.{IsAlone}
 use Rattle.pipe_eval.proofs.Frames.{made-flow, made-many}
 use Rattle.pipe_eval.proofs.flow.begin_flow.Goals as goal
 
@@ -6,4 +7,6 @@ pub returns-then-height-context-clause-err : goal.returns-then-height-context-cl
 returns-then-height-context-clause-err g c = made-many c.args.context.now.row_limit c.args.plan.now c.args.n c.args.frame c.requires.made (omega (arith, c.if-height-context.true))
 
 pub returns-clause-flow : goal.returns-clause-flow
-returns-clause-flow g c = rw c.in_ok-shared.ensures (made-flow g.O.Operator c.args.context.now.row_limit c.args.plan.now c.args.n _ c.new.ensures.items (omega (arith, c.if-height-context.false)) c.requires.made)
+returns-clause-flow g c =
+    let alone = subst (λ t. IsAlone t c.in_ok-flow.flow.branches.items) c.in_ok-shared.ensures c.in_ok-flow.ensures.branches in
+    made-flow g.O.Operator c.args.context.now.row_limit c.args.plan.now c.args.n c.in_ok-flow.flow c.args.frame alone c.in_ok-flow.ensures.stages (omega (arith, c.if-height-context.false)) c.args.context.now.limit_in.1 c.requires.made

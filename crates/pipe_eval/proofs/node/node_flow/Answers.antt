@@ -28,7 +28,7 @@ pub returns-in_ok-by_function-in-MapFunction-clause-asked : goal.returns-in_ok-b
 returns-in_ok-by_function-in-MapFunction-clause-asked g c = asked-ok g.C.StopCheck _ _
 
 pub returns-in_ok-united-in-Union-clause-asked : goal.returns-in_ok-united-in-Union-clause-asked
-returns-in_ok-united-in-Union-clause-asked g c = c.in_ok-united-in-Union.ensures.asked
+returns-in_ok-united-in-Union-clause-asked g c = asked-ok g.C.StopCheck _ _
 
 pub returns-in_ok-joined-in-Join-clause-asked : goal.returns-in_ok-joined-in-Join-clause-asked
 returns-in_ok-joined-in-Join-clause-asked g c = c.in_ok-joined-in-Join.ensures.asked
@@ -73,10 +73,10 @@ pub returns-in_err-by_function-in-MapFunction-clause-asked : goal.returns-in_err
 returns-in_err-by_function-in-MapFunction-clause-asked g c = asked_none g.C.StopCheck _ _ c.from_residual-in_err-by_function-in-MapFunction.ensures.1
 
 pub returns-in_err-united-in-Union-clause-err : goal.returns-in_err-united-in-Union-clause-err
-returns-in_err-united-in-Union-clause-err g c = ends_passed _ _ _ _ _ c.from_residual-in_err-united-in-Union.ensures.1 c.in_err-united-in-Union.ensures.err
+returns-in_err-united-in-Union-clause-err g c = ends_memory _ _ _ _ c.from_residual-in_err-united-in-Union.ensures.1
 
 pub returns-in_err-united-in-Union-clause-asked : goal.returns-in_err-united-in-Union-clause-asked
-returns-in_err-united-in-Union-clause-asked g c = asked_passed g.C.StopCheck _ _ _ _ c.from_residual-in_err-united-in-Union.ensures.1 c.in_err-united-in-Union.ensures.asked
+returns-in_err-united-in-Union-clause-asked g c = asked_none g.C.StopCheck _ _ c.from_residual-in_err-united-in-Union.ensures.1
 
 pub returns-in_err-joined-in-Join-clause-err : goal.returns-in_err-joined-in-Join-clause-err
 returns-in_err-joined-in-Join-clause-err g c = ends_passed _ _ _ _ _ c.from_residual-in_err-joined-in-Join.ensures.1 c.in_err-joined-in-Join.ensures.err
@@ -96,12 +96,6 @@ scanned-requires-send-O g c κs within = let s = c.type_bounds.send-H in let y =
 pub scanned-requires-sync-O : goal.scanned-requires-sync-O
 scanned-requires-sync-O g c κs within = let s = c.type_bounds.send-H in let y = c.type_bounds.sync-H in search (sendable, operator-sync)
 
-pub united-requires-send-O : goal.united-requires-send-O
-united-requires-send-O g c κs within = let s = c.type_bounds.send-H in let y = c.type_bounds.sync-H in search (sendable, operator-send)
-
-pub united-requires-sync-O : goal.united-requires-sync-O
-united-requires-sync-O g c κs within = let s = c.type_bounds.send-H in let y = c.type_bounds.sync-H in search (sendable, operator-sync)
-
 pub sorted-requires-send-O : goal.sorted-requires-send-O
 sorted-requires-send-O g c κs within = let s = c.type_bounds.send-H in let y = c.type_bounds.sync-H in search (sendable, operator-send)
 
@@ -116,3 +110,9 @@ joined-requires-clause-inputs g c κs within =
 
 pub returns-in_ok-joined-in-Join-clause-flow : goal.returns-in_ok-joined-in-Join-clause-flow
 returns-in_ok-joined-in-Join-clause-flow g c = subst (λ m. IsFlowOf phys_words c.args.context.now.row_limit c.args.plan.now m c.in_ok-joined-in-Join.field-0) c.new-node.ensures.inputs.0 c.in_ok-joined-in-Join.ensures.flow
+
+pub united-requires-send-O : goal.united-requires-send-O
+united-requires-send-O g c κs within = let s = c.type_bounds.send-H in let y = c.type_bounds.sync-H in search (sendable, operator-send)
+
+pub united-requires-sync-O : goal.united-requires-sync-O
+united-requires-sync-O g c κs within = let s = c.type_bounds.send-H in let y = c.type_bounds.sync-H in search (sendable, operator-sync)

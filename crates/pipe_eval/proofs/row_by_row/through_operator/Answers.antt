@@ -1,4 +1,4 @@
-use Rattle.std.proofs.Common.{refl}
+use Rattle.std.proofs.Common.{ap, refl}
 use Rattle.pipe_eval.specs.Places.{place_at}
 use Rattle.pipe_eval.proofs.Ending.{flow-more}
 use Rattle.pipe_eval.proofs.Held.{held-below, is-flow, is-there, taken-one}
@@ -19,7 +19,7 @@ returns-clause-flow g c =
     let x = c.args.input in
     let flow = is-flow op limit plan x (place_at c.args.places.now x) c.take_flow-flow.result c.requires.inputs.0 c.take_flow-flow.ensures.taken in
     let step = step-of op limit plan c.args.n x c.args.operator c.root.ensures.good c.requires.under c.requires.operator in
-    flow-more op plan limit c.args.n x c.take_flow-flow.result _ _ c.in_ok-longer.ensures.frame c.in_ok-longer.ensures.stages refl step flow
+    flow-more op plan limit c.args.n x c.take_flow-flow.result _ _ (ap (λ v. v.items) c.in_ok-longer.ensures.branches) c.in_ok-longer.ensures.stages refl refl step flow
 
 pub returns-clause-others : goal.returns-clause-others
 returns-clause-others g c = taken-one c.args.places.now c.take_flow-flow.new.places c.args.input c.take_flow-flow.ensures.left

@@ -1,8 +1,6 @@
-use Rattle.std.proofs.Common.{append-nil}
 use Rattle.pipe_sort.specs.SortLaws.{any_order}
 use Rattle.pipe_physical.proofs.sorting.sort_frame.Goals as goal
 
 pub returns-in-Ok-sorted-clause-sorted : goal.returns-in-Ok-sorted-clause-sorted
 returns-in-Ok-sorted-clause-sorted g c =
-    let held = rw (c.from_df-source.ensures, append-nil c.args.frame.rows) at c.in-Ok.ensures.held in
-    any_order c.args.sink.settings _ _ c.in-Ok-sorted.made.rows held (rw c.in-Ok.ensures.setting at c.in-Ok-sorted.ensures.rows)
+    any_order c.args.sink.settings _ _ c.in-Ok-sorted.made.rows c.in-Ok.ensures.held (rw c.in-Ok.ensures.setting at c.in-Ok-sorted.ensures.rows)

@@ -1,8 +1,12 @@
-use Rattle.std.proofs.Common.{◌<◌, Err, length, arith, ap}
+use Rattle.std.proofs.Common.{◌≡◌, ◌+◌, ◌<◌, Err, length, arith, ap, sym, ◌∙◌, subst}
 use Rattle.std.proofs.lemmas.List.{with_items_is}
 use Rattle.pipe_lanes.proofs.Asked.{counts-none}
+use Rattle.pipe_lanes.proofs.Rows.{same-length}
+use Rattle.pipe_lanes.specs.Dealt.{counts_in}
 use Rattle.pipe_rounds.specs.Rounds.{left_rows, schema_left}
-use Rattle.pipe_pipeline.proofs.Nodes.{within-more, opened-length, halts-by, few-by, held-by, rises-after, counts-after}
+use Rattle.pipe_pipeline.specs.Given.{AreFewWith, given_more, sink_count}
+use Rattle.pipe_pipeline.specs.Pipelines.{made_by}
+use Rattle.pipe_pipeline.proofs.Nodes.{counted-by, counts-after, few-with, filled-by, halts-by, held-by, lanes-within, last-by, nodes-more, nodes-same, opened-length, rises-after, sink-over, sunk-by, within-more}
 use Rattle.pipe_pipeline.proofs.running.run_pipeline.Goals as goal
 
 pub open_lanes-requires-clause-serves : goal.open_lanes-requires-clause-serves
@@ -24,7 +28,7 @@ pub run_rounds-requires-clause-schema : goal.run_rounds-requires-clause-schema
 run_rounds-requires-clause-schema g c = λ κs lives. c.requires.schema
 
 pub run_rounds-requires-clause-index : goal.run_rounds-requires-clause-index
-run_rounds-requires-clause-index g c = λ κs lives. omega (arith, c.requires.few, c.args.context.now.workers_in.1)
+run_rounds-requires-clause-index g c = λ κs lives. c.requires.index
 
 pub run_rounds-requires-clause-alike : goal.run_rounds-requires-clause-alike
 run_rounds-requires-clause-alike g c = λ κs lives. rw c.as_mut_slice.ensures.value (c.in-Ok.ensures.alike (schema_left (g.I.Source.left c.args.source.now)))
@@ -41,7 +45,7 @@ run_rounds-requires-clause-within g c = λ κs lives. rw c.as_mut_slice.ensures.
 pub returns-in-Err-clause-over : goal.returns-in-Err-clause-over
 returns-in-Err-clause-over g c =
     let opened = c.in-Ok.ensures in
-    halts-by g.O.Operator c.args.shared.now c.args.context.now.row_limit c.args.basin (schema_left (g.I.Source.left c.args.source.now)) (left_rows (g.I.Source.left c.args.source.now)) c.args.stages.now c.in-Ok.lanes.items (opened.steps (schema_left (g.I.Source.left c.args.source.now))) opened.nodes opened.within c.in-Err.halt (rw c.as_mut_slice.ensures.value at c.in-Err.ensures.over)
+    halts-by g.O.Operator c.args.shared.now c.args.context.now.row_limit c.args.basin.now (schema_left (g.I.Source.left c.args.source.now)) (left_rows (g.I.Source.left c.args.source.now)) c.args.stages.now c.in-Ok.lanes.items (opened.steps (schema_left (g.I.Source.left c.args.source.now))) opened.nodes opened.within c.in-Err.halt (rw c.as_mut_slice.ensures.value at c.in-Err.ensures.over)
 
 pub returns-in-Err-clause-yes : goal.returns-in-Err-clause-yes
 returns-in-Err-clause-yes g c = c.in-Err.ensures.yes
@@ -49,43 +53,151 @@ returns-in-Err-clause-yes g c = c.in-Err.ensures.yes
 pub returns-in-Err-clause-last : goal.returns-in-Err-clause-last
 returns-in-Err-clause-last g c = λ e. c.in-Err.ensures.last cc
 
+pub add_counts-requires-clause-few : goal.add_counts-requires-clause-few
+add_counts-requires-clause-few g c =
+    let back = with_items_is c.in-Ok.lanes c.run_rounds.new.lanes (omega (arith, c.run_rounds.auto.lanes, ap length c.as_mut_slice.ensures.value, c.in-Ok.lanes.ok.0)) in
+    rw (c.as_slice.ensures.value, back) (omega (arith, c.run_rounds.auto.lanes, ap length c.as_mut_slice.ensures.value, c.in-Ok.lanes.ok.0, c.in-Ok.ensures.len, c.args.context.now.workers_in.1))
+
+pub add_counts-requires-clause-nodes : goal.add_counts-requires-clause-nodes
+add_counts-requires-clause-nodes g c =
+    let back = with_items_is c.in-Ok.lanes c.run_rounds.new.lanes (omega (arith, c.run_rounds.auto.lanes, ap length c.as_mut_slice.ensures.value, c.in-Ok.lanes.ok.0)) in
+    rw (c.as_slice.ensures.value, back) (nodes-same g.O.Operator (schema_left (g.I.Source.left c.args.source.now)) c.run_rounds.new.lanes c.run_rounds.ensures.alike)
+
+pub add_counts-requires-clause-within : goal.add_counts-requires-clause-within
+add_counts-requires-clause-within g c =
+    let back = with_items_is c.in-Ok.lanes c.run_rounds.new.lanes (omega (arith, c.run_rounds.auto.lanes, ap length c.as_mut_slice.ensures.value, c.in-Ok.lanes.ok.0)) in
+    rw (c.as_slice.ensures.value, back) (lanes-within g.O.Operator g.K.Sink c.args.shared.now c.args.context.now.row_limit (schema_left (g.I.Source.left c.args.source.now)) c.run_rounds.new.lanes c.run_rounds.ensures.fit c.in_default-run_rounds.ensures.calm)
+
+pub add_counts-requires-clause-places : goal.add_counts-requires-clause-places
+add_counts-requires-clause-places g c =
+    let back = with_items_is c.in-Ok.lanes c.run_rounds.new.lanes (omega (arith, c.run_rounds.auto.lanes, ap length c.as_mut_slice.ensures.value, c.in-Ok.lanes.ok.0)) in
+    rw (c.as_slice.ensures.value, back) (nodes-more c.args.stages.now c.args.basin.now c.in-Ok.lanes.items c.run_rounds.new.lanes (rw c.as_mut_slice.ensures.value at c.run_rounds.ensures.same.nodes) c.in-Ok.ensures.nodes)
+
+pub returns-in-Err-add_counts-clause-over : goal.returns-in-Err-add_counts-clause-over
+returns-in-Err-add_counts-clause-over g c =
+    let from = schema_left (g.I.Source.left c.args.source.now) in
+    let rows = left_rows (g.I.Source.left c.args.source.now) in
+    let opened = c.in-Ok.ensures in
+    let ran = c.run_rounds.ensures in
+    let ended = c.in_default-run_rounds.ensures in
+    let back = with_items_is c.in-Ok.lanes c.run_rounds.new.lanes (omega (arith, c.run_rounds.auto.lanes, ap length c.as_mut_slice.ensures.value, c.in-Ok.lanes.ok.0)) in
+    let some : 0 < length c.in-Ok.lanes.items = omega (arith, opened.len, c.in-Ok.lanes.ok.0, c.args.context.now.workers_in.0) in
+    let more = opened-length g.O.Operator g.K.Sink c.args.stages.now c.args.basin.now c.in-Ok.lanes.items some opened.opened in
+    let tally = counted-by g.O.Operator c.args.shared.now c.args.context.now.row_limit c.args.basin.now from rows c.args.stages.now c.in-Ok.lanes.items (opened.steps from) _ (rw c.as_mut_slice.ensures.value at ended.tally) in
+    sink-over g.O.Operator c.args.shared.now c.args.context.now.row_limit from rows c.args.stages.now _ c.args.basin.now.given c.args.basin.now.node c.in-Err-add_counts.refusal opened.within more (rw (← tally) (rw (c.as_slice.ensures.value, back) at c.in-Err-add_counts.ensures.over))
+
 pub gather-requires-clause-settings : goal.gather-requires-clause-settings
 gather-requires-clause-settings g c = λ κs lives.
     let back = with_items_is c.in-Ok.lanes c.run_rounds.new.lanes (omega (arith, c.run_rounds.auto.lanes, ap length c.as_mut_slice.ensures.value, c.in-Ok.lanes.ok.0)) in
-    rw back (c.run_rounds.ensures.same.settings (g.K.Sink.setting c.args.basin.sink) (rw c.as_mut_slice.ensures.value c.in-Ok.ensures.settings))
+    rw (back, c.add_counts.ensures.sink) (c.run_rounds.ensures.same.settings (g.K.Sink.setting c.args.basin.now.sink) (rw c.as_mut_slice.ensures.value c.in-Ok.ensures.settings))
 
 pub gather-requires-clause-schemas : goal.gather-requires-clause-schemas
 gather-requires-clause-schemas g c = λ κs lives.
     let back = with_items_is c.in-Ok.lanes c.run_rounds.new.lanes (omega (arith, c.run_rounds.auto.lanes, ap length c.as_mut_slice.ensures.value, c.in-Ok.lanes.ok.0)) in
-    rw back (c.run_rounds.ensures.same.schemas (g.K.Sink.schema c.args.basin.sink) (rw c.as_mut_slice.ensures.value c.in-Ok.ensures.schemas))
+    rw (back, c.add_counts.ensures.sink) (c.run_rounds.ensures.same.schemas (g.K.Sink.schema c.args.basin.now.sink) (rw c.as_mut_slice.ensures.value c.in-Ok.ensures.schemas))
 
 pub gather-requires-clause-room : goal.gather-requires-clause-room
 gather-requires-clause-room g c = λ κs lives.
+    let op = g.O.Operator in
+    let s = c.args.shared.now in
+    let limit = c.args.context.now.row_limit in
+    let stages = c.args.stages.now in
+    let basin = c.args.basin.now in
+    let lanes = c.in-Ok.lanes.items in
+    let from = schema_left (g.I.Source.left c.args.source.now) in
+    let rows = left_rows (g.I.Source.left c.args.source.now) in
+    let opened = c.in-Ok.ensures in
+    let ended = c.in_default-run_rounds.ensures in
     let back = with_items_is c.in-Ok.lanes c.run_rounds.new.lanes (omega (arith, c.run_rounds.auto.lanes, ap length c.as_mut_slice.ensures.value, c.in-Ok.lanes.ok.0)) in
-    rw (back, c.requires.empty) (omega (arith, c.in_default-run_rounds.ensures.room, c.args.context.now.limit_in.1))
+    let some : 0 < length lanes = omega (arith, opened.len, c.in-Ok.lanes.ok.0, c.args.context.now.workers_in.0) in
+    let more = opened-length op g.K.Sink stages basin lanes some opened.opened in
+    let tally = counted-by op s limit basin from rows stages lanes (opened.steps from) _ (rw c.as_mut_slice.ensures.value at ended.tally) in
+    let held = sunk-by op s limit basin from rows stages lanes (opened.steps from) _ _ opened.empty (rw c.as_mut_slice.ensures.value at ended.held) in
+    let given = rw (c.as_slice.ensures.value, back) at c.in_default-add_counts.ensures.given in
+    let last : sink_count (length stages) (counts_in c.run_rounds.new.lanes) ≡ length (made_by op s from stages rows) = ap (sink_count (length stages)) tally ∙ last-by op s limit from rows stages (counts_in lanes) opened.within more in
+    let size = same-length held in
+    rw (back, c.add_counts.ensures.sink) (omega (arith, size, given, last, c.requires.room, c.in_default-add_counts.ensures.within, c.args.context.now.limit_in.1))
 
-pub returns-in-Ok-gather-clause-setting : goal.returns-in-Ok-gather-clause-setting
-returns-in-Ok-gather-clause-setting g c = c.gather.ensures.setting
+pub returns-in-Ok-gather-clause-stages : goal.returns-in-Ok-gather-clause-stages
+returns-in-Ok-gather-clause-stages g c =
+    let op = g.O.Operator in
+    let s = c.args.shared.now in
+    let limit = c.args.context.now.row_limit in
+    let stages = c.args.stages.now in
+    let basin = c.args.basin.now in
+    let lanes = c.in-Ok.lanes.items in
+    let from = schema_left (g.I.Source.left c.args.source.now) in
+    let rows = left_rows (g.I.Source.left c.args.source.now) in
+    let opened = c.in-Ok.ensures in
+    let ended = c.in_default-run_rounds.ensures in
+    let back = with_items_is c.in-Ok.lanes c.run_rounds.new.lanes (omega (arith, c.run_rounds.auto.lanes, ap length c.as_mut_slice.ensures.value, c.in-Ok.lanes.ok.0)) in
+    let some : 0 < length lanes = omega (arith, opened.len, c.in-Ok.lanes.ok.0, c.args.context.now.workers_in.0) in
+    let more = opened-length op g.K.Sink stages basin lanes some opened.opened in
+    let tally = counted-by op s limit basin from rows stages lanes (opened.steps from) _ (rw c.as_mut_slice.ensures.value at ended.tally) in
+    (rw (c.as_slice.ensures.value, back) at c.in_default-add_counts.ensures.stages)
+    ∙ ap (given_more stages) tally
+    ∙ filled-by op s limit from rows stages (counts_in lanes) opened.within more
 
-pub returns-in-Ok-gather-clause-schema : goal.returns-in-Ok-gather-clause-schema
-returns-in-Ok-gather-clause-schema g c = c.gather.ensures.schema
-
-pub returns-in-Ok-gather-clause-gives : goal.returns-in-Ok-gather-clause-gives
-returns-in-Ok-gather-clause-gives g c = c.gather.ensures.gives
+pub returns-in-Ok-gather-clause-given : goal.returns-in-Ok-gather-clause-given
+returns-in-Ok-gather-clause-given g c =
+    let op = g.O.Operator in
+    let s = c.args.shared.now in
+    let limit = c.args.context.now.row_limit in
+    let stages = c.args.stages.now in
+    let basin = c.args.basin.now in
+    let lanes = c.in-Ok.lanes.items in
+    let from = schema_left (g.I.Source.left c.args.source.now) in
+    let rows = left_rows (g.I.Source.left c.args.source.now) in
+    let opened = c.in-Ok.ensures in
+    let ended = c.in_default-run_rounds.ensures in
+    let back = with_items_is c.in-Ok.lanes c.run_rounds.new.lanes (omega (arith, c.run_rounds.auto.lanes, ap length c.as_mut_slice.ensures.value, c.in-Ok.lanes.ok.0)) in
+    let some : 0 < length lanes = omega (arith, opened.len, c.in-Ok.lanes.ok.0, c.args.context.now.workers_in.0) in
+    let more = opened-length op g.K.Sink stages basin lanes some opened.opened in
+    let tally = counted-by op s limit basin from rows stages lanes (opened.steps from) _ (rw c.as_mut_slice.ensures.value at ended.tally) in
+    let given = rw (c.as_slice.ensures.value, back) at c.in_default-add_counts.ensures.given in
+    let last : sink_count (length stages) (counts_in c.run_rounds.new.lanes) ≡ length (made_by op s from stages rows) = ap (sink_count (length stages)) tally ∙ last-by op s limit from rows stages (counts_in lanes) opened.within more in
+    given ∙ ap (λ n. basin.given + n) last
 
 pub returns-in-Ok-gather-clause-held : goal.returns-in-Ok-gather-clause-held
 returns-in-Ok-gather-clause-held g c =
+    let op = g.O.Operator in
+    let s = c.args.shared.now in
+    let limit = c.args.context.now.row_limit in
+    let stages = c.args.stages.now in
+    let basin = c.args.basin.now in
+    let lanes = c.in-Ok.lanes.items in
     let from = schema_left (g.I.Source.left c.args.source.now) in
+    let rows = left_rows (g.I.Source.left c.args.source.now) in
     let opened = c.in-Ok.ensures in
+    let ended = c.in_default-run_rounds.ensures in
     let back = with_items_is c.in-Ok.lanes c.run_rounds.new.lanes (omega (arith, c.run_rounds.auto.lanes, ap length c.as_mut_slice.ensures.value, c.in-Ok.lanes.ok.0)) in
-    held-by g.O.Operator c.args.shared.now c.args.context.now.row_limit c.args.basin from (left_rows (g.I.Source.left c.args.source.now)) c.args.stages.now c.in-Ok.lanes.items (opened.steps from) (g.K.Sink.held c.gather.new.sink) _ _ _ c.requires.empty opened.empty (rw back at c.in-Ok-gather.ensures.held) (rw c.as_mut_slice.ensures.value at c.in_default-run_rounds.ensures.held)
+    let some : 0 < length lanes = omega (arith, opened.len, c.in-Ok.lanes.ok.0, c.args.context.now.workers_in.0) in
+    let more = opened-length op g.K.Sink stages basin lanes some opened.opened in
+    let tally = counted-by op s limit basin from rows stages lanes (opened.steps from) _ (rw c.as_mut_slice.ensures.value at ended.tally) in
+    let held = sunk-by op s limit basin from rows stages lanes (opened.steps from) _ _ opened.empty (rw c.as_mut_slice.ensures.value at ended.held) in
+    let sunk = rw (back, c.add_counts.ensures.sink) at c.in-Ok-gather.ensures.held in
+    held-by op s limit basin from rows stages lanes (opened.steps from) _ _ _ _ sunk held
 
 pub returns-in-Ok-gather-clause-within : goal.returns-in-Ok-gather-clause-within
 returns-in-Ok-gather-clause-within g c =
+    let op = g.O.Operator in
+    let s = c.args.shared.now in
+    let limit = c.args.context.now.row_limit in
+    let stages = c.args.stages.now in
+    let basin = c.args.basin.now in
+    let lanes = c.in-Ok.lanes.items in
     let from = schema_left (g.I.Source.left c.args.source.now) in
+    let rows = left_rows (g.I.Source.left c.args.source.now) in
     let opened = c.in-Ok.ensures in
-    let some : 0 < length c.in-Ok.lanes.items = omega (arith, opened.len, c.in-Ok.lanes.ok.0, c.args.context.now.workers_in.0) in
-    few-by g.O.Operator c.args.shared.now c.args.context.now.row_limit c.args.basin from (left_rows (g.I.Source.left c.args.source.now)) c.args.stages.now c.in-Ok.lanes.items (opened.steps from) _ (opened-length g.O.Operator g.K.Sink c.args.stages.now c.args.basin c.in-Ok.lanes.items some opened.opened) (rw c.as_mut_slice.ensures.value at c.in_default-run_rounds.ensures.tally) c.in_default-run_rounds.ensures.within
+    let ended = c.in_default-run_rounds.ensures in
+    let back = with_items_is c.in-Ok.lanes c.run_rounds.new.lanes (omega (arith, c.run_rounds.auto.lanes, ap length c.as_mut_slice.ensures.value, c.in-Ok.lanes.ok.0)) in
+    let some : 0 < length lanes = omega (arith, opened.len, c.in-Ok.lanes.ok.0, c.args.context.now.workers_in.0) in
+    let more = opened-length op g.K.Sink stages basin lanes some opened.opened in
+    let tally = counted-by op s limit basin from rows stages lanes (opened.steps from) _ (rw c.as_mut_slice.ensures.value at ended.tally) in
+    let given = rw (c.as_slice.ensures.value, back) at c.in_default-add_counts.ensures.given in
+    let few = subst (AreFewWith limit stages) tally (rw (c.as_slice.ensures.value, back) at c.in_default-add_counts.ensures.few) in
+    let same = ap (sink_count (length stages)) tally in
+    few-with op s limit from rows stages (counts_in lanes) basin.given opened.within more few (omega (arith, given, same, c.in_default-add_counts.ensures.within))
 
 pub returns-in-Ok-gather-clause-asked : goal.returns-in-Ok-gather-clause-asked
 returns-in-Ok-gather-clause-asked g c =
@@ -94,17 +206,8 @@ returns-in-Ok-gather-clause-asked g c =
 pub returns-in-Ok-gather-clause-yes : goal.returns-in-Ok-gather-clause-yes
 returns-in-Ok-gather-clause-yes g c = counts-after 0 _ _ _ c.in_default-run_rounds.ensures.yes c.in-Ok-gather.ensures.yes
 
-pub returns-in-Ok-gather-clause-last : goal.returns-in-Ok-gather-clause-last
-returns-in-Ok-gather-clause-last g c = λ e. cc
-
 pub returns-in-Err-Stopped-clause-yes : goal.returns-in-Err-Stopped-clause-yes
 returns-in-Err-Stopped-clause-yes g c = counts-after 1 _ _ _ c.in_default-run_rounds.ensures.yes (rw c.in-Err-Stopped.field-0-is at c.in-Err-Stopped.ensures.yes)
 
-pub returns-in-Err-Stopped-clause-last : goal.returns-in-Err-Stopped-clause-last
-returns-in-Err-Stopped-clause-last g c = λ e. c.in-Err-Stopped.ensures.last (ap Err c.in-Err-Stopped.field-0-is)
-
-pub returns-clause-yes : goal.returns-clause-yes
-returns-clause-yes g c = counts-after 0 _ _ _ c.in_default-run_rounds.ensures.yes (rw c.in-Err-Refused.field-0-is at c.in-Err-Refused.ensures.yes)
-
-pub returns-clause-last : goal.returns-clause-last
-returns-clause-last g c = λ e. cc
+pub returns-in-Err-Refused-clause-yes : goal.returns-in-Err-Refused-clause-yes
+returns-in-Err-Refused-clause-yes g c = counts-after 0 _ _ _ c.in_default-run_rounds.ensures.yes (rw c.in-Err-Refused.field-0-is at c.in-Err-Refused.ensures.yes)

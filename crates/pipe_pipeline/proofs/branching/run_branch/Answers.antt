@@ -1,0 +1,29 @@
+use Rattle.std.proofs.Common.{◌≡◌, ◌+◌, ◌++◌, arith, ap, refl, sym, ◌∙◌, subst, append-nil}
+use Rattle.std.proofs.lemmas.List.{with_items_is}
+use Rattle.pipe_lanes.proofs.Asked.{counts-none}
+use Rattle.pipe_pipeline.proofs.branching.run_branch.Goals as goal
+
+pub run_pipeline-requires-clause-schema : goal.run_pipeline-requires-clause-schema
+run_pipeline-requires-clause-schema g c = λ κs lives. rw c.from_df-source.ensures (refl, tt)
+
+pub run_pipeline-requires-clause-index : goal.run_pipeline-requires-clause-index
+run_pipeline-requires-clause-index g c = λ κs lives.
+    rw (c.from_df-source.ensures, append-nil c.args.branch.frame.rows) (omega (arith, c.requires.runs.few, c.context_for-numbers.ensures.workers, c.args.context.now.workers_in.1, c.if-next_index-gt-LAST_INDEX.false))
+
+pub run_pipeline-requires-clause-chain : goal.run_pipeline-requires-clause-chain
+run_pipeline-requires-clause-chain g c = λ κs lives.
+    rw (c.from_df-source.ensures, c.as_mut_slice.ensures.value, c.in-Ok.ensures) c.requires.runs.chain
+
+pub run_pipeline-requires-clause-serves : goal.run_pipeline-requires-clause-serves
+run_pipeline-requires-clause-serves g c = λ κs lives. rw (c.as_mut_slice.ensures.value, c.in-Ok.ensures) c.requires.runs.serves
+
+pub run_pipeline-requires-clause-room : goal.run_pipeline-requires-clause-room
+run_pipeline-requires-clause-room g c = λ κs lives. c.requires.room
+
+pub returns-in-Ok-split_off-clause-given : goal.returns-in-Ok-split_off-clause-given
+returns-in-Ok-split_off-clause-given g c =
+    rw (c.from_df-source.ensures, append-nil c.args.branch.frame.rows, c.as_mut_slice.ensures.value, c.in-Ok.ensures) at c.in_default-run_pipeline.ensures.given
+
+pub returns-in-Ok-split_off-clause-held : goal.returns-in-Ok-split_off-clause-held
+returns-in-Ok-split_off-clause-held g c =
+    rw (c.from_df-source.ensures, append-nil c.args.branch.frame.rows, c.as_mut_slice.ensures.value, c.in-Ok.ensures) at c.in_default-run_pipeline.ensures.held
