@@ -7,6 +7,7 @@ ghost use Rattle.pipe_stages.specs.Staged.{staged};
 ghost use Rattle.pipe_replay.specs.Replayed.{AreBelow};
 
 use crate::input::events_of;
+use crate::items::items_of;
 use crate::table::text_of_rows;
 use pipe_allowed::is_complete;
 use pipe_job::{Job, job_of, read_value};
@@ -14,8 +15,8 @@ use pipe_plain::{plan_fault, schema};
 use pipe_replay::{Played, play, root_bag};
 use pipe_rows::Fnv;
 use pipe_stages::{PlanTables, StagedPlan};
+use pipe_value::{Item, Value};
 use pipe_world::World;
-use serde_json::Value;
 use std::alloc::{AllocError, Global};
 
 /// A word on a line.
@@ -50,7 +51,7 @@ fn answer_of_stages(
     alloc: Global,
     job: &Job,
     plan: &StagedPlan,
-    values: &[Value],
+    values: &[Item],
 ) -> Result<Vec<u8>, AllocError>
     requires parts { 0 < plan.now.parts }
     requires below { AreBelow (staged plan.now) }
@@ -66,7 +67,7 @@ fn answer_of_stages(
 
 /// The answer to a list of events over a plan of few nodes without a fault.
 #[tactic(auto, using(pipe_replay::proofs::Parts::parts_rules, pipe_replay::proofs::Sides::below_rules))]
-fn answer_of_plan(alloc: Global, job: &Job, values: &[Value]) -> Result<Vec<u8>, AllocError>
+fn answer_of_plan(alloc: Global, job: &Job, values: &[Item]) -> Result<Vec<u8>, AllocError>
     requires few { length job.now.arena.nodes ≤ most_nodes }
     requires faultless { fault_of (plan_of job.now.arena) job.now.root ≡ None }
 {
@@ -80,7 +81,7 @@ fn answer_of_plan(alloc: Global, job: &Job, values: &[Value]) -> Result<Vec<u8>,
 }
 
 /// The answer to a list of events over a job.
-fn answer_of_job(alloc: Global, job: &Job, values: &[Value]) -> Result<Vec<u8>, AllocError> {
+fn answer_of_job(alloc: Global, job: &Job, values: &[Item]) -> Result<Vec<u8>, AllocError> {
     if job.arena.nodes.len() > 4096 {
         return line(alloc, "too many nodes");
     }
@@ -92,7 +93,7 @@ fn answer_of_job(alloc: Global, job: &Job, values: &[Value]) -> Result<Vec<u8>, 
 
 /// The answer to the job and the events of an object.
 fn answer_of_parts(alloc: Global, job: &Value, events: &Value) -> Result<Vec<u8>, AllocError> {
-    let Value::Array(values) = events else {
+    let Some(values) = items_of(alloc, events)? else {
         return line(alloc, "bad input");
     };
     match job_of(alloc, job)? {

@@ -1,15 +1,16 @@
 //! Events, read from values.
 
+use crate::items::items_of;
 use crate::keys::key_of;
 use pipe_frame::{List, Row};
 use pipe_stages::{Stage, StagedPlan};
+use pipe_value::Item;
 use pipe_world::{Event, Side};
-use serde_json::Value;
 use std::alloc::{AllocError, Global};
 
 /// The number at a place of an array.
-fn number_at(items: &[Value], place: usize) -> Option<u32> {
-    match u32::try_from(items.get(place)?.as_u64()?) {
+fn number_at(items: &[Item], place: usize) -> Option<u32> {
+    match u32::try_from(items.get(place)?.value().as_u64()?) {
         Ok(n) => Some(n),
         Err(_) => None,
     }
@@ -26,7 +27,7 @@ fn side_of(word: &str) -> Option<Side> {
 }
 
 /// A take.
-fn take_of(items: &[Value]) -> Option<Event> {
+fn take_of(items: &[Item]) -> Option<Event> {
     Some(Event::Take {
         worker: number_at(items, 1)?,
         source: number_at(items, 2)?,
@@ -36,15 +37,15 @@ fn take_of(items: &[Value]) -> Option<Event> {
 }
 
 /// A closing.
-fn close_of(items: &[Value]) -> Option<Event> {
+fn close_of(items: &[Item]) -> Option<Event> {
     Some(Event::Close {
         node: number_at(items, 1)?,
-        side: side_of(items.get(2)?.as_str()?)?,
+        side: side_of(items.get(2)?.value().as_str()?)?,
     })
 }
 
 /// A flush.
-fn flush_of(items: &[Value]) -> Option<Event> {
+fn flush_of(items: &[Item]) -> Option<Event> {
     Some(Event::Flush {
         worker: number_at(items, 1)?,
         join: number_at(items, 2)?,
@@ -53,12 +54,7 @@ fn flush_of(items: &[Value]) -> Option<Event> {
 }
 
 /// The key at a join that some values spell, none where there is no join.
-fn key_at(
-    alloc: Global,
-    plan: &StagedPlan,
-    join: u32,
-    values: &[Value],
-) -> Result<Row, AllocError> {
+fn key_at(alloc: Global, plan: &StagedPlan, join: u32, values: &[Item]) -> Result<Row, AllocError> {
     match plan.stage(join as usize) {
         Stage::Joined(join) => key_of(alloc, &join, values),
         _ => Ok(Row::new(alloc)),
@@ -66,27 +62,29 @@ fn key_at(
 }
 
 /// A mark.
-fn mark_of(alloc: Global, plan: &StagedPlan, items: &[Value]) -> Result<Option<Event>, AllocError> {
+fn mark_of(alloc: Global, plan: &StagedPlan, items: &[Item]) -> Result<Option<Event>, AllocError> {
     let (Some(worker), Some(join)) = (number_at(items, 1), number_at(items, 2)) else {
         return Ok(None);
     };
-    match items.get(3) {
-        Some(Value::Array(values)) => {
+    let Some(spelled) = items.get(3) else {
+        return Ok(None);
+    };
+    match items_of(alloc, spelled.value())? {
+        Some(values) => {
             let key = key_at(alloc, plan, join, values.as_slice())?;
             Ok(Some(Event::Mark { worker, join, key }))
         }
-        _ => Ok(None),
+        None => Ok(None),
     }
 }
 
 /// The event that the items of an array spell.
-fn event_of(
-    alloc: Global,
-    plan: &StagedPlan,
-    items: &[Value],
-) -> Result<Option<Event>, AllocError> {
-    match items.first() {
-        Some(Value::String(word)) => match word.as_str() {
+fn event_of(alloc: Global, plan: &StagedPlan, items: &[Item]) -> Result<Option<Event>, AllocError> {
+    let Some(first) = items.first() else {
+        return Ok(None);
+    };
+    match first.value().as_str() {
+        Some(word) => match word {
             "Take" => Ok(take_of(items)),
             "Mark" => mark_of(alloc, plan, items),
             "Emit" => Ok(number_at(items, 1).map(|worker| Event::Emit { worker })),
@@ -95,7 +93,7 @@ fn event_of(
             "Flush" => Ok(flush_of(items)),
             _ => Ok(None),
         },
-        _ => Ok(None),
+        None => Ok(None),
     }
 }
 
@@ -103,11 +101,11 @@ fn event_of(
 pub(crate) fn events_of(
     alloc: Global,
     plan: &StagedPlan,
-    values: &[Value],
+    values: &[Item],
 ) -> Result<List<Event>, AllocError> {
     let mut events = List::new(alloc);
     for value in values {
-        let Value::Array(items) = value else {
+        let Some(items) = items_of(alloc, value.value())? else {
             return Ok(events);
         };
         match event_of(alloc, plan, items.as_slice())? {

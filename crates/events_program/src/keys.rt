@@ -3,7 +3,7 @@
 use pipe_expr::expr_type;
 use pipe_frame::{AnyValue, Bytes, DataType, Row, Text};
 use pipe_stages::JoinStage;
-use serde_json::Value;
+use pipe_value::{Item, Value};
 use std::alloc::{AllocError, Global};
 
 /// The text of a value as bytes in hexadecimal.
@@ -70,13 +70,13 @@ fn key_type(join: &JoinStage, place: usize) -> Option<DataType> {
 }
 
 /// The key of a join that some values spell, as far as they spell one.
-pub(crate) fn key_of(alloc: Global, join: &JoinStage, values: &[Value]) -> Result<Row, AllocError> {
+pub(crate) fn key_of(alloc: Global, join: &JoinStage, values: &[Item]) -> Result<Row, AllocError> {
     let mut key = Row::new(alloc);
     for (place, value) in values.iter().enumerate() {
         let Some(dtype) = key_type(join, place) else {
             return Ok(Row::new(alloc));
         };
-        match cell_of(alloc, dtype, value)? {
+        match cell_of(alloc, dtype, value.value())? {
             Some(cell) => key.push(cell)?,
             None => return Ok(Row::new(alloc)),
         }

@@ -8,6 +8,7 @@
 
 mod answer;
 mod input;
+mod items;
 mod keys;
 mod table;
 

@@ -3,7 +3,7 @@
 
 ghost use Rattle.std.specs.Prelude.{◌≡◌, ◌++◌, Bool, true, false, IfOk, IfErr, IsErrOf, OnOk};
 ghost use Rattle.std.specs.List.{flat_map};
-ghost use Rattle.serde_json.specs.View.{view};
+ghost use Rattle.pipe_value.specs.View.{view};
 ghost use Rattle.pipe_eval.specs.Evaluated.{HasRowsOf};
 ghost use Rattle.pipe_frame.specs.Counts.{Counts, Rises};
 ghost use Rattle.pipe_job.specs.Line.{head_line, row_line};
@@ -23,7 +23,7 @@ use pipe_faults::fault_line;
 use pipe_frame::{DataFrame, Gate, StopCheck};
 use pipe_job::{Job, JobError, job_of, push_head_line, push_rows, read_value};
 use pipe_plan::PipeError;
-use serde_json::Value;
+use pipe_value::Value;
 use std::alloc::{AllocError, Global};
 use std::thread::Threads;
 

@@ -2,6 +2,7 @@ pub mod Texts
 pub mod Rows
 pub mod Cut
 pub mod SoFar
+pub mod TextItems
 pub mod Depths
 pub mod Shapes
 pub mod TypedColumns

@@ -2,7 +2,7 @@
 
 ghost use Rattle.std.specs.Prelude.{◌≡◌, ⊤};
 ghost use Rattle.serde_json.specs.Data.{string};
-ghost use Rattle.serde_json.specs.View.{view};
+ghost use Rattle.pipe_value.specs.View.{view};
 ghost use Rattle.hex.specs.Hex.{IsBytes};
 ghost use Rattle.pipe_job.specs.Reads.{ReadWhere};
 ghost use Rattle.pipe_job.specs.Shape.{is_lower_digit, are_lower_digits, is_hex, is_type, is_cell};
@@ -11,7 +11,7 @@ ghost use Rattle.pipe_job.specs.Spelling.{hex_spelling, type_spelling, cell_spel
 use crate::misread::Misread;
 use crate::spelled::Spelled;
 use pipe_frame::{AnyValue, Bytes, DataType, Text};
-use serde_json::Value;
+use pipe_value::Value;
 use std::alloc::Global;
 
 impl Spelled for Bytes {

@@ -1,10 +1,11 @@
 //! Columns in JSON: one pass over an array makes a typed column.
 
-ghost use Rattle.std.specs.Prelude.{◌≡◌, [], ◌∷◌, ◌++◌, OnOk};
+ghost use Rattle.std.specs.Prelude.{◌≡◌, ◌<◌, [], ◌∷◌, ◌++◌, OnOk, length, slice_index_or};
 ghost use Rattle.std.specs.List.{AllByRecursion};
 ghost use Rattle.std.specs.Option.{option_copied};
-ghost use Rattle.serde_json.specs.Data.{string};
-ghost use Rattle.serde_json.specs.View.{view};
+ghost use Rattle.serde_json.specs.Data.{null, string};
+ghost use Rattle.pipe_value.specs.Items.{elements};
+ghost use Rattle.pipe_value.specs.View.{view};
 ghost use Rattle.hex.specs.Hex.{IsBytes, encode_lower};
 ghost use Rattle.pipe_frame.specs.declared.data_type.DataType.TheVariants as dtype;
 ghost use Rattle.pipe_job.specs.Reads.{ReadWhere};
@@ -12,23 +13,27 @@ ghost use Rattle.pipe_job.specs.Shape.{is_list, is_maybe, is_text, is_hex, is_co
 ghost use Rattle.pipe_job.specs.Spelling.{list, maybe, MaybeFits, hex_spelling};
 ghost use Rattle.pipe_job.specs.FrameSpelling.{column_spelling, ColumnFits, ReadsColumn};
 
+use crate::lists::{count_of, item_at};
 use crate::members::Members;
 use crate::misread::Misread;
 use crate::spelled::Spelled;
 use crate::spelled_cell::SpelledCell;
 use pipe_frame::{BinaryColumn, Bytes, Column, DataType, Series, StringColumn, Text};
-use serde_json::Value;
+use pipe_value::Value;
 use std::alloc::{AllocError, Global};
 
-/// The nullable value that a value spells.
-fn nullable_of<T: Spelled>(alloc: Global, value: &Value) -> Result<Option<T>, Misread>
-    ensures { ReadWhere (is_maybe T.shape (view value.now))
-        (λ x. (view value.now ≡ maybe T.spelling x) × MaybeFits T.fits x) result }
+/// The nullable value that the item of an array at a place spells.
+fn nullable_at<T: Spelled>(alloc: Global, value: &Value, i: usize) -> Result<Option<T>, Misread>
+    requires { i < length (elements (view value.now)) }
+    ensures { ReadWhere (is_maybe T.shape (slice_index_or (elements (view value.now)) i null))
+        (λ x. (slice_index_or (elements (view value.now)) i null ≡ maybe T.spelling x)
+        × MaybeFits T.fits x) result }
 {
-    <Option<T>>::read(alloc, value)
+    item_at::<Option<T>>(alloc, value, i)
 }
 
 /// The column that a value spells, whose cells are plain values. The filler stands at the place of a null.
+#[tactic(auto, using(crate::proofs::SoFar::list_rules))]
 fn values_of<T: Spelled + Copy>(
     alloc: Global,
     value: &Value,
@@ -38,40 +43,39 @@ fn values_of<T: Spelled + Copy>(
         (λ column. (view value.now ≡ list (maybe T.spelling) column)
         × AllByRecursion (MaybeFits T.fits) column) result }
 {
-    let Value::Array(values) = value else {
-        return Err(Misread::Other);
-    };
-    let mut column = Column::new(alloc);
-    for value in values {
-        let x = nullable_of::<T>(alloc, value)?;
+    let count = count_of(value)?;
+    let mut column = Column::with_capacity(alloc, count)?;
+    for i in 0..count {
+        let x = nullable_at::<T>(alloc, value, i)?;
         column.push_option(x, filler)?;
     }
     Ok(column)
 }
 
-/// The text that a value spells, or none of null.
-fn text_of(value: &Value) -> Result<Option<&str>, Misread>
-    ensures { ReadWhere (is_maybe is_text (view value.now))
-        (λ text. view value.now ≡ maybe string (option_copied text)) result }
+/// The nullable text that the item of an array at a place spells.
+#[tactic(auto, using(crate::proofs::TextItems::text_item_rules))]
+fn text_at(value: &Value, i: usize) -> Result<Option<&str>, Misread>
+    requires { i < length (elements (view value.now)) }
+    ensures { ReadWhere (is_maybe is_text (slice_index_or (elements (view value.now)) i null))
+        (λ text. slice_index_or (elements (view value.now)) i null
+        ≡ maybe string (option_copied text)) result }
 {
-    match value {
-        Value::Null => Ok(None),
-        Value::String(text) => Ok(Some(text.as_str())),
-        _ => Err(Misread::Other),
+    match value.item_as_nullable_str(i) {
+        Some(text) => Ok(text),
+        None => Err(Misread::Other),
     }
 }
 
 /// The column of texts that a value spells.
+#[tactic(auto, using(crate::proofs::SoFar::list_rules, crate::proofs::TextItems::one_more_text))]
 fn texts_of(alloc: Global, value: &Value) -> Result<StringColumn, Misread>
     ensures { ReadWhere (is_list (is_maybe is_text) (view value.now))
         (λ column. view value.now ≡ list (maybe string) column) result }
 {
-    let Value::Array(values) = value else {
-        return Err(Misread::Other);
-    };
-    let mut column = StringColumn::new(alloc);
-    for value in values {
-        let text = text_of(value)?;
+    let count = count_of(value)?;
+    let mut column = StringColumn::with_capacity(alloc, count)?;
+    for i in 0..count {
+        let text = text_at(value, i)?;
         column.push(text)?;
     }
     Ok(column)
@@ -88,17 +92,16 @@ fn push_bytes(column: &mut BinaryColumn, bytes: &Option<Bytes>) -> Result<(), Al
 }
 
 /// The column of byte strings that a value spells.
+#[tactic(auto, using(crate::proofs::SoFar::list_rules))]
 fn bytes_of(alloc: Global, value: &Value) -> Result<BinaryColumn, Misread>
     ensures { ReadWhere (is_list (is_maybe is_hex) (view value.now))
         (λ column. (view value.now ≡ list (maybe hex_spelling) column)
         × AllByRecursion (MaybeFits IsBytes) column) result }
 {
-    let Value::Array(values) = value else {
-        return Err(Misread::Other);
-    };
+    let count = count_of(value)?;
     let mut column = BinaryColumn::new(alloc);
-    for value in values {
-        let bytes = nullable_of::<Bytes>(alloc, value)?;
+    for i in 0..count {
+        let bytes = nullable_at::<Bytes>(alloc, value, i)?;
         push_bytes(&mut column, &bytes)?;
     }
     Ok(column)

@@ -1,7 +1,7 @@
 //! Expressions in JSON.
 
 ghost use Rattle.std.specs.Prelude.{◌≡◌, codes, IfOk};
-ghost use Rattle.serde_json.specs.View.{view};
+ghost use Rattle.pipe_value.specs.View.{view};
 ghost use Rattle.pipe_job.specs.Reads.{ReadWhere};
 ghost use Rattle.pipe_job.specs.Shape.{is_literal, is_expr, is_text};
 ghost use Rattle.pipe_job.specs.Spelling.{single};
@@ -14,7 +14,7 @@ use crate::ops::{Binary, Unary};
 use crate::spelled::Spelled;
 use pipe_expr::Expr;
 use pipe_frame::{DataType, Text};
-use serde_json::Value;
+use pipe_value::Value;
 use std::alloc::{AllocError, Global};
 
 /// The literal that a value spells.
@@ -61,9 +61,9 @@ fn expr_of(alloc: Global, value: &Value) -> Result<Expr, Misread>
         return Ok(op.on(boxed(alloc, one)?));
     }
     if let Some(op) = Binary::named(name) {
-        let (left, right) = two_items(inner)?;
-        let left = expr_of(alloc, left)?;
-        let right = expr_of(alloc, right)?;
+        let (left, right) = two_items(alloc, inner)?;
+        let left = expr_of(alloc, left.value())?;
+        let right = expr_of(alloc, right.value())?;
         return Ok(op.on(boxed(alloc, left)?, boxed(alloc, right)?));
     }
     Err(Misread::Other)

@@ -2,7 +2,7 @@
 
 ghost use Rattle.std.specs.Prelude.{◌≡◌};
 ghost use Rattle.std.specs.List.{AllByRecursion};
-ghost use Rattle.serde_json.specs.View.{view};
+ghost use Rattle.pipe_value.specs.View.{view};
 ghost use Rattle.pipe_job.specs.Reads.{ReadWhere};
 ghost use Rattle.pipe_job.specs.Shape.{is_frame, is_table};
 ghost use Rattle.pipe_job.specs.Spelling.{list};
@@ -12,7 +12,7 @@ use crate::members::Members;
 use crate::misread::Misread;
 use crate::spelled::Spelled;
 use pipe_frame::{DataFrame, FrameError, List, Series};
-use serde_json::Value;
+use pipe_value::Value;
 use std::alloc::Global;
 
 /// The frame of some columns, which scans share.

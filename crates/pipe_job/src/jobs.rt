@@ -1,7 +1,7 @@
 //! Jobs in JSON.
 
 ghost use Rattle.std.specs.Prelude.{◌≡◌, IfOk, IfSome, IfNone, IsErrOf};
-ghost use Rattle.serde_json.specs.View.{view, members_view};
+ghost use Rattle.pipe_value.specs.View.{view, members_view};
 ghost use Rattle.pipe_job.specs.Kinds.{is_job, is_job_back};
 ghost use Rattle.pipe_job.specs.JobSpelling.{IsJobBack, PartsFit, Spells, Task, task_of, task_spelling};
 ghost use Rattle.pipe_job.specs.Reads.{ReadWhere};
@@ -13,7 +13,7 @@ use crate::spelled::Spelled;
 use crate::version::{arena_has_int128, version_of};
 use pipe_frame::{DataFrame, List};
 use pipe_plan::{Arena, IR, PipeConfig};
-use serde_json::Value;
+use pipe_value::{ReadError, Value};
 use std::alloc::{AllocError, Global};
 use thiserror::Error;
 
@@ -138,11 +138,8 @@ pub fn read_value(alloc: Global, bytes: &[u8]) -> Result<Value, JobError>
 {
     match Value::from_slice(alloc, bytes) {
         Ok(value) => Ok(value),
-        Err(error) => if error.is_memory() {
-            Err(JobError::Memory)
-        } else {
-            Err(JobError::BadText)
-        },
+        Err(ReadError::BadText) => Err(JobError::BadText),
+        Err(ReadError::Memory) => Err(JobError::Memory),
     }
 }
 

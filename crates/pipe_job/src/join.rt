@@ -1,7 +1,7 @@
 //! Joins in JSON.
 
 ghost use Rattle.std.specs.Prelude.{◌≡◌, ⊤};
-ghost use Rattle.serde_json.specs.View.{view, members_view};
+ghost use Rattle.pipe_value.specs.View.{view, members_view};
 ghost use Rattle.pipe_job.specs.Reads.{ReadWhere};
 ghost use Rattle.pipe_job.specs.Shape.{is_how, is_coalesce, is_hint, is_join, is_join_back};
 ghost use Rattle.pipe_job.specs.NodeSpelling.{how_spelling, coalesce_spelling, hint_spelling, HintFits, IsBack, IsNode};
@@ -12,7 +12,7 @@ use crate::spelled::Spelled;
 use pipe_expr::{Expr, JoinCoalesce, JoinType};
 use pipe_frame::{List, Text};
 use pipe_plan::{IR, JoinOptions, RowsHint};
-use serde_json::Value;
+use pipe_value::Value;
 use std::alloc::Global;
 
 impl Spelled for JoinType {
@@ -60,9 +60,9 @@ impl Spelled for RowsHint {
     ghost shape = { is_hint };
 
     fn read(alloc: Global, value: &Value) -> Result<RowsHint, Misread> {
-        let (known, estimate) = two_items(value)?;
-        let known = <Option<u64>>::read(alloc, known)?;
-        let estimate = u64::read(alloc, estimate)?;
+        let (known, estimate) = two_items(alloc, value)?;
+        let known = <Option<u64>>::read(alloc, known.value())?;
+        let estimate = u64::read(alloc, estimate.value())?;
         Ok(RowsHint { known, estimate })
     }
 }

@@ -3,13 +3,13 @@
 ghost use Rattle.std.specs.Prelude.{◌≡◌, codes, MatchOption, false, Some};
 ghost use Rattle.serde_json.specs.Data.{string};
 ghost use Rattle.serde_json.specs.Find.{get};
-ghost use Rattle.serde_json.specs.View.{view};
+ghost use Rattle.pipe_value.specs.View.{view};
 ghost use Rattle.pipe_job.specs.Reads.{ReadWhere};
 ghost use Rattle.pipe_job.specs.Shape.{contains_text, node_words, is_node_word};
 ghost use Rattle.pipe_job.specs.Kinds.{kind_name};
 
 use crate::misread::Misread;
-use serde_json::Value;
+use pipe_value::Value;
 
 /// The kind of a node, as its spelling tells it.
 #[derive(Clone, Copy)]

@@ -2,13 +2,15 @@
 
 ghost use Rattle.std.specs.Prelude.{◌≡◌, false, MatchResult, IfOk};
 ghost use Rattle.serde_json.specs.Data.{object, member, string, no_members, array, item, no_items};
-ghost use Rattle.serde_json.specs.View.{view, members_view};
+ghost use Rattle.pipe_value.specs.Items.{item_data};
+ghost use Rattle.pipe_value.specs.View.{view, members_view};
 ghost use Rattle.pipe_job.specs.Shape.{begins, is_object, is_end, has, is_word, is_single, is_couple};
 ghost use Rattle.pipe_job.specs.Reads.{ReadWhere};
 
+use crate::lists::count_of;
 use crate::misread::Misread;
 use crate::spelled::Spelled;
-use serde_json::Value;
+use pipe_value::{Item, Value};
 use std::alloc::Global;
 use std::collections::btree_map::Iter;
 
@@ -100,13 +102,15 @@ pub(crate) fn only_member(value: &Value) -> Result<(&str, &Value), Misread>
 }
 
 /// The items of an array of two.
-#[tactic(auto, using(crate::proofs::Depths::two_of, crate::proofs::Depths::not_two))]
-pub fn two_items(value: &Value) -> Result<(&Value, &Value), Misread>
+#[tactic(auto, using(crate::proofs::Depths::couple_rules))]
+pub fn two_items<'a>(alloc: Global, value: &'a Value) -> Result<(Item<'a>, Item<'a>), Misread>
     ensures { ReadWhere (is_couple (view value.now))
-        (λ p. view value.now ≡ array (item (view p.0.now) (item (view p.1.now) no_items))) result }
+        (λ p. view value.now ≡ array (item (item_data p.0) (item (item_data p.1) no_items))) result }
 {
-    match value.as_array() {
-        Some(items) if items.len() == 2 => Ok((&items[0], &items[1])),
-        _ => Err(Misread::Other),
+    if count_of(value)? != 2 {
+        return Err(Misread::Other);
     }
+    let first = value.item(alloc, 0)?;
+    let second = value.item(alloc, 1)?;
+    Ok((first, second))
 }

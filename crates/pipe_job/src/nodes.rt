@@ -1,7 +1,7 @@
 //! Nodes in JSON.
 
 ghost use Rattle.std.specs.Prelude.{◌≡◌, codes};
-ghost use Rattle.serde_json.specs.View.{view};
+ghost use Rattle.pipe_value.specs.View.{view};
 ghost use Rattle.pipe_job.specs.Reads.{ReadWhere};
 ghost use Rattle.pipe_job.specs.Shape.{is_named, is_pair, is_slice, is_scan, is_filter, is_projection, is_exprs, is_unpivot, is_rename, is_union, is_sort};
 ghost use Rattle.pipe_job.specs.Kinds.{is_kind, is_node};
@@ -16,7 +16,7 @@ use crate::spelled::Spelled;
 use pipe_expr::{Expr, FunctionIR, NamedExpr, RenamePair};
 use pipe_frame::{List, Text};
 use pipe_plan::{IR, PlanSlice, SortOptions};
-use serde_json::Value;
+use pipe_value::Value;
 use std::alloc::Global;
 
 impl Spelled for NamedExpr {
@@ -63,9 +63,9 @@ impl Spelled for PlanSlice {
     ghost shape = { is_slice };
 
     fn read(alloc: Global, value: &Value) -> Result<PlanSlice, Misread> {
-        let (offset, len) = two_items(value)?;
-        let offset = i64::read(alloc, offset)?;
-        let len = u64::read(alloc, len)?;
+        let (offset, len) = two_items(alloc, value)?;
+        let offset = i64::read(alloc, offset.value())?;
+        let len = u64::read(alloc, len.value())?;
         Ok(PlanSlice { offset, len })
     }
 }

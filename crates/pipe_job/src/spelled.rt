@@ -4,7 +4,7 @@ ghost use Rattle.std.specs.Prelude.{◌≡◌, ◌^◌, ◌<◌, Bool, ⊤, Fits
 ghost use Rattle.std.specs.Int.{w32, w64, w128};
 ghost use Rattle.serde_json.specs.Data.{Data, number, unsigned, string, boolean};
 ghost use Rattle.serde_json.specs.Find.{of_integer};
-ghost use Rattle.serde_json.specs.View.{view};
+ghost use Rattle.pipe_value.specs.View.{view};
 ghost use Rattle.pipe_job.specs.Shape.{is_unsigned, is_signed, is_decimal, is_text, is_truth};
 ghost use Rattle.pipe_job.specs.Reads.{ReadWhere, ReadsSpelled};
 ghost use Rattle.pipe_job.specs.Spelling.{decimal_spelling};
@@ -12,7 +12,7 @@ ghost use Rattle.pipe_job.specs.Spelling.{decimal_spelling};
 use crate::misread::Misread;
 use itoa::Buffer;
 use pipe_frame::Text;
-use serde_json::Value;
+use pipe_value::Value;
 use std::alloc::Global;
 
 /// What has one spelling in JSON.

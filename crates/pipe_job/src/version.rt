@@ -2,7 +2,7 @@
 
 ghost use Rattle.std.specs.Prelude.{◌≡◌, map};
 ghost use Rattle.std.specs.List.{list_any};
-ghost use Rattle.serde_json.specs.View.{view};
+ghost use Rattle.pipe_value.specs.View.{view};
 ghost use Rattle.pipe_expr.specs.Formula.{formula_of, formulas_of, named_formulas_of};
 ghost use Rattle.pipe_plan.specs.Node.{node_of};
 ghost use Rattle.pipe_plan.specs.Plan.{plan_of};
@@ -14,7 +14,7 @@ use crate::misread::Misread;
 use pipe_expr::{Expr, NamedExpr};
 use pipe_frame::{DataFrame, DataType, Field};
 use pipe_plan::{Arena, IR};
-use serde_json::Value;
+use pipe_value::Value;
 
 /// The version that a value spells.
 pub(crate) fn version_of(value: &Value) -> Result<u32, Misread>

@@ -1,7 +1,7 @@
 //! The reader of reconciliations.
 
 ghost use Rattle.std.specs.Prelude.{◌≡◌, IfNone, IfOk, IfSome, IsErrOf};
-ghost use Rattle.serde_json.specs.View.{view};
+ghost use Rattle.pipe_value.specs.View.{view};
 ghost use Rattle.pipe_job.specs.FrameSpelling.{FrameFits};
 ghost use Rattle.pipe_job.specs.Reading.{ReadsNothing};
 ghost use Rattle.pipe_recon_text.specs.ReconReading.{ReadsNoReconJob, ReadsReconJob};
@@ -16,7 +16,7 @@ use pipe_job::{
 };
 use pipe_plan::PipeConfig;
 use pipe_recon::ReconSpec;
-use serde_json::Value;
+use pipe_value::Value;
 use std::alloc::{AllocError, Global};
 
 /// The left and the right table.
@@ -34,9 +34,9 @@ impl Spelled for TwoFrames {
     ghost shape = { are_two_frames };
 
     fn read(alloc: Global, value: &Value) -> Result<TwoFrames, Misread> {
-        let (left, right) = two_items(value)?;
-        let left = DataFrame::read(alloc, left)?;
-        let right = DataFrame::read(alloc, right)?;
+        let (left, right) = two_items(alloc, value)?;
+        let left = DataFrame::read(alloc, left.value())?;
+        let right = DataFrame::read(alloc, right.value())?;
         Ok(TwoFrames { left, right })
     }
 }

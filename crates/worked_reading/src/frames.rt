@@ -3,7 +3,7 @@
 use crate::reading::{frame, tell_answer};
 use std::alloc::{AllocError, Global};
 
-const MISSPELLED: [(&str, &str); 11] = [
+const MISSPELLED: [(&str, &str); 13] = [
     ("no column", r#"{"columns":[]}"#),
     (
         "columns of unequal length",
@@ -40,6 +40,14 @@ const MISSPELLED: [(&str, &str); 11] = [
     (
         "half a byte",
         r#"{"columns":[{"name":"k","type":"Binary","values":["0"]}]}"#,
+    ),
+    (
+        "a text behind many numbers",
+        r#"{"columns":[{"name":"k","type":"Int64","values":[1,2,3,4,5,6,7,8,9,10,11,12,13,14,15,16,17,18,"19"]}]}"#,
+    ),
+    (
+        "a number behind many texts",
+        r#"{"columns":[{"name":"k","type":"String","values":["","","","","","","","","","","","","","","","","","",19]}]}"#,
     ),
     (
         "a type in lower case",

@@ -46,6 +46,20 @@ pub(crate) fn of_int128(alloc: Global) -> Result<String, AllocError> {
     lines_of_job(alloc, LARGE)
 }
 
+/// Columns of so many rows that their arrays are packed: of what the first rows have, of other numbers behind them, and
+/// of nulls.
+const LONG: &str =
+    r#"{"version":1,"workers":0,"chunk_rows":0,"row_limit":0,"root":0,"plan":[],"frames":[{"columns":[
+{"name":"i","type":"Int64","values":[1,2,null,-9223372036854775808,5,6,7,8,9,10,11,12,13,14,15,16,9223372036854775807,null,-19]},
+{"name":"u","type":"UInt64","values":[null,2,3,4,5,6,7,8,9,10,11,12,13,14,15,16,17,18446744073709551615,19]},
+{"name":"s","type":"String","values":["a","",null,"d","e","f","g","h","i","j","k","l","m","n","o","p",null,"","é"]},
+{"name":"t","type":"Boolean","values":[true,false,null,true,true,true,true,true,true,true,true,true,true,true,true,true,false,null,true]},
+{"name":"b","type":"Binary","values":["00",null,"ff","0a","0a","0a","0a","0a","0a","0a","0a","0a","0a","0a","0a","0a","","00ff7f",null]}]}]}"#;
+
+pub(crate) fn of_long_columns(alloc: Global) -> Result<String, AllocError> {
+    lines_of_job(alloc, LONG)
+}
+
 pub(crate) fn at_the_edges(alloc: Global) -> Result<String, AllocError> {
     lines_of_job(alloc, EDGES)
 }

@@ -22,6 +22,8 @@ fn tell_read(a: Global, answers: &mut String) -> Result<(), AllocError> {
     answers.push_str(lines::at_the_edges(a)?.as_str())?;
     tell(answers, "the lines of a frame of Int128")?;
     answers.push_str(lines::of_int128(a)?.as_str())?;
+    tell(answers, "the lines of a frame of long columns")?;
+    answers.push_str(lines::of_long_columns(a)?.as_str())?;
     tell(answers, "jobs")?;
     reading::tell_ends(a, answers)?;
     reading::tell_no_jobs(a, answers)?;

@@ -1,4 +1,4 @@
-use Rattle.serde_json.specs.View.{view}
+use Rattle.pipe_value.specs.View.{view}
 use Rattle.pipe_job.proofs.TypedColumns.{typed_native, same_test}
 use Rattle.pipe_job.proofs.columns.native_of.Goals as goal
 

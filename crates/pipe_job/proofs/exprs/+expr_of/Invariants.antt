@@ -1,5 +1,5 @@
 use Rattle.serde_json.specs.Data.{depth}
-use Rattle.serde_json.specs.View.{view}
+use Rattle.pipe_value.specs.View.{view}
 use Rattle.pipe_job.proofs.exprs.+expr_of.Given as goal
 
 abbrev pub decreases-expr_of : goal.decreases-expr_of

@@ -1,5 +1,5 @@
 use Rattle.std.proofs.Common.{sym, ◌∙◌}
-use Rattle.serde_json.specs.View.{view}
+use Rattle.pipe_value.specs.View.{view}
 use Rattle.pipe_job.specs.JobSpelling.{task_of}
 use Rattle.pipe_job.proofs.OneJob.{too_early}
 use Rattle.pipe_job.proofs.jobs.job_of.Goals as goal

@@ -1,5 +1,5 @@
 use Rattle.std.proofs.Common.{sym, ◌∙◌}
-use Rattle.serde_json.specs.View.{view}
+use Rattle.pipe_value.specs.View.{view}
 use Rattle.pipe_recon_text.proofs.OneReconJob.{too_early}
 use Rattle.pipe_recon_text.proofs.reading.recon_job_of.Goals as goal
 

@@ -1,5 +1,5 @@
 use Rattle.std.proofs.Common.{codes}
-use Rattle.serde_json.specs.View.{view, members_view}
+use Rattle.pipe_value.specs.View.{view, members_view}
 use Rattle.pipe_job.specs.Shape.{is_named, is_expr, is_text, is_end, after, has}
 use Rattle.pipe_job.proofs.Shapes.{after_later, after_here, on_object_false, passed_on}
 use Rattle.pipe_job.proofs.nodes.NamedExprSpelled.read.Goals as goal

@@ -1,5 +1,5 @@
 use Rattle.std.specs.Prelude.{Bool}
-use Rattle.serde_json.specs.View.{view}
+use Rattle.pipe_value.specs.View.{view}
 use Rattle.pipe_recon_text.proofs.Shapes.{other_nulls, passed}
 use Rattle.pipe_recon_text.specs.ReconShape.{is_recon_job}
 use Rattle.pipe_recon_text.proofs.reading.ReconJobSpelled.read.Goals as goal
