@@ -1,9 +1,13 @@
 //! The lines of all cases.
 
+ghost use Rattle.std.specs.Prelude.{◌≡◌};
+ghost use Rattle.pipe_expr.specs.declared.join_words.JoinType.TheVariants as how;
 ghost use Rattle.worked_marks.specs.Sides.{AreSides};
 
 use crate::cases::{CASES, Case};
 use crate::full::through_full;
+use crate::left_built::through_left_built;
+use crate::left_cases::LEFT_BUILT;
 use crate::marking::through_marks;
 use crate::sides::{Sides, join_at_root};
 use pipe_check::check_plan;
@@ -17,6 +21,23 @@ use worked_builders::{BuiltPlan, plan_of};
 /// How many rows a piece has.
 const PIECE_ROWS: u32 = 2;
 
+/// What comes of a full join, by the side that is built.
+fn full_joined<H: HashesKeys>(
+    alloc: Global,
+    sides: Sides,
+    whole: bool,
+    hasher: H,
+) -> Result<String, AllocError>
+    requires sides { AreSides sides }
+    requires full { sides.spec.how ≡ how.Full }
+{
+    if sides.spec.swapped {
+        through_full(alloc, sides, whole, PIECE_ROWS, hasher)
+    } else {
+        through_left_built(alloc, sides, whole, PIECE_ROWS, hasher)
+    }
+}
+
 /// What comes of a join under a hasher.
 fn joined<H: HashesKeys>(
     alloc: Global,
@@ -27,7 +48,7 @@ fn joined<H: HashesKeys>(
     requires { AreSides sides }
 {
     match sides.spec.how {
-        JoinType::Full => through_full(alloc, sides, whole, PIECE_ROWS, hasher),
+        JoinType::Full => full_joined(alloc, sides, whole, hasher),
         _ => through_marks(alloc, sides, whole, PIECE_ROWS, hasher),
     }
 }
@@ -55,11 +76,26 @@ fn case_line(alloc: Global, case: &Case) -> Result<String, AllocError> {
     format!(in alloc; "{}: {text}\n", case.shows)
 }
 
-/// The lines of all cases.
-pub(crate) fn answers(alloc: Global) -> Result<String, AllocError> {
-    let mut answers = String::new(alloc);
+/// Adds the lines of the joins that keep built rows.
+fn put_cases(alloc: Global, answers: &mut String) -> Result<(), AllocError> {
     for case in CASES {
         answers.push_str(case_line(alloc, case)?.as_str())?;
     }
+    Ok(())
+}
+
+/// Adds those of the full joins whose left side is built.
+fn put_left_built(alloc: Global, answers: &mut String) -> Result<(), AllocError> {
+    for case in LEFT_BUILT {
+        answers.push_str(case_line(alloc, case)?.as_str())?;
+    }
+    Ok(())
+}
+
+/// The lines of all cases.
+pub(crate) fn answers(alloc: Global) -> Result<String, AllocError> {
+    let mut answers = String::new(alloc);
+    put_cases(alloc, &mut answers)?;
+    put_left_built(alloc, &mut answers)?;
     Ok(answers)
 }

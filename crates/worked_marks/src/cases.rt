@@ -35,8 +35,11 @@ const ANTI_WITH_NULLS: WrittenJoin = WrittenJoin {
     ..ANTI
 };
 
-const FULL: WrittenJoin = WrittenJoin {
+/// A full join whose right side is built, since it has fewer rows.
+pub(crate) const FULL: WrittenJoin = WrittenJoin {
     how: JoinType::Full,
+    rows_left: (None, 9),
+    rows_right: (None, 1),
     ..INNER_ON_K
 };
 
@@ -50,7 +53,7 @@ const FULL_COALESCED: WrittenJoin = WrittenJoin {
     ..FULL
 };
 
-const FULL_ON_NEXT_K: WrittenJoin = WrittenJoin {
+pub(crate) const FULL_ON_NEXT_K: WrittenJoin = WrittenJoin {
     left_on: &[WrittenExpr::Add(Operand::Col("k"), Operand::Int(1))],
     suffix: "_2",
     ..FULL
@@ -69,17 +72,23 @@ const THREE_ONES: &[WrittenColumn] = &[("k", INT, &["1", "1", "1"])];
 
 const ONES_APART: &[WrittenColumn] = &[("k", INT, &["1", "2", "1", "3", "1"])];
 
-const TWO_THREE: &[WrittenColumn] = &[("k", INT, &["2", "3"])];
+pub(crate) const TWO_THREE: &[WrittenColumn] = &[("k", INT, &["2", "3"])];
 
-const A_B_C: &[WrittenColumn] = &[("k", INT, &["1", "2", "-"]), ("x", TEXT, &["a", "b", "c"])];
+pub(crate) const A_B_C: &[WrittenColumn] = &[
+    ("k", INT, &["1", "2", "-"]),
+    ("x", TEXT, &["a", "b", "c"]),
+];
 
-const X_Y_Z: &[WrittenColumn] = &[("k", INT, &["2", "3", "-"]), ("y", TEXT, &["x", "y", "z"])];
+pub(crate) const X_Y_Z: &[WrittenColumn] = &[
+    ("k", INT, &["2", "3", "-"]),
+    ("y", TEXT, &["x", "y", "z"]),
+];
 
 const ONE: &[WrittenColumn] = &[("k", INT, &["1"])];
 
 const ONE_TWO: &[WrittenColumn] = &[("k", INT, &["1", "2"])];
 
-const ONE_THREE: &[WrittenColumn] = &[("k", INT, &["1", "3"])];
+pub(crate) const ONE_THREE: &[WrittenColumn] = &[("k", INT, &["1", "3"])];
 
 const THREE_FOUR: &[WrittenColumn] = &[("k", INT, &["3", "4"])];
 
@@ -88,17 +97,17 @@ const TENS: &[WrittenColumn] = &[
     ("z", INT, &["10", "20", "30"]),
 ];
 
-const NO_K: &[WrittenColumn] = &[("k", INT, &[])];
+pub(crate) const NO_K: &[WrittenColumn] = &[("k", INT, &[])];
 
-const FIVES: &[WrittenColumn] = &[("k", INT, &["5", "5"])];
+pub(crate) const FIVES: &[WrittenColumn] = &[("k", INT, &["5", "5"])];
 
-const SEVENS_AND_EIGHT: &[WrittenColumn] = &[("k", INT, &["7", "7", "7", "8"])];
+pub(crate) const SEVENS_AND_EIGHT: &[WrittenColumn] = &[("k", INT, &["7", "7", "7", "8"])];
 
-const ONES: &[WrittenColumn] = &[("k", INT, &["1", "1", "1"])];
+pub(crate) const ONES: &[WrittenColumn] = &[("k", INT, &["1", "1", "1"])];
 
-const ONE_NINE_EIGHT: &[WrittenColumn] = &[("k", INT, &["1", "9", "8"])];
+pub(crate) const ONE_NINE_EIGHT: &[WrittenColumn] = &[("k", INT, &["1", "9", "8"])];
 
-const SEVEN: &[WrittenColumn] = &[("k", INT, &["7"])];
+pub(crate) const SEVEN: &[WrittenColumn] = &[("k", INT, &["7"])];
 
 pub(crate) const CASES: &[Case] = &[
     Case {

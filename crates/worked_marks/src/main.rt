@@ -5,6 +5,8 @@ mod answers;
 mod built;
 mod cases;
 mod full;
+mod left_built;
+mod left_cases;
 mod marking;
 mod sides;
 mod told;

@@ -1,0 +1,14 @@
+use Rattle.std.proofs.Common.{◌≡◌}
+use Rattle.pipe_frame.specs.Chunks.{HasSchema}
+use Rattle.pipe_table.specs.Spec.{probed_schema}
+use Rattle.pipe_marks.specs.MarkProbe.{HoldsSeat}
+use Rattle.pipe_full.specs.LeftBuilt.{IsRestOrNone}
+use Rattle.worked_marks.proofs.left_built.chunk_answers.Given as goal
+
+abbrev pub invariant-loop-piece : goal.invariant-loop-piece
+invariant-loop-piece g l = record {
+  serves : l.full.table.spec ≡ l.probe.spec;
+  seat : HoldsSeat l.full.marks l.probe.seat;
+  takes : HasSchema (probed_schema l.probe.spec) l.chunk;
+  ready : IsRestOrNone l.full.table l.chunk.frame l.probe.begun l.probe.rest;
+}
