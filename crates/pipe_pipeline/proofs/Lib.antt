@@ -1,4 +1,6 @@
 mod AddSteps
+mod Pieces
+mod Takings
 mod FlowSteps
 mod InOrder
 mod Nodes

@@ -5,11 +5,12 @@ use Rattle.pipe_lanes.specs.declared.stage.Stage.{Stage}
 use Rattle.pipe_pipeline.specs.declared.flow.Branch.{Branch}
 use Rattle.pipe_pipeline.specs.declared.flow.Flow.{Flow}
 
--- one branch, which has a frame and nothing else
-pub record IsAlone {O : Type 0} (frame : Table) (branches : List (Branch O)) : Type 0 where
+-- one branch, which has the frame of a node and nothing else
+pub record IsAlone {O : Type 0} (frame : Table) (source : ℕ) (branches : List (Branch O)) : Type 0 where
   pub branch : Branch O
   pub is : branches ≡ branch ∷ []
   pub frame_is : branch.frame ≡ frame
+  pub source_is : branch.source ≡ source
   pub entering : branch.entering.items ≡ []
   pub leaving : branch.leaving ≡ 0
 
@@ -21,6 +22,7 @@ pub record Enters {O : Type 0} (stages : List (Stage O)) (old new : List (Branch
   pub was : old ≡ before ∷ rest
   pub is : new ≡ after ∷ rest
   pub frame : after.frame ≡ before.frame
+  pub source : after.source ≡ before.source
   pub entering : after.entering.items ≡ before.entering.items ++ stages
   pub leaving : after.leaving ≡ before.leaving
 
@@ -32,6 +34,7 @@ pub record Leaves {O : Type 0} (count : ℕ) (old new : List (Branch O)) : Type 
   pub was : old ≡ rest ++ before ∷ []
   pub is : new ≡ rest ++ after ∷ []
   pub frame : after.frame ≡ before.frame
+  pub source : after.source ≡ before.source
   pub entering : after.entering.items ≡ before.entering.items
   pub leaving : after.leaving ≡ before.leaving + count
 

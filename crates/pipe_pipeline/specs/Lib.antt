@@ -4,5 +4,7 @@ pub mod Pipelines
 pub mod Given
 -- branches one after another, whose rows come together
 pub mod Branches
+-- what workers took of sources
+pub mod Taken
 -- the branches of a flow behind those of others
 pub mod Added

@@ -12,6 +12,8 @@ use std::alloc::{AllocError, Global};
 pub struct Branch<O> {
     /// Where its chunks begin.
     pub frame: DataFrame,
+    /// The node whose rows the frame has.
+    pub source: u32,
     /// The stages that begin with it: its chunks come to them first.
     pub entering: Vec<Stage<O>>,
     /// How many stages end with it, the first ones: the chunks of later branches don't come to them.
@@ -28,14 +30,15 @@ pub struct Flow<O> {
 }
 
 impl<O: Drop> Flow<O> {
-    /// The rows of a frame.
-    pub fn new(alloc: Global, frame: DataFrame) -> Result<Flow<O>, AllocError>
-        ensures branches { IfOk result (λ flow. IsAlone frame flow.branches.items) }
+    /// The rows of a frame, which are those of a node.
+    pub fn new(alloc: Global, frame: DataFrame, source: u32) -> Result<Flow<O>, AllocError>
+        ensures branches { IfOk result (λ flow. IsAlone frame source flow.branches.items) }
         ensures stages { IfOk result (λ flow. flow.stages.items ≡ []) }
     {
         let mut branches = Vec::new(alloc);
         branches.push(Branch {
             frame,
+            source,
             entering: Vec::new(alloc),
             leaving: 0,
         })?;
@@ -83,17 +86,20 @@ fn enter<O: Drop>(branches: &mut [Branch<O>], stages: &mut Vec<Stage<O>>) -> Res
 /// The same branch, with which so many stages more leave.
 fn leaving_more<O: Drop>(branch: Branch<O>, count: usize) -> Result<Branch<O>, AllocError>
     ensures frame { IfOk result (λ made. made.frame ≡ branch.frame) }
+    ensures source { IfOk result (λ made. made.source ≡ branch.source) }
     ensures entering { IfOk result (λ made. made.entering ≡ branch.entering) }
     ensures leaving { IfOk result (λ made. made.leaving ≡ branch.leaving + count) }
 {
     let Branch {
         frame,
+        source,
         entering,
         leaving,
     } = branch;
     match leaving.checked_add(count) {
         Some(leaving) => Ok(Branch {
             frame,
+            source,
             entering,
             leaving,
         }),

@@ -9,9 +9,11 @@ mod flow;
 mod flowing;
 mod running;
 mod shortened;
+mod taking;
 
 pub use collecting::collect_frame;
 pub use flow::{Branch, Flow, add_flow};
 pub use flowing::run_flow;
 pub use running::run_pipeline;
 pub use shortened::{context_for, most_lanes};
+pub use taking::Taking;

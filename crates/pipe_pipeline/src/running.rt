@@ -11,8 +11,10 @@ ghost use Rattle.pipe_lanes.specs.Through.{IsChain, AllServe};
 ghost use Rattle.pipe_rounds.specs.Rounds.{left_rows, schema_left, IsLeftOf};
 ghost use Rattle.pipe_pipeline.specs.Given.{given_more, AreFewWith, IsOverWith, sink_count, IsSinkOver};
 ghost use Rattle.pipe_pipeline.specs.Pipelines.{made_by, filled, AllFew, HaltsBy};
+ghost use Rattle.pipe_pipeline.specs.Taken.{AllTaken, IsWhole, Since};
 
 use crate::counting::{add_to_basin, add_to_stages};
+use crate::taking::{Taking, note_takings};
 use pipe_frame::{Gate, StopCheck};
 use pipe_lanes::{Basin, Halt, Lane, Refusal, Stage, gather, open_lanes};
 use pipe_ops::{Operator, PExecutionContext, Sink, Source};
@@ -51,7 +53,7 @@ fn add_counts<O, K>(
 
 /// Runs what is left of a source through the stages of a pipeline into its sink, which hold what they were given
 /// before: as many lanes as there are workers take the source's chunks, round by round, and their sinks are combined in
-/// order. The stop check is asked before each round and before each lane's sink is combined. `Stopped` where it said
+/// order. `node` is the one whose rows the source has; what each worker took of them is noted. The stop check is asked before each round and before each lane's sink is combined. `Stopped` where it said
 /// yes; `TooMany` with a node of the pipeline that is given more rows than the limit, with those before; `Memory`.
 pub fn run_pipeline<
     R: Threads + Sync,
@@ -69,6 +71,8 @@ pub fn run_pipeline<
     next_index: &mut u64,
     stages: &mut [Stage<O>],
     basin: &mut Basin<K>,
+    node: u32,
+    takings: &mut Vec<Taking>,
     stop: &mut C,
     gate: &G,
 ) -> Result<(), Halt>
@@ -92,6 +96,8 @@ pub fn run_pipeline<
     ensures held { let made = made_by O.Operator shared.now
         (schema_left (I.left source.old)) stages.old (left_rows (I.left source.old)) in
         OnOk result (Same (K.held basin.new.sink) (K.held basin.old.sink ++ made)) }
+    ensures taken { IsWhole (I.left source.old) → OnOk result (Since (AllTaken context.now node
+        (length (left_rows (I.left source.old)))) takings.old.items takings.new.items) }
     ensures within { OnOk result (AllFew O.Operator shared.now context.now.row_limit
         (schema_left (I.left source.old)) (left_rows (I.left source.old)) stages.old
         basin.old.given) }
@@ -118,6 +124,9 @@ pub fn run_pipeline<
     ) {
         return Err(halt);
     }
+    let Ok(()) = note_takings(takings, lanes.as_slice(), node) else {
+        return Err(Halt::Refused(Refusal::Memory));
+    };
     if let Err(refusal) = add_counts(context, lanes.as_slice(), stages, basin) {
         return Err(Halt::Refused(refusal));
     }

@@ -1,6 +1,8 @@
-use Rattle.std.proofs.Common.{◌≡◌, ◌+◌, ◌++◌, arith, ap, refl, sym, ◌∙◌, subst, append-nil}
+use Rattle.std.proofs.Common.{◌≡◌, ◌+◌, ◌++◌, length, arith, ap, refl, sym, ◌∙◌, subst, append-nil}
 use Rattle.std.proofs.lemmas.List.{with_items_is}
 use Rattle.pipe_lanes.proofs.Asked.{counts-none}
+use Rattle.pipe_pipeline.specs.Taken.{AllTaken}
+use Rattle.pipe_pipeline.proofs.Takings.{since-under, taken-under}
 use Rattle.pipe_pipeline.proofs.branching.run_branch.Goals as goal
 
 pub run_pipeline-requires-clause-schema : goal.run_pipeline-requires-clause-schema
@@ -27,3 +29,12 @@ returns-in-Ok-split_off-clause-given g c =
 pub returns-in-Ok-split_off-clause-held : goal.returns-in-Ok-split_off-clause-held
 returns-in-Ok-split_off-clause-held g c =
     rw (c.from_df-source.ensures, append-nil c.args.branch.frame.rows, c.as_mut_slice.ensures.value, c.in-Ok.ensures) at c.in_default-run_pipeline.ensures.held
+
+pub returns-in-Ok-split_off-clause-taken : goal.returns-in-Ok-split_off-clause-taken
+returns-in-Ok-split_off-clause-taken g c =
+    let b = c.args.branch in
+    let rows = length b.frame.rows in
+    let few = c.context_for-numbers.result in
+    let numbers = c.context_for-numbers.ensures in
+    let taken = (rw (c.from_df-source.ensures, append-nil b.frame.rows) at c.in_default-run_pipeline.ensures.taken) (record { frame = _; only = refl; from_first = refl }) in
+    since-under (AllTaken few b.source rows) (AllTaken c.args.context.now b.source rows) _ _ (λ ts h. taken-under few c.args.context.now b.source rows ts numbers.workers numbers.chunks h) taken

@@ -6,4 +6,4 @@ pub returns : goal.returns
 returns g c =
     let old = c.args.branches.now in
     let before = get_or old 0 c.index-branches-0.result in
-    entered-first c.args.stages.now.items old before (record before { entering = c.append.new.self }) c.requires (ap (get_or old 0) c.index-branches-0.is) refl c.in_ok-append.ensures.items refl
+    entered-first c.args.stages.now.items old before (record before { entering = c.append.new.self }) c.requires (ap (get_or old 0) c.index-branches-0.is) refl refl c.in_ok-append.ensures.items refl

@@ -9,6 +9,7 @@ returns g c = record {
   was = c.in-Some.ensures.items;
   is = c.in_ok-push.ensures.items;
   frame = c.in_ok-last.ensures.frame;
+  source = c.in_ok-last.ensures.source;
   entering = ap (λ v. v.items) c.in_ok-last.ensures.entering;
   leaving = c.in_ok-last.ensures.leaving;
 }

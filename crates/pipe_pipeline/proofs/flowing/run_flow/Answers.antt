@@ -1,5 +1,5 @@
-use Rattle.std.proofs.Common.{◌≡◌, inl, inr, ℕ, ◌++◌, List, ◌∷◌, length, reverse, arith, ap, refl, sym, ◌∙◌, subst}
-use Rattle.std.proofs.lemmas.List.{reverse-reverse}
+use Rattle.std.proofs.Common.{◌≡◌, inl, inr, ℕ, ◌++◌, List, [], ◌∷◌, length, reverse, arith, ap, refl, sym, ◌∙◌, subst}
+use Rattle.std.proofs.lemmas.List.{nil_from_length, reverse-reverse}
 use Rattle.pipe_frame.specs.Rows.{Row, Same}
 use Rattle.pipe_lanes.proofs.Asked.{counts-none}
 use Rattle.pipe_lanes.proofs.Rows.{same-refl}
@@ -7,6 +7,7 @@ use Rattle.pipe_pipeline.specs.Branches.{entered, left_by, made_on, AllCanRun, A
 use Rattle.pipe_pipeline.specs.Pipelines.{HaltsBy}
 use Rattle.pipe_pipeline.proofs.InOrder.{few-on, halts-in, held-on, many-on, rises-on, room-on, turned}
 use Rattle.pipe_pipeline.proofs.Nodes.{counts-after}
+use Rattle.pipe_pipeline.proofs.Takings.{Goes-on, goes-first, goes-last, goes-next}
 use Rattle.pipe_pipeline.proofs.flowing.run_flow.Goals as goal
 
 pub loop-branch-init : goal.loop-branch-init
@@ -27,6 +28,7 @@ loop-branch-init g c =
       schema = refl;
       gives = refl;
       held = subst (λ (l : List Row). Same (l ++ made_in op s left first) (made_in op s all first)) (sym c.requires.empty) (subst (λ l. Same (made_in op s l first) (made_in op s all first)) (sym whole) (same-refl (made_in op s all first)));
+      taken = subst (λ l. Goes-on c.args.context.now all c.args.takings.now.items l c.args.takings.now.items) (sym whole) (goes-first c.args.context.now all c.args.takings.now.items);
       few = λ h. subst (λ l. AllFewIn op s limit l first 0) whole h;
       many = λ node h. subst (λ l. IsTooFullIn op s limit l first 0 c.args.node node) whole h;
       begun = inl whole;
@@ -86,9 +88,18 @@ loop-branch-preserved g c =
       schema = ran.schema ∙ known.schema;
       gives = ran.gives ∙ known.gives;
       held = subst (λ l. Same (new ++ made_in op s rest l) (made_in op s all first)) (sym done.stages) (held-on old new made (made_in op s rest (left_by op s b stages)) (made_in op s all first) done.held held);
+      taken = goes-next c.args.context.now all c.args.takings.now.items b rest c.loop-branch.takings.items _ (subst (λ l. Goes-on c.args.context.now all c.args.takings.now.items l c.loop-branch.takings.items) turn known.taken) done.taken;
       few = λ h. few-on op s limit all first c.args.node b rest stages given now done.given few done.within (subst (λ l. AllFewIn op s limit rest l now) done.stages h);
       many = λ node h. many-on op s limit all first c.args.node b rest stages given now done.given many node (subst (λ l. IsTooFullIn op s limit rest l now c.args.node node) done.stages h);
       begun = inr rises;
       asked = inr rises;
       yes = counts-after 0 _ _ _ known.yes done.yes;
     }
+
+pub returns-clause-taken : goal.returns-clause-taken
+returns-clause-taken g c =
+    let all = c.args.flow.branches.items in
+    let old = c.args.takings.now.items in
+    let now = c.loop-branch.takings.items in
+    let none : c.loop-branch.branches.items ≡ [] = nil_from_length c.loop-branch.branches.items (omega (arith, c.in_default.ensures.cases.0)) in
+    goes-last c.args.context.now all old now (subst (λ l. Goes-on c.args.context.now all old (reverse l) now) none c.loop-branch.invariant.taken)
