@@ -6,6 +6,7 @@ ghost use Rattle.pipe_expr.specs.Formula.{formula_of, formulas_of};
 ghost use Rattle.pipe_expr.specs.Typing.{IsTyped};
 ghost use Rattle.pipe_plan.specs.Node as node;
 ghost use Rattle.pipe_plan.specs.Schemas.{join_over};
+ghost use Rattle.pipe_plan.specs.Swap.{swaps};
 ghost use Rattle.pipe_table.specs.Spec.{IsSpec, IsMadeFor, settings_of, formula_in, formulas_in};
 ghost use Rattle.pipe_convert.specs.Converted.{IsNode, schema_in};
 ghost use Rattle.pipe_convert.specs.Keys.{AreKeys};
@@ -68,6 +69,7 @@ pub fn join_spec(
         let right_keys = formulas_of right_on.now in
         IfOk result (λ spec. settings_of spec
         ≡ join_over left_schema right_schema left_keys right_keys options.now) }
+    ensures side { IfOk result (λ spec. spec.swapped ≡ swaps options.now) }
 {
     let _ = plan.root();
     let _ = plan.schema(n).fields();
