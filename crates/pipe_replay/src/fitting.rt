@@ -56,7 +56,7 @@ fn frame_fits(frame: &DataFrame)
 }
 
 /// The rows of each frame fit its schema.
-pub(crate) fn frames_fit(frames: &[DataFrame])
+pub fn frames_fit(frames: &[DataFrame])
     ensures { TablesFit frames.now }
 {
     for frame in frames {

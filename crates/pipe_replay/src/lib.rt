@@ -18,5 +18,6 @@ mod replaying;
 mod sorting;
 mod sources;
 
+pub use fitting::frames_fit;
 pub use lists::SortedLists;
 pub use replaying::{Played, StepAnswer, play, replay, root_bag, step};
