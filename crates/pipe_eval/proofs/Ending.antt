@@ -18,6 +18,7 @@ use Rattle.pipe_plan.specs.Under.{node_at}
 use Rattle.pipe_check.specs.Checked.{Checked}
 use Rattle.pipe_convert.specs.Converted.{schema_in}
 use Rattle.pipe_eval.specs.Evaluated.{EndsWith, HasTooMany, is_sort}
+use Rattle.pipe_eval.proofs.BeginSteps.{begins-again}
 use Rattle.pipe_eval.specs.Flows.{rows_in, AreOf, EndAs, Give, IsFlowOf, IsSettled, IsStepOf, IsUnder}
 use Rattle.pipe_eval.specs.Halts.{error_of}
 use Rattle.pipe_pipeline.specs.declared.flow.Branch.{Branch}
@@ -122,4 +123,5 @@ module _ {O : Type 0} (op : OperatorWords O (Unit {0})) (plan : Checked) where
         ends = subst (EndAs op plan n h.from h.rows) (sym all) ends;
         settles = subst (λ l. AllByRecursion (IsSettled limit plan) h.below → AllFew op tt limit h.from h.rows l 0 → IsSettled limit plan n) (sym all) settles;
         in_order = λ sorts. not-both (is_sort (node_at (plan_of plan.arena).nodes n)) step.no_sort sorts;
+        begins = λ none. begins-again plan n input old.branches.items new.branches.items same (step.begins none) (h.begins none);
       }

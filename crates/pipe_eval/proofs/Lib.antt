@@ -1,4 +1,7 @@
 pub mod Alone
+pub mod BeginSteps
+pub mod Begins
+pub mod Written
 pub mod Asked
 pub mod Branches
 pub mod Ending

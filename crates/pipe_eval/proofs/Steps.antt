@@ -9,6 +9,7 @@ use Rattle.pipe_plan.specs.Plan.{plan_of}
 use Rattle.pipe_check.specs.Checked.{Checked}
 use Rattle.pipe_convert.specs.Converted.{IsOperatorOf, schema_in}
 use Rattle.pipe_eval.specs.Flows.{IsStepOf, IsUnder, rows_in}
+use Rattle.pipe_eval.proofs.Begins.{begins-each}
 use Rattle.pipe_eval.proofs.NodeRows.{each-input, each-no_sort, each-rows}
 use Rattle.pipe_eval.proofs.Settled.{settled}
 
@@ -26,4 +27,5 @@ step-of op limit plan n input operator good under h =
       makes = subst (λ (rows : List Row). Same (flat_map each (rows_in plan input)) rows) (sym own) (same-refl (flat_map each (rows_in plan input)));
       settles = λ below few. settled plan n good under limit (input ∷ []) alone (below, tt) few;
       no_sort = each-no_sort p plan.root n good under input each h.row_by_row;
+      begins = λ none. begins-each plan n good under input each h.row_by_row;
     }

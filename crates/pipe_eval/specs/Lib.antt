@@ -1,5 +1,7 @@
 -- what the frame of a plan has to be, and why there is none
 pub mod Evaluated
+-- what a run writes down, and where the rows of a flow begin
+pub mod Journals
 -- the rows of a node, as a frame and stages
 pub mod Flows
 -- flows of nodes, on the way to that of the root

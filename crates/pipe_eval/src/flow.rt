@@ -4,14 +4,15 @@ ghost use Rattle.std.specs.Prelude.{◌≡◌, ◌∷◌, [], true, false, IfOk,
 ghost use Rattle.pipe_pipeline.specs.declared.flow.Branch.{Branch};
 ghost use Rattle.pipe_plan.specs.Plan.{plan_of};
 ghost use Rattle.pipe_eval.specs.Evaluated.{EndsWith, stops};
-ghost use Rattle.pipe_eval.specs.Flows.{IsBare, IsFlowOf, IsMadeFor};
+ghost use Rattle.pipe_eval.specs.Flows.{BeginsItself, IsBare, IsFlowOf, IsMadeFor};
+ghost use Rattle.pipe_eval.specs.Journals.{NoneMarks};
 
 use pipe_check::CheckedPlan;
-use pipe_frame::DataFrame;
+use pipe_frame::{DataFrame, TryClone};
 use pipe_ops::{Operator, PExecutionContext};
 use pipe_pipeline::Flow;
 use pipe_plan::PipeError;
-use std::alloc::Global;
+use std::alloc::{AllocError, Global};
 
 /// Whether there is no item.
 fn has_none<T>(items: &Vec<T>) -> bool
@@ -35,19 +36,13 @@ pub(crate) fn is_bare<O>(context: &PExecutionContext, flow: &Flow<O>) -> bool
     has_none(&only.entering) && has_none(&flow.stages)
 }
 
-/// The frame of a flow's last branch.
-pub(crate) fn last_frame<O: Drop>(flow: Flow<O>) -> DataFrame
-    requires { flow.branches.items ≡ [] → ⊥ }
-    ensures { (branch : Branch _) → flow.branches.items ≡ branch ∷ [] → result ≡ branch.frame }
+/// The frame of a flow's first branch, of which a copy shares the memory.
+pub(crate) fn first_frame<O>(flow: &Flow<O>) -> Result<DataFrame, AllocError>
+    requires { flow.now.branches.items ≡ [] → ⊥ }
+    ensures { IfOk result (λ frame. (branch : Branch _) →
+        flow.now.branches.items ≡ branch ∷ [] → frame ≡ branch.frame) }
 {
-    let Flow {
-        mut branches,
-        stages: _,
-    } = flow;
-    match branches.pop() {
-        Some(branch) => branch.frame,
-        None => unreachable!(),
-    }
+    flow.branches.as_slice()[0].frame.try_clone()
 }
 
 /// The flow of a frame that was made for a node, whose chunks share its memory. `TooMany` where the frame has more rows
@@ -60,6 +55,7 @@ pub(crate) fn begin_flow<O: Operator<Shared = ()> + Drop>(
     frame: DataFrame,
 ) -> Result<Flow<O>, PipeError>
     requires made { IsMadeFor context.now.row_limit plan.now n frame }
+    requires begins { NoneMarks plan.now → BeginsItself plan.now n }
     ensures flow { IfOk result (IsFlowOf O.Operator context.now.row_limit plan.now n) }
     ensures err { let root = plan.now.root in
         IfErr result (EndsWith context.now.row_limit (plan_of plan.now.arena) root) }
@@ -69,6 +65,6 @@ pub(crate) fn begin_flow<O: Operator<Shared = ()> + Drop>(
     if frame.height() > context.row_limit as usize {
         return Err(PipeError::TooMany(n));
     }
-    let flow = Flow::new(alloc, frame.shared()?)?;
+    let flow = Flow::new(alloc, frame.shared()?, n)?;
     Ok(flow)
 }

@@ -12,6 +12,7 @@ mod full_frames;
 mod full_join;
 mod halts;
 mod join;
+mod journal;
 mod node;
 mod places;
 mod probe_join;

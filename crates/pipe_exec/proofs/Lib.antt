@@ -1,3 +1,4 @@
+pub mod Journaled
 pub mod Unstopped
 pub mod Complete
 pub mod Hints

@@ -2,5 +2,7 @@
 pub mod Sound
 -- why a run gives no rows
 pub mod Runs
+-- what the journal of a run is
+pub mod Journals
 -- which side of a join is built, and runs of both
 pub mod Sides

@@ -8,7 +8,7 @@ mod numbers;
 mod running;
 mod sides;
 
-pub use answer::RunAnswer;
+pub use answer::{Journal, RunAnswer};
 pub use check::check_job;
 pub use pipe_plan::PipeConfig;
 pub use running::{run_plan, run_plan_with};

@@ -5,21 +5,24 @@ ghost use Rattle.pipe_frame.specs.Counts.{Counts, Rises};
 ghost use Rattle.pipe_plan.specs.Plan.{plan_of};
 ghost use Rattle.pipe_plan.specs.Schemas.{schema_of};
 ghost use Rattle.pipe_eval.specs.Evaluated.{AllWithin, HasRowsOf, stops};
+ghost use Rattle.pipe_rows.specs.Fnv.{fnv1a};
+ghost use Rattle.pipe_exec.specs.Journals.{HasJournal, NoneMarks};
 ghost use Rattle.pipe_exec.specs.Runs.{IsMemory, RunCauses, Stays};
 ghost use Rattle.pipe_exec.specs.Sound.{IsSound};
 
-use crate::answer::RunAnswer;
+use crate::answer::{Journal, RunAnswer};
 use crate::check::check_job;
 use crate::numbers::context_of;
 use pipe_eval::evaluate;
-use pipe_frame::{Gate, StopCheck};
+use pipe_frame::{Gate, List, StopCheck};
 use pipe_plan::{Arena, PipeConfig, PipeError};
+use pipe_replay::frames_fit;
 use pipe_rows::{Fnv, KeyHasher};
 use std::alloc::Global;
 use std::thread::Threads;
 
 /// The rows of a plan, by a hasher of the caller's own. The workers are threads: each takes chunks of rows through the
-/// plan's pipelines, one by one, behind the gate. First what `check_job` refuses is refused. Then `TooMany` where a
+/// plan's pipelines, one by one, behind the gate. The journal has what they took, and which sides were closed. First what `check_job` refuses is refused. Then `TooMany` where a
 /// node under the root has more rows than the limit; `Stopped` exactly where the stop check says yes; `Memory`.
 pub fn run_plan_with<R: Threads + Sync, H: KeyHasher, C: StopCheck, G: Gate + Sync>(
     rt: &R,
@@ -36,6 +39,8 @@ pub fn run_plan_with<R: Threads + Sync, H: KeyHasher, C: StopCheck, G: Gate + Sy
     ensures schema { let plan = plan_of arena.now in
         IfOk result (λ answer. answer.frame.schema ≡ schema_of plan root) }
     ensures rows { IfOk result (λ answer. HasRowsOf (plan_of arena.now) root answer.frame.rows) }
+    ensures journal { NoneMarks (plan_of arena.now) root → IfOk result
+        (HasJournal (plan_of arena.now) root (H.hash_of hasher) config.now.workers) }
     ensures err { IfErr result (RunCauses (plan_of arena.now) root config.now) }
     ensures asked { OnOk result (Rises (C.asked stop.old) (C.asked stop.new)) }
     ensures yes { Counts (stops result) (C.yes stop.old) (C.yes stop.new) }
@@ -46,8 +51,13 @@ pub fn run_plan_with<R: Threads + Sync, H: KeyHasher, C: StopCheck, G: Gate + Sy
 {
     let plan = check_job(alloc, arena, root, config)?;
     let context = context_of(config);
-    let frame = evaluate(rt, alloc, &plan, &context, hasher, stop, gate)?;
-    Ok(RunAnswer { frame })
+    frames_fit(arena.frames.as_slice());
+    let mut events = Vec::new(alloc);
+    let frame = evaluate(rt, alloc, &plan, &context, hasher, &mut events, stop, gate)?;
+    let journal = Journal {
+        events: List::from_vec(events),
+    };
+    Ok(RunAnswer { frame, journal })
 }
 
 /// The rows of a plan: `run_plan_with` under `Fnv`.
@@ -65,6 +75,8 @@ pub fn run_plan<R: Threads + Sync, C: StopCheck, G: Gate + Sync>(
     ensures schema { let plan = plan_of arena.now in
         IfOk result (λ answer. answer.frame.schema ≡ schema_of plan root) }
     ensures rows { IfOk result (λ answer. HasRowsOf (plan_of arena.now) root answer.frame.rows) }
+    ensures journal { NoneMarks (plan_of arena.now) root → IfOk result
+        (HasJournal (plan_of arena.now) root fnv1a config.now.workers) }
     ensures err { IfErr result (RunCauses (plan_of arena.now) root config.now) }
     ensures asked { OnOk result (Rises (C.asked stop.old) (C.asked stop.new)) }
     ensures yes { Counts (stops result) (C.yes stop.old) (C.yes stop.new) }

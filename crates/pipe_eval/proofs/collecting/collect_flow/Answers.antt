@@ -1,51 +1,32 @@
-use Rattle.std.proofs.Common.{◌≡◌, [], ◌∷◌, Err, ap, refl, sym, ◌∙◌, subst}
-use Rattle.pipe_eval.specs.Flows.{IsBare, IsFrameOf}
-use Rattle.pipe_eval.proofs.Ending.{flow-can, flow-halts, flow-settled, flow-under}
-use Rattle.pipe_eval.proofs.Frames.{bare-frame, bare-settled, run-frame}
-use Rattle.pipe_eval.proofs.Asked.{asked-halted, asked-ok, asked-run, asked_none, ends_memory}
+use Rattle.std.proofs.Common.{◌≡◌, refl}
+use Rattle.pipe_pipeline.specs.Taken.{TakenOf}
+use Rattle.pipe_journal.specs.Runs.{FlowRun}
+use Rattle.pipe_eval.specs.Journals.{taken_events}
+use Rattle.pipe_eval.proofs.Written.{flow-written, since-none, writes-this}
+use Rattle.pipe_eval.proofs.Asked.{asked-made, asked_lost, asked_passed, ends_memory, ends_passed}
 use Rattle.pipe_eval.proofs.collecting.collect_flow.Goals as goal
 
-pub last_frame-requires : goal.last_frame-requires
-last_frame-requires g c = c.requires.flow.some
+pub returns-clause-ran : goal.returns-clause-ran
+returns-clause-ran g c = λ none.
+    let plan = c.args.plan.now in
+    let context = c.args.context.now in
+    let branches = c.args.flow.branches.items in
+    let takings = c.flow_frame.new.takings.items in
+    let taken = since-none (TakenOf context branches) _ takings c.new-takings.ensures.items c.in_ok-made.ensures.taken in
+    writes-this plan context.workers (λ stages. FlowRun stages c.args.n) _ _ (taken_events takings) (rw c.as_slice.ensures.value at c.in_ok-write_takings.ensures)
+    (λ setting w. flow-written plan context c.args.n branches takings none (c.requires.flow.begins none) taken setting w)
 
-pub returns-then-is_bare-clause-frame : goal.returns-then-is_bare-clause-frame
-returns-then-is_bare-clause-frame g c =
-    let limit = c.args.context.now.row_limit in
-    let bare = c.is_bare.ensures.bare c.if-is_bare.true in
-    subst (IsFrameOf c.args.plan.now c.args.n) (sym (c.last_frame.ensures bare.branch bare.only)) (bare-frame g.O.Operator limit c.args.plan.now c.args.n c.args.flow bare c.requires.flow)
+pub returns-clause-asked : goal.returns-clause-asked
+returns-clause-asked g c = asked-made g.C.StopCheck _ _ _ _ c.in_ok-made.ensures.asked
 
-pub returns-then-is_bare-clause-settled : goal.returns-then-is_bare-clause-settled
-returns-then-is_bare-clause-settled g c =
-    bare-settled g.O.Operator c.args.context.now.row_limit c.args.plan.now c.args.n c.args.flow (c.is_bare.ensures.bare c.if-is_bare.true) c.requires.flow
+pub returns-in_err-made-clause-err : goal.returns-in_err-made-clause-err
+returns-in_err-made-clause-err g c = ends_passed _ _ _ _ _ c.from_residual.ensures.1 c.in_err-made.ensures.err
 
-pub returns-then-is_bare-clause-asked : goal.returns-then-is_bare-clause-asked
-returns-then-is_bare-clause-asked g c = asked-ok g.C.StopCheck _ _
+pub returns-in_err-made-clause-asked : goal.returns-in_err-made-clause-asked
+returns-in_err-made-clause-asked g c = asked_passed g.C.StopCheck _ _ _ _ c.from_residual.ensures.1 c.in_err-made.ensures.asked
 
-pub schema-requires : goal.schema-requires
-schema-requires g c = flow-under g.O.Operator c.args.plan.now c.args.context.now.row_limit c.args.n c.args.flow c.requires.flow
+pub returns-in_err-write_takings-clause-err : goal.returns-in_err-write_takings-clause-err
+returns-in_err-write_takings-clause-err g c = ends_memory _ _ _ _ c.from_residual-in_err-write_takings.ensures.1
 
-pub collect_frame-requires-clause-flows : goal.collect_frame-requires-clause-flows
-collect_frame-requires-clause-flows g c = λ κs lives.
-    flow-can g.O.Operator c.args.plan.now c.args.context.now.row_limit c.args.n c.args.flow _ (sym (c.in_ok-schema.ensures ∙ c.schema.ensures)) c.requires.flow
-
-pub returns-in-Ok-clause-frame : goal.returns-in-Ok-clause-frame
-returns-in-Ok-clause-frame g c =
-    run-frame g.O.Operator c.args.context.now.row_limit c.args.plan.now c.args.n c.args.flow _ (c.is_bare.ensures.staged c.if-is_bare.false) c.requires.flow (c.in-Ok.ensures.schema ∙ c.in_ok-schema.ensures ∙ c.schema.ensures) c.in-Ok.ensures.rows
-
-pub returns-in-Ok-clause-settled : goal.returns-in-Ok-clause-settled
-returns-in-Ok-clause-settled g c = flow-settled g.O.Operator c.args.plan.now c.args.context.now.row_limit c.args.n c.args.flow c.requires.flow c.in-Ok.ensures.within
-
-pub returns-in-Ok-clause-asked : goal.returns-in-Ok-clause-asked
-returns-in-Ok-clause-asked g c = asked-run g.C.StopCheck _ _ _ c.in-Ok.ensures.asked c.in-Ok.ensures.yes
-
-pub returns-in-Err-clause-err : goal.returns-in-Err-clause-err
-returns-in-Err-clause-err g c = rw c.plan_error.ensures (flow-halts g.O.Operator c.args.plan.now c.args.context.now.row_limit c.args.n c.args.flow c.requires.flow _ c.in-Err.ensures.over)
-
-pub returns-in-Err-clause-asked : goal.returns-in-Err-clause-asked
-returns-in-Err-clause-asked g c = asked-halted g.C.StopCheck _ _ _ _ c.plan_error.ensures c.in-Err.ensures.yes (λ s. c.in-Err.ensures.last (ap Err s))
-
-pub returns-in_err-schema-clause-err : goal.returns-in_err-schema-clause-err
-returns-in_err-schema-clause-err g c = ends_memory _ _ _ _ c.from_residual.ensures.1
-
-pub returns-in_err-schema-clause-asked : goal.returns-in_err-schema-clause-asked
-returns-in_err-schema-clause-asked g c = asked_none g.C.StopCheck _ _ c.from_residual.ensures.1
+pub returns-in_err-write_takings-clause-asked : goal.returns-in_err-write_takings-clause-asked
+returns-in_err-write_takings-clause-asked g c = asked_lost g.C.StopCheck _ _ _ _ c.from_residual-in_err-write_takings.ensures.1 c.in_ok-made.ensures.asked

@@ -1,6 +1,9 @@
 use denote.Param.Send.{sendable}
 use Rattle.pipe_physical.proofs.Crossing.{operator-send, operator-sync}
-use Rattle.std.proofs.Common.{sym, subst}
+use Rattle.std.proofs.Common.{◌≡◌, ◌++◌, suc, sym, subst}
+use Rattle.pipe_journal.specs.Runs.{FlowRun, IsRun, NodeRun, RunTo}
+use Rattle.pipe_eval.specs.Journals.{Writes, stages_in}
+use Rattle.pipe_eval.proofs.Written.{run-more, run-whole, writes-both}
 use Rattle.pipe_eval.specs.Flows.{IsFrameOf, IsSettled, IsUnder}
 use Rattle.pipe_eval.specs.Places.{AreReady}
 use Rattle.pipe_eval.specs.Words.{phys_words}
@@ -81,3 +84,15 @@ collect_flow-requires-send-O g c κs within = let s = c.type_bounds.send-H in le
 
 pub collect_flow-requires-sync-O : goal.collect_flow-requires-sync-O
 collect_flow-requires-sync-O g c κs within = let s = c.type_bounds.send-H in let y = c.type_bounds.sync-H in search (sendable, operator-sync)
+
+pub returns-clause-ran : goal.returns-clause-ran
+returns-clause-ran g c = λ none.
+    let plan = c.args.plan.now in
+    let workers = c.args.context.now.workers in
+    let is = c.root-root.ensures.root in
+    let old = c.args.journal.now.items in
+    let to_root = c.in_ok-places.ensures.ran none in
+    let own = subst (λ r. Writes (λ stages. NodeRun stages r (stages.stage r)) plan workers c.flows_below.new.journal.items c.next_flow.new.journal.items) is (c.in_ok-flow.ensures.ran none) in
+    let last = subst (λ r. Writes (λ stages. FlowRun stages r) plan workers c.next_flow.new.journal.items c.collect_flow.new.journal.items) is (c.in_ok-frame.ensures.ran none) in
+    let upto = writes-both plan workers (λ stages. RunTo stages plan.root) (λ stages. NodeRun stages plan.root (stages.stage plan.root)) (λ stages. RunTo stages (suc plan.root)) old _ _ (λ setting a b h k. run-more (stages_in plan setting) plan.root a b h k) to_root own in
+    writes-both plan workers (λ stages. RunTo stages (suc plan.root)) (λ stages. FlowRun stages plan.root) IsRun old _ _ (λ setting a b h k. run-whole (stages_in plan setting) a b h k) upto last

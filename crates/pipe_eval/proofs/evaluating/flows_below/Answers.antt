@@ -1,4 +1,7 @@
-use Rattle.std.proofs.Common.{◌≡◌, ◌++◌, ◌+◌, ◌∷◌, [], length, length-append, ap, sym, subst, ◌∙◌, arith}
+use Rattle.pipe_journal.specs.Runs.{NodeRun, RunTo}
+use Rattle.pipe_eval.specs.Journals.{Writes, stages_in}
+use Rattle.pipe_eval.proofs.Written.{run-more, writes-both, writes-none}
+use Rattle.std.proofs.Common.{refl, ◌≡◌, ◌++◌, ◌+◌, ◌∷◌, [], suc, length, length-append, ap, sym, subst, ◌∙◌, arith}
 use Rattle.std.proofs.lemmas.List.{with_items_is}
 use Rattle.pipe_eval.specs.Flows.{IsUnder}
 use Rattle.pipe_eval.specs.Places.{AreReady}
@@ -12,6 +15,7 @@ loop-n-init g c =
     record {
       size = ap length c.new-places.ensures.items;
       ready = ready-none phys_words c.args.context.now.row_limit c.args.plan.now c.new-places.result.items;
+      ran = λ none. writes-none c.args.plan.now c.args.context.now.workers (λ stages. RunTo stages 0) c.args.journal.now.items (λ setting w. refl);
       asked = asked-ok g.C.StopCheck _ _;
     }
 
@@ -42,9 +46,11 @@ loop-n-preserved g c =
     let ready = subst (AreReady phys_words limit plan n) (sym c.as_mut_slice.ensures.value) known.ready in
     let marked = c.requires.under n in
     let next = ready-next phys_words limit plan n old new made size ready c.in_ok-made.ensures.flow (λ u. c.in_ok-made.ensures.others (marked ∙ u)) (λ u. c.flow_under.ensures.same (marked ∙ u)) in
+    let later : suc n ≡ n + 1 = omega arith in
     record {
       size = omega (arith, ap length pushed, length-append new (made ∷ []), size);
       ready = subst (AreReady phys_words limit plan (n + 1)) (sym pushed) next;
+      ran = λ none. writes-both plan c.args.context.now.workers (λ stages. RunTo stages n) (λ stages. NodeRun stages n (stages.stage n)) (λ stages. RunTo stages (n + 1)) _ _ _ (λ setting a b h k. subst (λ m. RunTo (stages_in plan setting) m (a ++ b)) later (run-more (stages_in plan setting) n a b h k)) (known.ran none) (c.in_ok-made.ensures.ran none);
       asked = asked-made g.C.StopCheck _ _ _ _ (asked-then g.C.StopCheck _ _ _ _ _ known.asked c.in_ok-made.ensures.asked);
     }
 
@@ -68,3 +74,9 @@ returns-in_err-add_place-clause-err g c = ends_memory _ _ _ _ c.from_residual-in
 
 pub returns-in_err-add_place-clause-asked : goal.returns-in_err-add_place-clause-asked
 returns-in_err-add_place-clause-asked g c = asked_lost g.C.StopCheck _ _ _ _ c.from_residual-in_err-add_place.ensures.1 (asked-then g.C.StopCheck _ _ _ _ _ c.loop-n.invariant.asked c.in_ok-made.ensures.asked)
+
+pub returns-clause-ran : goal.returns-clause-ran
+returns-clause-ran g c = λ none.
+    let plan = c.args.plan.now in
+    let all : c.loop-n.n ≡ plan.root = omega (arith, c.loop-n-test.false, c.loop-n.auto.n-end, c.root-n-end.ensures.root) in
+    subst (λ k. Writes (λ stages. RunTo stages k) plan c.args.context.now.workers c.args.journal.now.items c.loop-n.journal.items) all (c.loop-n.invariant.ran none)

@@ -8,5 +8,5 @@ returns-then-height-context-clause-err g c = made-many c.args.context.now.row_li
 
 pub returns-clause-flow : goal.returns-clause-flow
 returns-clause-flow g c =
-    let alone = subst (λ t. IsAlone t c.in_ok-flow.flow.branches.items) c.in_ok-shared.ensures c.in_ok-flow.ensures.branches in
-    made-flow g.O.Operator c.args.context.now.row_limit c.args.plan.now c.args.n c.in_ok-flow.flow c.args.frame alone c.in_ok-flow.ensures.stages (omega (arith, c.if-height-context.false)) c.args.context.now.limit_in.1 c.requires.made
+    let alone = subst (λ t. IsAlone t c.args.n c.in_ok-flow.flow.branches.items) c.in_ok-shared.ensures c.in_ok-flow.ensures.branches in
+    made-flow g.O.Operator c.args.context.now.row_limit c.args.plan.now c.args.n c.in_ok-flow.flow c.args.frame alone c.in_ok-flow.ensures.stages (omega (arith, c.if-height-context.false)) c.args.context.now.limit_in.1 c.requires.made c.requires.begins

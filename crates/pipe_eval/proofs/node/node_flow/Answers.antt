@@ -1,4 +1,8 @@
-use Rattle.std.proofs.Common.{◌≡◌, [], ◌∷◌, ap, sym, subst, ◌∙◌}
+use Rattle.std.proofs.Common.{◌≡◌, [], ◌∷◌, refl, ap, sym, subst, ◌∙◌}
+use Rattle.pipe_journal.specs.Runs.{NodeRun}
+use Rattle.pipe_eval.specs.Journals.{Writes}
+use Rattle.pipe_eval.proofs.Begins.{quiet, runs_nothing}
+use Rattle.pipe_eval.proofs.Written.{writes-none}
 use Rattle.pipe_plan.specs.Node.{node_of}
 use Rattle.pipe_plan.specs.Under.{inputs_of}
 use Rattle.pipe_eval.specs.Flows.{IsFlowOf}
@@ -116,3 +120,36 @@ united-requires-send-O g c κs within = let s = c.type_bounds.send-H in let y = 
 
 pub united-requires-sync-O : goal.united-requires-sync-O
 united-requires-sync-O g c κs within = let s = c.type_bounds.send-H in let y = c.type_bounds.sync-H in search (sendable, operator-sync)
+
+pub returns-in_ok-scanned-in-DataFrameScan-clause-ran : goal.returns-in_ok-scanned-in-DataFrameScan-clause-ran
+returns-in_ok-scanned-in-DataFrameScan-clause-ran g c = λ none.
+    writes-none c.args.plan.now c.args.context.now.workers (λ stages. NodeRun stages c.args.n (stages.stage c.args.n)) _ (λ setting w. quiet c.args.plan.now c.args.n c.root.ensures.good c.requires.under setting _ refl (ap runs_nothing (sym c.numbered.ensures ∙ ap node_of c.in-DataFrameScan.is)))
+
+pub returns-in_ok-filtered-in-Filter-clause-ran : goal.returns-in_ok-filtered-in-Filter-clause-ran
+returns-in_ok-filtered-in-Filter-clause-ran g c = λ none.
+    writes-none c.args.plan.now c.args.context.now.workers (λ stages. NodeRun stages c.args.n (stages.stage c.args.n)) _ (λ setting w. quiet c.args.plan.now c.args.n c.root.ensures.good c.requires.under setting _ refl (ap runs_nothing (sym c.numbered.ensures ∙ ap node_of c.in-Filter.is)))
+
+pub returns-in_ok-cut_to_names-in-SimpleProjection-clause-ran : goal.returns-in_ok-cut_to_names-in-SimpleProjection-clause-ran
+returns-in_ok-cut_to_names-in-SimpleProjection-clause-ran g c = λ none.
+    writes-none c.args.plan.now c.args.context.now.workers (λ stages. NodeRun stages c.args.n (stages.stage c.args.n)) _ (λ setting w. quiet c.args.plan.now c.args.n c.root.ensures.good c.requires.under setting _ refl (ap runs_nothing (sym c.numbered.ensures ∙ ap node_of c.in-SimpleProjection.is)))
+
+pub returns-in_ok-projected-in-Select-clause-ran : goal.returns-in_ok-projected-in-Select-clause-ran
+returns-in_ok-projected-in-Select-clause-ran g c = λ none.
+    writes-none c.args.plan.now c.args.context.now.workers (λ stages. NodeRun stages c.args.n (stages.stage c.args.n)) _ (λ setting w. quiet c.args.plan.now c.args.n c.root.ensures.good c.requires.under setting _ refl (ap runs_nothing (sym c.numbered.ensures ∙ ap node_of c.in-Select.is)))
+
+pub returns-in_ok-extended-in-HStack-clause-ran : goal.returns-in_ok-extended-in-HStack-clause-ran
+returns-in_ok-extended-in-HStack-clause-ran g c = λ none.
+    writes-none c.args.plan.now c.args.context.now.workers (λ stages. NodeRun stages c.args.n (stages.stage c.args.n)) _ (λ setting w. quiet c.args.plan.now c.args.n c.root.ensures.good c.requires.under setting _ refl (ap runs_nothing (sym c.numbered.ensures ∙ ap node_of c.in-HStack.is)))
+
+pub returns-in_ok-by_function-in-MapFunction-clause-ran : goal.returns-in_ok-by_function-in-MapFunction-clause-ran
+returns-in_ok-by_function-in-MapFunction-clause-ran g c = λ none.
+    writes-none c.args.plan.now c.args.context.now.workers (λ stages. NodeRun stages c.args.n (stages.stage c.args.n)) _ (λ setting w. quiet c.args.plan.now c.args.n c.root.ensures.good c.requires.under setting _ refl (ap runs_nothing (sym c.numbered.ensures ∙ ap node_of c.in-MapFunction.is)))
+
+pub returns-in_ok-united-in-Union-clause-ran : goal.returns-in_ok-united-in-Union-clause-ran
+returns-in_ok-united-in-Union-clause-ran g c = λ none.
+    writes-none c.args.plan.now c.args.context.now.workers (λ stages. NodeRun stages c.args.n (stages.stage c.args.n)) _ (λ setting w. quiet c.args.plan.now c.args.n c.root.ensures.good c.requires.under setting _ refl (ap runs_nothing (sym c.numbered.ensures ∙ ap node_of c.in-Union.is)))
+
+pub returns-in_ok-joined-in-Join-clause-ran : goal.returns-in_ok-joined-in-Join-clause-ran
+returns-in_ok-joined-in-Join-clause-ran g c = λ none.
+    let plan = c.args.plan.now in
+    subst (λ m. Writes (λ stages. NodeRun stages m (stages.stage m)) plan c.args.context.now.workers c.args.journal.now.items c.joined.new.journal.items) c.new-node.ensures.inputs.0 (c.in_ok-joined-in-Join.ensures.ran none)

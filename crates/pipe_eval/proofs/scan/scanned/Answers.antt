@@ -2,6 +2,7 @@ use Rattle.std.proofs.Common.{[], ap}
 use Rattle.pipe_plan.specs.Plan.{plan_of}
 use Rattle.pipe_plan.specs.Under.{inputs_of}
 use Rattle.pipe_eval.proofs.Asked.{ends_memory, stops_memory}
+use Rattle.pipe_eval.proofs.Begins.{begins-scan}
 use Rattle.pipe_eval.proofs.Frames.{exact-made}
 use Rattle.pipe_eval.proofs.NodeRows.{scan-rows}
 use Rattle.pipe_eval.proofs.Settled.{settled}
@@ -23,3 +24,8 @@ returns-in_err-made-clause-err g c = ends_memory _ _ _ _ c.from_residual.ensures
 
 pub returns-in_err-made-clause-calm : goal.returns-in_err-made-clause-calm
 returns-in_err-made-clause-calm g c = stops_memory _ c.from_residual.ensures.1
+
+pub begin_flow-requires-clause-begins : goal.begin_flow-requires-clause-begins
+begin_flow-requires-clause-begins g c = λ κs lives none.
+    let own = begins-scan c.args.plan.now c.args.n c.root.ensures.good c.requires.under c.args.frame c.args.columns.now c.requires.is in
+    record { alone = own.0; supply = own.1 }
