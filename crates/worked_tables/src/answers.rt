@@ -2,9 +2,10 @@
 
 ghost use Rattle.worked_tables.specs.Sides.{AreSides};
 
-use crate::cases::{CASES, Case};
+use crate::cases::{Asked, CASES, Case};
 use crate::indexes::index_lines;
 use crate::joining::{slots_of_table, through_cross, through_table};
+use crate::placing::places_of_keys;
 use crate::sides::{Sides, join_at_root};
 use pipe_check::check_plan;
 use pipe_expr::JoinType;
@@ -17,15 +18,16 @@ use worked_builders::{BuiltPlan, plan_of};
 fn joined<H: KeyHasher>(
     alloc: Global,
     sides: Sides,
-    rows: Option<u32>,
+    asks: Asked,
     hasher: H,
 ) -> Result<String, AllocError>
     requires { AreSides sides }
 {
-    match rows {
-        None => slots_of_table(alloc, sides, hasher),
-        Some(0) => String::from_str(alloc, "pieces of no row"),
-        Some(rows) => match sides.spec.how {
+    match asks {
+        Asked::Slots => slots_of_table(alloc, sides, hasher),
+        Asked::Places => places_of_keys(alloc, sides),
+        Asked::Pieces(0) => String::from_str(alloc, "pieces of no row"),
+        Asked::Pieces(rows) => match sides.spec.how {
             JoinType::Cross => through_cross(alloc, sides, rows),
             _ => through_table(alloc, sides, rows, hasher),
         },
@@ -41,8 +43,8 @@ fn plan_text(alloc: Global, plan: &BuiltPlan, case: &Case) -> Result<String, All
     };
     match join_at_root(alloc, &checked)? {
         Some(sides) => match case.hash {
-            None => joined(alloc, sides, case.rows, Fnv),
-            Some(value) => joined(alloc, sides, case.rows, ConstHash { value }),
+            None => joined(alloc, sides, case.asks, Fnv),
+            Some(value) => joined(alloc, sides, case.asks, ConstHash { value }),
         },
         None => String::from_str(alloc, "no join of two scans"),
     }

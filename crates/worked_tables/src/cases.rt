@@ -5,12 +5,22 @@ use worked_builders::WrittenNode::{Join, Scan};
 use worked_builders::{INNER_ON_K, Operand, WrittenExpr, WrittenJoin, WrittenNode};
 use worked_columns::{INT, TEXT, WrittenColumn};
 
+/// What is asked of a join.
+#[derive(Clone, Copy)]
+pub(crate) enum Asked {
+    /// Its answers, of so many rows each.
+    Pieces(u32),
+    /// The index of the built side.
+    Slots,
+    /// Where the rows of each built key stand in a build of two builds.
+    Places,
+}
+
 /// A join and how it is worked out.
 pub(crate) struct Case {
     pub(crate) shows: &'static str,
     pub(crate) nodes: &'static [WrittenNode],
-    /// How many rows a piece has; none where the index of the built side is shown.
-    pub(crate) rows: Option<u32>,
+    pub(crate) asks: Asked,
     /// The one hash of all keys, none where they are hashed by FNV-1a.
     pub(crate) hash: Option<u64>,
 }
@@ -34,6 +44,11 @@ const KEEPING: WrittenJoin = WrittenJoin {
 const KEEPING_RIGHT_BUILT: WrittenJoin = WrittenJoin {
     coalesce: JoinCoalesce::KeepColumns,
     ..RIGHT_BUILT
+};
+
+const WITH_NULLS: WrittenJoin = WrittenJoin {
+    join_nulls: true,
+    ..INNER_ON_K
 };
 
 const LEFT_JOIN: WrittenJoin = WrittenJoin {
@@ -121,55 +136,55 @@ pub(crate) const CASES: &[Case] = &[
     Case {
         shows: "inner join",
         nodes: &[Scan(P_Q_R), Scan(S_T_U), Join(0, 1, INNER_ON_K)],
-        rows: Some(100),
+        asks: Asked::Pieces(100),
         hash: None,
     },
     Case {
         shows: "inner join, right side built",
         nodes: &[Scan(P_Q_R), Scan(S_T_U), Join(0, 1, RIGHT_BUILT)],
-        rows: Some(100),
+        asks: Asked::Pieces(100),
         hash: None,
     },
     Case {
         shows: "inner join, every key of hash 7",
         nodes: &[Scan(P_Q_R), Scan(S_T_U), Join(0, 1, INNER_ON_K)],
-        rows: Some(100),
+        asks: Asked::Pieces(100),
         hash: Some(7),
     },
     Case {
         shows: "inner join, every key of hash 0",
         nodes: &[Scan(P_Q_R), Scan(S_T_U), Join(0, 1, INNER_ON_K)],
-        rows: Some(100),
+        asks: Asked::Pieces(100),
         hash: Some(0),
     },
     Case {
         shows: "all columns kept, left side built",
         nodes: &[Scan(ONE), Scan(ONE), Join(0, 1, KEEPING)],
-        rows: Some(100),
+        asks: Asked::Pieces(100),
         hash: None,
     },
     Case {
         shows: "all columns kept, right side built",
         nodes: &[Scan(ONE), Scan(ONE), Join(0, 1, KEEPING_RIGHT_BUILT)],
-        rows: Some(100),
+        asks: Asked::Pieces(100),
         hash: None,
     },
     Case {
         shows: "left join",
         nodes: &[Scan(ONE_TWO_NULL), Scan(S_T), Join(0, 1, LEFT_JOIN)],
-        rows: Some(100),
+        asks: Asked::Pieces(100),
         hash: None,
     },
     Case {
         shows: "left join, every key of hash 0",
         nodes: &[Scan(ONE_TWO_NULL), Scan(S_T), Join(0, 1, LEFT_JOIN)],
-        rows: Some(100),
+        asks: Asked::Pieces(100),
         hash: Some(0),
     },
     Case {
         shows: "two keys",
         nodes: &[Scan(K_AND_M), Scan(K_AND_M), Join(0, 1, ON_K_AND_M)],
-        rows: Some(100),
+        asks: Asked::Pieces(100),
         hash: None,
     },
     Case {
@@ -179,37 +194,37 @@ pub(crate) const CASES: &[Case] = &[
             Scan(K_AND_M),
             Join(0, 1, ON_K_AND_M_WITH_NULLS),
         ],
-        rows: Some(100),
+        asks: Asked::Pieces(100),
         hash: None,
     },
     Case {
         shows: "no rows",
         nodes: &[Scan(NO_K), Scan(NO_K), Join(0, 1, INNER_ON_K)],
-        rows: Some(100),
+        asks: Asked::Pieces(100),
         hash: None,
     },
     Case {
         shows: "one row that meets five, two rows a piece",
         nodes: &[Scan(FIVE), Scan(ONE), Join(0, 1, INNER_ON_K)],
-        rows: Some(2),
+        asks: Asked::Pieces(2),
         hash: None,
     },
     Case {
         shows: "one row that meets five, five rows a piece",
         nodes: &[Scan(FIVE), Scan(ONE), Join(0, 1, INNER_ON_K)],
-        rows: Some(5),
+        asks: Asked::Pieces(5),
         hash: None,
     },
     Case {
         shows: "semi join",
         nodes: &[Scan(P_Q_R_S), Scan(ONES_AND_NULL), Join(0, 1, SEMI)],
-        rows: Some(100),
+        asks: Asked::Pieces(100),
         hash: None,
     },
     Case {
         shows: "anti join",
         nodes: &[Scan(P_Q_R_S), Scan(ONES_AND_NULL), Join(0, 1, ANTI)],
-        rows: Some(100),
+        asks: Asked::Pieces(100),
         hash: None,
     },
     Case {
@@ -219,7 +234,7 @@ pub(crate) const CASES: &[Case] = &[
             Scan(ONES_AND_NULL),
             Join(0, 1, SEMI_WITH_NULLS),
         ],
-        rows: Some(100),
+        asks: Asked::Pieces(100),
         hash: None,
     },
     Case {
@@ -229,43 +244,55 @@ pub(crate) const CASES: &[Case] = &[
             Scan(ONES_AND_NULL),
             Join(0, 1, ANTI_WITH_NULLS),
         ],
-        rows: Some(100),
+        asks: Asked::Pieces(100),
         hash: None,
     },
     Case {
         shows: "cross join, left side built, four rows a piece",
         nodes: &[Scan(A), Scan(B), Join(0, 1, CROSS)],
-        rows: Some(4),
+        asks: Asked::Pieces(4),
         hash: None,
     },
     Case {
         shows: "cross join, right side built, four rows a piece",
         nodes: &[Scan(A), Scan(B), Join(0, 1, CROSS_RIGHT_BUILT)],
-        rows: Some(4),
+        asks: Asked::Pieces(4),
         hash: None,
     },
     Case {
         shows: "cross join, six rows a piece",
         nodes: &[Scan(A), Scan(B), Join(0, 1, CROSS)],
-        rows: Some(6),
+        asks: Asked::Pieces(6),
         hash: None,
     },
     Case {
         shows: "cross join of no rows, left side built",
         nodes: &[Scan(NO_A), Scan(B), Join(0, 1, CROSS)],
-        rows: Some(4),
+        asks: Asked::Pieces(4),
         hash: None,
     },
     Case {
         shows: "cross join of no rows, right side built",
         nodes: &[Scan(NO_A), Scan(B), Join(0, 1, CROSS_RIGHT_BUILT)],
-        rows: Some(4),
+        asks: Asked::Pieces(4),
         hash: None,
     },
     Case {
         shows: "index of two keys of hash 3",
         nodes: &[Scan(ONE_TWO), Scan(ONE), Join(0, 1, INNER_ON_K)],
-        rows: None,
+        asks: Asked::Slots,
         hash: Some(3),
+    },
+    Case {
+        shows: "places of keys in a build and another one",
+        nodes: &[Scan(P_Q_R_S), Scan(ONE), Join(0, 1, INNER_ON_K)],
+        asks: Asked::Places,
+        hash: None,
+    },
+    Case {
+        shows: "places of keys in a build and another one, null matches null",
+        nodes: &[Scan(P_Q_R_S), Scan(ONE), Join(0, 1, WITH_NULLS)],
+        asks: Asked::Places,
+        hash: None,
     },
 ];

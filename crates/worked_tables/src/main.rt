@@ -5,6 +5,7 @@ mod answers;
 mod cases;
 mod indexes;
 mod joining;
+mod placing;
 mod sides;
 mod told;
 
