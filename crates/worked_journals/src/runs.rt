@@ -24,15 +24,7 @@ pub(crate) fn ran<R: Threads + Sync, G: Gate + Sync>(
         row_limit: 1000,
     };
     let mut stop = NeverStop::new();
-    run_plan(
-        rt,
-        alloc,
-        &plan.arena,
-        plan.root,
-        &config,
-        &mut stop,
-        gate,
-    )
+    run_plan(rt, alloc, &plan.arena, plan.root, &config, &mut stop, gate)
 }
 
 fn side_name(side: Side) -> &'static str {

@@ -53,7 +53,14 @@ fn tell_held<R: Threads + Sync>(
     answers: &mut String,
 ) -> Result<(), AllocError> {
     let gate = CountGate::new(true);
-    tell_entries(rt, alloc, answers, "eight rows, worker 0 held", EIGHT, &gate)?;
+    tell_entries(
+        rt,
+        alloc,
+        answers,
+        "eight rows, worker 0 held",
+        EIGHT,
+        &gate,
+    )?;
     let seven = gate.second() >= 7;
     answers.push_str(format!(in alloc; "worker 1 took seven: {seven}\n")?.as_str())
 }
