@@ -1,5 +1,6 @@
 pub mod PrefixLaw
 pub mod EntryOrder
+pub mod Runs
 pub mod RowBytes
 pub mod RowOrder
 pub mod SortedColumns
