@@ -10,15 +10,17 @@ use crate::join_words::{FunctionIR, RenamePair};
 use pipe_frame::{List, TryClone};
 use std::alloc::{AllocError, Global};
 
-/// An expression in a box, with the allocator of another.
-fn boxed(other: &Box<Expr>, expr: Expr) -> Result<Box<Expr>, AllocError>
-    ensures { IfOk result (λ b. b.value ≡ expr) }
+/// A copy of an expression in a box, by the same allocator.
+#[cycle(copies)]
+fn copied(other: &Box<Expr>) -> Result<Box<Expr>, AllocError>
+    ensures { IfOk result (λ copy. formula_of copy.value ≡ formula_of other.now.value) }
 {
-    Ok(Box::new(*Box::allocator(other), expr)?)
+    Ok(Box::new(*Box::allocator(other), other.try_clone()?)?)
 }
 
 impl Expr {
     /// A copy, which has the same formula.
+    #[cycle(copies)]
     pub fn try_clone(&self) -> Result<Expr, AllocError>
         ensures { IfOk result (λ copy. formula_of copy ≡ formula_of self.now) }
     {
@@ -28,29 +30,20 @@ impl Expr {
                 dtype: *dtype,
                 value: value.try_clone()?,
             }),
-            Expr::Add(a, b) => Ok(Expr::Add(boxed(a, a.try_clone()?)?, boxed(b, b.try_clone()?)?)),
-            Expr::Sub(a, b) => Ok(Expr::Sub(boxed(a, a.try_clone()?)?, boxed(b, b.try_clone()?)?)),
-            Expr::Mul(a, b) => Ok(Expr::Mul(boxed(a, a.try_clone()?)?, boxed(b, b.try_clone()?)?)),
-            Expr::Eq(a, b) => Ok(Expr::Eq(boxed(a, a.try_clone()?)?, boxed(b, b.try_clone()?)?)),
-            Expr::NotEq(a, b) => Ok(Expr::NotEq(
-                boxed(a, a.try_clone()?)?,
-                boxed(b, b.try_clone()?)?,
-            )),
-            Expr::Lt(a, b) => Ok(Expr::Lt(boxed(a, a.try_clone()?)?, boxed(b, b.try_clone()?)?)),
-            Expr::LtEq(a, b) => Ok(Expr::LtEq(
-                boxed(a, a.try_clone()?)?,
-                boxed(b, b.try_clone()?)?,
-            )),
-            Expr::Gt(a, b) => Ok(Expr::Gt(boxed(a, a.try_clone()?)?, boxed(b, b.try_clone()?)?)),
-            Expr::GtEq(a, b) => Ok(Expr::GtEq(
-                boxed(a, a.try_clone()?)?,
-                boxed(b, b.try_clone()?)?,
-            )),
-            Expr::And(a, b) => Ok(Expr::And(boxed(a, a.try_clone()?)?, boxed(b, b.try_clone()?)?)),
-            Expr::Or(a, b) => Ok(Expr::Or(boxed(a, a.try_clone()?)?, boxed(b, b.try_clone()?)?)),
-            Expr::Not(a) => Ok(Expr::Not(boxed(a, a.try_clone()?)?)),
-            Expr::IsNull(a) => Ok(Expr::IsNull(boxed(a, a.try_clone()?)?)),
-            Expr::IsNotNull(a) => Ok(Expr::IsNotNull(boxed(a, a.try_clone()?)?)),
+            Expr::Add(a, b) => Ok(Expr::Add(copied(a)?, copied(b)?)),
+            Expr::Sub(a, b) => Ok(Expr::Sub(copied(a)?, copied(b)?)),
+            Expr::Mul(a, b) => Ok(Expr::Mul(copied(a)?, copied(b)?)),
+            Expr::Eq(a, b) => Ok(Expr::Eq(copied(a)?, copied(b)?)),
+            Expr::NotEq(a, b) => Ok(Expr::NotEq(copied(a)?, copied(b)?)),
+            Expr::Lt(a, b) => Ok(Expr::Lt(copied(a)?, copied(b)?)),
+            Expr::LtEq(a, b) => Ok(Expr::LtEq(copied(a)?, copied(b)?)),
+            Expr::Gt(a, b) => Ok(Expr::Gt(copied(a)?, copied(b)?)),
+            Expr::GtEq(a, b) => Ok(Expr::GtEq(copied(a)?, copied(b)?)),
+            Expr::And(a, b) => Ok(Expr::And(copied(a)?, copied(b)?)),
+            Expr::Or(a, b) => Ok(Expr::Or(copied(a)?, copied(b)?)),
+            Expr::Not(a) => Ok(Expr::Not(copied(a)?)),
+            Expr::IsNull(a) => Ok(Expr::IsNull(copied(a)?)),
+            Expr::IsNotNull(a) => Ok(Expr::IsNotNull(copied(a)?)),
         }
     }
 }
