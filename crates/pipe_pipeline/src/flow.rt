@@ -18,6 +18,8 @@ pub struct Branch<O> {
     pub entering: Vec<Stage<O>>,
     /// How many stages end with it, the first ones: the chunks of later branches don't come to them.
     pub leaving: usize,
+    /// Whether the workers pass the gate before each chunk of it.
+    pub behind_gate: bool,
 }
 
 /// Branches one after another, and the stages that the rows of all of them go through in the end.
@@ -41,6 +43,7 @@ impl<O: Drop> Flow<O> {
             source,
             entering: Vec::new(alloc),
             leaving: 0,
+            behind_gate: true,
         })?;
         Ok(Flow {
             branches,
@@ -95,6 +98,7 @@ fn leaving_more<O: Drop>(branch: Branch<O>, count: usize) -> Result<Branch<O>, A
         source,
         entering,
         leaving,
+        behind_gate,
     } = branch;
     match leaving.checked_add(count) {
         Some(leaving) => Ok(Branch {
@@ -102,6 +106,7 @@ fn leaving_more<O: Drop>(branch: Branch<O>, count: usize) -> Result<Branch<O>, A
             source,
             entering,
             leaving,
+            behind_gate,
         }),
         None => Err(AllocError),
     }

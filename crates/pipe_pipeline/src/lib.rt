@@ -5,6 +5,7 @@
 mod branching;
 mod collecting;
 mod counting;
+mod entrance;
 mod flow;
 mod flowing;
 mod running;
