@@ -1,6 +1,7 @@
 mod AddSteps
 mod Pieces
 mod Takings
+mod Paces
 mod FlowSteps
 mod InOrder
 mod Nodes

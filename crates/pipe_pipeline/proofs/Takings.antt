@@ -158,7 +158,7 @@ module _ {O S K B C : Type 0} (op : OperatorWords O S) (sink : SinkWords K B C) 
 
     -- ---- lanes at their start took nothing
 
-    opened-none : (stages : List (Stage O)) (basin : Basin K) (i : ℕ) (lanes : List (Lane O K)) → All (IsOpened op sink stages basin) lanes → takings_from source i lanes ≡ []
+    pub opened-none : (stages : List (Stage O)) (basin : Basin K) (i : ℕ) (lanes : List (Lane O K)) → All (IsOpened op sink stages basin) lanes → takings_from source i lanes ≡ []
     opened-none stages basin i [] h = refl
     opened-none stages basin i (x ∷ lanes) h =
         let none : takings_in i source x.acts.items ≡ [] = ap (takings_in i source) (h 0 x (omega arith)).acts in

@@ -6,5 +6,7 @@ pub mod Given
 pub mod Branches
 -- what workers took of sources
 pub mod Taken
+-- how often workers take to a question of the stop check
+pub mod Paced
 -- the branches of a flow behind those of others
 pub mod Added

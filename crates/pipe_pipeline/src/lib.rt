@@ -16,5 +16,5 @@ pub use collecting::collect_frame;
 pub use flow::{Branch, Flow, add_flow};
 pub use flowing::run_flow;
 pub use running::run_pipeline;
-pub use shortened::{context_for, most_lanes};
+pub use shortened::context_for;
 pub use taking::Taking;

@@ -10,6 +10,7 @@ ghost use Rattle.pipe_lanes.specs.Halts.{stops};
 ghost use Rattle.pipe_lanes.specs.Through.{IsChain, AllServe};
 ghost use Rattle.pipe_rounds.specs.Rounds.{left_rows, schema_left, IsLeftOf};
 ghost use Rattle.pipe_pipeline.specs.Given.{given_more, AreFewWith, IsOverWith, sink_count, IsSinkOver};
+ghost use Rattle.pipe_pipeline.specs.Paced.{IsPaced};
 ghost use Rattle.pipe_pipeline.specs.Pipelines.{made_by, filled, AllFew, HaltsBy};
 ghost use Rattle.pipe_pipeline.specs.Taken.{AllTaken, IsWhole, Since};
 
@@ -98,6 +99,8 @@ pub fn run_pipeline<
         OnOk result (Same (K.held basin.new.sink) (K.held basin.old.sink ++ made)) }
     ensures taken { IsWhole (I.left source.old) → OnOk result (Since (AllTaken context.now node
         (length (left_rows (I.left source.old)))) takings.old.items takings.new.items) }
+    ensures paced { OnOk result (IsPaced context.now.workers (C.asked stop.old)
+        (C.asked stop.new) takings.old.items takings.new.items) }
     ensures within { OnOk result (AllFew O.Operator shared.now context.now.row_limit
         (schema_left (I.left source.old)) (left_rows (I.left source.old)) stages.old
         basin.old.given) }

@@ -1,9 +1,8 @@
 //! No more lanes than chunks.
 
-ghost use Rattle.std.specs.Prelude.{◌≡◌, ◌<◌, ◌≤◌};
+ghost use Rattle.std.specs.Prelude.{◌≡◌, ◌≤◌};
 ghost use Rattle.pipe_pipeline.specs.Pipelines.{HasLanesFor};
 
-use crate::flow::Flow;
 use pipe_frame::DataFrame;
 use pipe_ops::PExecutionContext;
 
@@ -21,16 +20,4 @@ pub fn context_for(context: &PExecutionContext, frame: &DataFrame) -> PExecution
         chunk_rows: context.chunk_rows,
         row_limit: context.row_limit,
     }
-}
-
-/// The most lanes that any branch of a flow is run by.
-pub fn most_lanes<O>(context: &PExecutionContext, flow: &Flow<O>) -> u32
-    ensures some { 0 < result }
-    ensures workers { result ≤ context.now.workers }
-{
-    let mut most = 1;
-    for branch in flow.branches.as_slice() {
-        most = most.max(context_for(context, &branch.frame).workers);
-    }
-    most
 }

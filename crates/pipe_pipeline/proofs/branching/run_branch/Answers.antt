@@ -2,6 +2,7 @@ use Rattle.std.proofs.Common.{◌≡◌, ◌+◌, ◌++◌, length, arith, ap, r
 use Rattle.std.proofs.lemmas.List.{with_items_is}
 use Rattle.pipe_lanes.proofs.Asked.{counts-none}
 use Rattle.pipe_pipeline.specs.Taken.{AllTaken}
+use Rattle.pipe_pipeline.proofs.Paces.{paced-under}
 use Rattle.pipe_pipeline.proofs.Takings.{since-under, taken-under}
 use Rattle.pipe_pipeline.proofs.branching.run_branch.Goals as goal
 
@@ -38,3 +39,7 @@ returns-in-Ok-split_off-clause-taken g c =
     let numbers = c.context_for-numbers.ensures in
     let taken = (rw (c.from_df-source.ensures, append-nil b.frame.rows) at c.in_default-run_pipeline.ensures.taken) (record { frame = _; only = refl; from_first = refl }) in
     since-under (AllTaken few b.source rows) (AllTaken c.args.context.now b.source rows) _ _ (λ ts h. taken-under few c.args.context.now b.source rows ts numbers.workers numbers.chunks h) taken
+
+pub returns-in-Ok-split_off-clause-paced : goal.returns-in-Ok-split_off-clause-paced
+returns-in-Ok-split_off-clause-paced g c =
+    paced-under c.context_for-numbers.result.workers c.args.context.now.workers _ _ _ _ c.context_for-numbers.ensures.workers c.in_default-run_pipeline.ensures.paced

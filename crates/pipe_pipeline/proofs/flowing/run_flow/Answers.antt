@@ -7,6 +7,7 @@ use Rattle.pipe_pipeline.specs.Branches.{entered, left_by, made_on, AllCanRun, A
 use Rattle.pipe_pipeline.specs.Pipelines.{HaltsBy}
 use Rattle.pipe_pipeline.proofs.InOrder.{few-on, halts-in, held-on, many-on, rises-on, room-on, turned}
 use Rattle.pipe_pipeline.proofs.Nodes.{counts-after}
+use Rattle.pipe_pipeline.proofs.Paces.{paced-both, paced-none}
 use Rattle.pipe_pipeline.proofs.Takings.{Goes-on, goes-first, goes-last, goes-next}
 use Rattle.pipe_pipeline.proofs.flowing.run_flow.Goals as goal
 
@@ -29,6 +30,7 @@ loop-branch-init g c =
       gives = refl;
       held = subst (λ (l : List Row). Same (l ++ made_in op s left first) (made_in op s all first)) (sym c.requires.empty) (subst (λ l. Same (made_in op s l first) (made_in op s all first)) (sym whole) (same-refl (made_in op s all first)));
       taken = subst (λ l. Goes-on c.args.context.now all c.args.takings.now.items l c.args.takings.now.items) (sym whole) (goes-first c.args.context.now all c.args.takings.now.items);
+      paced = paced-none c.args.context.now.workers (g.C.StopCheck.asked c.args.stop.now) c.args.takings.now.items;
       few = λ h. subst (λ l. AllFewIn op s limit l first 0) whole h;
       many = λ node h. subst (λ l. IsTooFullIn op s limit l first 0 c.args.node node) whole h;
       begun = inl whole;
@@ -89,6 +91,7 @@ loop-branch-preserved g c =
       gives = ran.gives ∙ known.gives;
       held = subst (λ l. Same (new ++ made_in op s rest l) (made_in op s all first)) (sym done.stages) (held-on old new made (made_in op s rest (left_by op s b stages)) (made_in op s all first) done.held held);
       taken = goes-next c.args.context.now all c.args.takings.now.items b rest c.loop-branch.takings.items _ (subst (λ l. Goes-on c.args.context.now all c.args.takings.now.items l c.loop-branch.takings.items) turn known.taken) done.taken;
+      paced = paced-both c.args.context.now.workers _ _ _ _ _ _ known.paced done.paced;
       few = λ h. few-on op s limit all first c.args.node b rest stages given now done.given few done.within (subst (λ l. AllFewIn op s limit rest l now) done.stages h);
       many = λ node h. many-on op s limit all first c.args.node b rest stages given now done.given many node (subst (λ l. IsTooFullIn op s limit rest l now c.args.node node) done.stages h);
       begun = inr rises;

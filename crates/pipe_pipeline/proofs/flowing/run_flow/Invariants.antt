@@ -2,6 +2,7 @@ use Rattle.std.proofs.Common.{◌≡◌, ◌⊎◌, ◌≤◌, ℕ, ◌++◌, le
 use Rattle.pipe_frame.specs.Counts.{Counts, Rises}
 use Rattle.pipe_frame.specs.Rows.{Same}
 use Rattle.pipe_pipeline.specs.Branches.{AllCanRun, AllFewIn, IsTooFullIn, made_in}
+use Rattle.pipe_pipeline.specs.Paced.{IsPaced}
 use Rattle.pipe_pipeline.proofs.Takings.{Goes-on}
 use Rattle.pipe_pipeline.proofs.flowing.run_flow.Given as goal
 
@@ -24,6 +25,7 @@ invariant-loop-branch g l =
       gives : sink.gives l.basin.sink ≡ sink.gives l.fn.sink;
       held : Same (sink.held l.basin.sink ++ made_in op s left l.stages.items) (made_in op s all first);
       taken : Goes-on l.context all l.fn.takings.items left l.takings.items;
+      paced : IsPaced l.context.workers (check.asked l.fn.stop) (check.asked l.stop) l.fn.takings.items l.takings.items;
       few : AllFewIn op s limit left l.stages.items l.basin.given → AllFewIn op s limit all first 0;
       many : (node : ℕ) → IsTooFullIn op s limit left l.stages.items l.basin.given l.node node → IsTooFullIn op s limit all first 0 l.node node;
       begun : (left ≡ all) ⊎ Rises (check.asked l.fn.stop) (check.asked l.stop);

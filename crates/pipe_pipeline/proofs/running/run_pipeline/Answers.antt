@@ -8,6 +8,7 @@ use Rattle.pipe_pipeline.specs.Given.{AreFewWith, given_more, sink_count}
 use Rattle.pipe_pipeline.specs.Pipelines.{made_by}
 use Rattle.pipe_pipeline.proofs.Nodes.{counted-by, counts-after, few-with, filled-by, halts-by, held-by, lanes-within, last-by, nodes-more, nodes-same, opened-length, rises-after, sink-over, sunk-by, within-more}
 use Rattle.pipe_pipeline.specs.Taken.{takings_from}
+use Rattle.pipe_pipeline.proofs.Paces.{rounds-paced}
 use Rattle.pipe_pipeline.proofs.Takings.{all-taken}
 use Rattle.pipe_pipeline.proofs.running.run_pipeline.Goals as goal
 
@@ -224,3 +225,9 @@ returns-in-Ok-gather-clause-taken g c = λ whole.
       is = rw (c.as_slice.ensures.value, back) at c.in-Ok-note_takings.ensures;
       holds = all-taken g.O.Operator g.K.Sink c.args.shared.now c.args.context.now.row_limit c.args.node c.args.context.now (omega (arith, c.args.context.now.rows_in)) c.args.stages.now c.args.basin.now _ _ rounds.batches _ _ c.in-Ok.lanes.items c.run_rounds.new.lanes whole opened.opened (omega (arith, opened.len, c.in-Ok.lanes.ok.0)) rounds.gave c.in_default-run_rounds.ensures.out rounds.dealt;
     }
+
+pub returns-in-Ok-gather-clause-paced : goal.returns-in-Ok-gather-clause-paced
+returns-in-Ok-gather-clause-paced g c =
+    let rounds = rw c.as_mut_slice.ensures.value at c.in_default-run_rounds.ensures.rounds in
+    let back = with_items_is c.in-Ok.lanes c.run_rounds.new.lanes (omega (arith, c.run_rounds.auto.lanes, ap length c.as_mut_slice.ensures.value, c.in-Ok.lanes.ok.0)) in
+    rounds-paced g.O.Operator g.K.Sink c.args.shared.now c.args.context.now.row_limit c.args.node c.args.context.now c.args.stages.now c.args.basin.now _ rounds.batches _ _ c.in-Ok.lanes.items c.run_rounds.new.lanes _ _ _ _ _ _ c.in-Ok.ensures.opened rounds.gave rounds.dealt (rw (c.as_slice.ensures.value, back) at c.in-Ok-note_takings.ensures) rounds.asked c.in-Ok-gather.ensures.asked
