@@ -1,6 +1,5 @@
 -- The first branch of some, and the last.
-use Rattle.std.proofs.Common.{◌≡◌, ◌+◌, ◌<◌, List, [], ◌∷◌, ◌++◌, length, Option, Some, get_or, set, refl, ap, sym, ◌∙◌, subst, arith}
-use Rattle.std.specs.Prelude.{option_to_list}
+use Rattle.std.proofs.Common.{◌≡◌, ◌<◌, List, [], ◌∷◌, ◌++◌, length, get_or, set, refl, ap, sym, arith}
 use Rattle.pipe_lanes.specs.declared.stage.Stage.{Stage}
 use Rattle.pipe_pipeline.specs.Added.{Enters}
 use Rattle.pipe_pipeline.specs.declared.flow.Branch.{Branch}

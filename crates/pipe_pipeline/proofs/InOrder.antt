@@ -1,5 +1,5 @@
 -- Branches one after another: what is left of them, with what was done, is all of them.
-use Rattle.std.proofs.Common.{◌≡◌, ◌⊎◌, inl, inr, ℕ, ◌+◌, ◌≤◌, List, [], ◌∷◌, ◌++◌, length, length-append, Option, Some, refl, ap, sym, ◌∙◌, subst, arith, reverse, append_assoc}
+use Rattle.std.proofs.Common.{◌≡◌, ◌⊎◌, inl, inr, ℕ, ◌+◌, ◌≤◌, List, [], ◌∷◌, ◌++◌, length, length-append, Some, ap, sym, ◌∙◌, subst, arith, reverse, append_assoc}
 use Rattle.std.proofs.lemmas.List.{reverse-append}
 use Rattle.std.specs.Prelude.{option_to_list}
 use Rattle.pipe_frame.specs.Counts.{Rises}
@@ -9,8 +9,8 @@ use Rattle.pipe_lanes.specs.declared.halt.Halt.{Halt}
 use Rattle.pipe_lanes.specs.declared.halt.Halt.TheVariants.{Stopped, Refused}
 use Rattle.pipe_lanes.specs.declared.stage.Refusal.TheVariants.{TooMany, Memory}
 use Rattle.pipe_lanes.specs.declared.stage.Stage.{Stage}
-use Rattle.pipe_lanes.proofs.Rows.{same-append, same-length, same-refl, same-trans, same-sym}
-use Rattle.pipe_pipeline.specs.Branches.{entered, left_by, made_on, made_in, AllFewIn, IsTooFullIn, HaltsIn}
+use Rattle.pipe_lanes.proofs.Rows.{same-append, same-length, same-refl, same-trans}
+use Rattle.pipe_pipeline.specs.Branches.{entered, left_by, made_on, AllFewIn, IsTooFullIn, HaltsIn}
 use Rattle.pipe_pipeline.specs.Pipelines.{AllFew, HaltsBy}
 use Rattle.pipe_pipeline.specs.declared.flow.Branch.{Branch}
 

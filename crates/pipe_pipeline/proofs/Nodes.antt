@@ -1,5 +1,5 @@
 -- How many rows come to each node of a pipeline, by the counts of lanes that began with none.
-use Rattle.std.proofs.Common.{◌≡◌, ℕ, suc, ◌+◌, ◌<◌, ◌≤◌, ◌⊎◌, inl, inr, List, [], ◌∷◌, ◌++◌, length, map, refl, ap, sym, ◌∙◌, subst, arith}
+use Rattle.std.proofs.Common.{◌≡◌, ℕ, suc, ◌+◌, ◌<◌, ◌≤◌, inl, inr, List, [], ◌∷◌, ◌++◌, length, map, refl, ap, sym, ◌∙◌, subst, arith}
 use Rattle.std.specs.List.{All, flat_map}
 use Rattle.pipe_frame.specs.Counts.{Counts, Rises}
 use Rattle.pipe_frame.specs.Rows.{Row, Same}
@@ -18,7 +18,7 @@ use Rattle.pipe_lanes.specs.declared.stage.Basin.{Basin}
 use Rattle.pipe_lanes.specs.declared.stage.Refusal.{Refusal}
 use Rattle.pipe_lanes.specs.declared.stage.Refusal.TheVariants.{TooMany, Memory}
 use Rattle.pipe_lanes.specs.declared.stage.Stage.{Stage}
-use Rattle.pipe_lanes.proofs.Rows.{same-append, same-length, same-refl, same-sym, same-through, same-trans, through-none}
+use Rattle.pipe_lanes.proofs.Rows.{same-append, same-length, same-refl, same-through, same-trans, through-none}
 use Rattle.pipe_rounds.specs.Rounds.{IsHaltOver}
 use Rattle.pipe_pipeline.specs.Given.{given_more, AreFewWith, IsOverWith, IsSinkOver, sink_count}
 use Rattle.pipe_pipeline.specs.Pipelines.{made_by, made_at, filled, AllFew, IsTooFull, RefusedBy, HaltsBy}

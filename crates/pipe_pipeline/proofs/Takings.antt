@@ -7,13 +7,13 @@ use Rattle.pipe_ops.specs.declared.context.PExecutionContext.{PExecutionContext}
 use Rattle.pipe_ops.specs.declared.operator.Operator.{Ghosts as OperatorWords}
 use Rattle.pipe_ops.specs.declared.sink.Sink.{Ghosts as SinkWords}
 use Rattle.pipe_ops.specs.declared.source.Morsel.{Morsel}
-use Rattle.pipe_words.specs.Sums.{total, SameItems}
+use Rattle.pipe_words.specs.Sums.{total}
 use Rattle.pipe_words.proofs.SumLemmas.{total-append}
 use Rattle.pipe_lanes.specs.declared.act.Act.{Act}
 use Rattle.pipe_lanes.specs.declared.lane.Lane.{Lane}
 use Rattle.pipe_lanes.specs.declared.stage.Basin.{Basin}
 use Rattle.pipe_lanes.specs.declared.stage.Stage.{Stage}
-use Rattle.pipe_lanes.specs.Claimed.{acts_at, acts_for}
+use Rattle.pipe_lanes.specs.Claimed.{acts_at}
 use Rattle.pipe_lanes.specs.Dealt.{AllTook, Dealt, in_all}
 use Rattle.pipe_lanes.specs.Opens.{IsOpened}
 use Rattle.pipe_rounds.specs.Rounds.{AllDealt, Gave, left_rows}

@@ -1,6 +1,4 @@
-use Rattle.std.proofs.Common.{◌≡◌, ◌+◌, ◌++◌, length, arith, ap, refl, sym, ◌∙◌, subst, append-nil}
-use Rattle.std.proofs.lemmas.List.{with_items_is}
-use Rattle.pipe_lanes.proofs.Asked.{counts-none}
+use Rattle.std.proofs.Common.{length, arith, refl, append-nil}
 use Rattle.pipe_pipeline.specs.Taken.{AllTaken}
 use Rattle.pipe_pipeline.proofs.Paces.{paced-under}
 use Rattle.pipe_pipeline.proofs.Takings.{since-under, taken-under}

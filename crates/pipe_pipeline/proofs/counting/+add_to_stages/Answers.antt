@@ -1,5 +1,4 @@
-use Rattle.std.proofs.Common.{◌+◌, arith, drop, get_or}
-use Rattle.pipe_lanes.specs.Dealt.{counts_in}
+use Rattle.std.proofs.Common.{arith}
 use Rattle.pipe_pipeline.proofs.AddSteps.{counted-from, first-few, first-given, first-over, later-over}
 use Rattle.pipe_pipeline.proofs.counting.+add_to_stages.Goals as goal
 
