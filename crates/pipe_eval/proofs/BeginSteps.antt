@@ -1,5 +1,5 @@
 -- Where the branches of flows begin, as flows are put together.
-use Rattle.std.proofs.Common.{◌≡◌, ℕ, true, false, cond, List, [], ◌∷◌, ◌++◌, length, map, refl, ap, sym, ◌∙◌, subst, append_assoc, append-nil}
+use Rattle.std.proofs.Common.{◌≡◌, ℕ, List, [], ◌∷◌, ◌++◌, length, map, refl, ap, sym, ◌∙◌, subst, append_assoc, append-nil}
 use Rattle.std.specs.List.{AllByRecursion, flat_map}
 use Rattle.pipe_lanes.proofs.Rows.{same-length}
 use Rattle.pipe_pipeline.specs.Added.{Enters, IsAdded, IsAlone, Leaves}
@@ -8,13 +8,13 @@ use Rattle.pipe_pipeline.specs.declared.flow.Flow.{Flow}
 use Rattle.pipe_frame.specs.Frame.{Table}
 use Rattle.pipe_check.specs.Checked.{Checked}
 use Rattle.pipe_eval.specs.Flows.{BeginsItself, IsMadeFor, rows_in}
-use Rattle.pipe_eval.specs.Journals.{BeginAt, HasSupply, NoneMarks, begins_in, source_of, supply_in}
+use Rattle.pipe_eval.specs.Journals.{BeginAt, HasSupply, begins_in, is_marking, source_of, supply_in}
 
 pub map-both : {A B : Type 0} (f : A → B) (xs ys : List A) → map f (xs ++ ys) ≡ map f xs ++ map f ys
 map-both f [] ys = refl
 map-both f (x ∷ xs) ys = ap (λ l. f x ∷ l) (map-both f xs ys)
 
-all-both : {A : Type 0} (P : A → Type 0) (xs ys : List A) → AllByRecursion P xs → AllByRecursion P ys → AllByRecursion P (xs ++ ys)
+pub all-both : {A : Type 0} (P : A → Type 0) (xs ys : List A) → AllByRecursion P xs → AllByRecursion P ys → AllByRecursion P (xs ++ ys)
 all-both P [] ys h k = k
 all-both P (x ∷ xs) ys h k = (h.0, all-both P xs ys h.1 k)
 
@@ -32,7 +32,7 @@ module _ {O : Type 0} (plan : Checked) where
   alone-begins limit n flow frame alone made own =
       let b = alone.branch in
       let long : length b.frame.rows ≡ length (rows_in plan n) = ap (λ (t : Table). length t.rows) alone.frame_is ∙ same-length made.frame_of.has_rows.same in
-      let supply : HasSupply plan b = long ∙ sym own.supply ∙ ap (supply_in plan) (sym alone.source_is) in
+      let supply : HasSupply plan b = λ plain. long ∙ sym (own.supply (ap (is_marking plan) (sym alone.source_is) ∙ plain)) ∙ ap (supply_in plan) (sym alone.source_is) in
       record {
         sources = ap (map source_of) alone.is ∙ ap (λ k. k ∷ []) alone.source_is ∙ sym own.alone;
         supplies = subst (AllByRecursion (HasSupply plan)) (sym alone.is) (supply, tt);
@@ -53,7 +53,7 @@ module _ {O : Type 0} (plan : Checked) where
   entered-supplies : (stages : _) (old new : List (Branch O)) → Enters stages old new → AllByRecursion (HasSupply plan) old → AllByRecursion (HasSupply plan) new
   entered-supplies stages old new h all =
       let was : AllByRecursion (HasSupply plan) (h.before ∷ h.rest) = subst (AllByRecursion (HasSupply plan)) h.was all in
-      let one : HasSupply plan h.after = ap (λ (t : Table). length t.rows) h.frame ∙ was.0 ∙ ap (supply_in plan) (sym h.source) in
+      let one : HasSupply plan h.after = λ plain. ap (λ (t : Table). length t.rows) h.frame ∙ was.0 (ap (is_marking plan) (sym h.source) ∙ plain) ∙ ap (supply_in plan) (sym h.source) in
       subst (AllByRecursion (HasSupply plan)) (sym h.is) (one, was.1)
 
   left-sources : (count : ℕ) (old new : List (Branch O)) → Leaves count old new → map source_of new ≡ map source_of old
@@ -69,7 +69,7 @@ module _ {O : Type 0} (plan : Checked) where
       let was : AllByRecursion (HasSupply plan) (h.rest ++ h.before ∷ []) = subst (AllByRecursion (HasSupply plan)) h.was all in
       let front = all-front (HasSupply plan) h.rest (h.before ∷ []) was in
       let back : AllByRecursion (HasSupply plan) (h.before ∷ []) = all-back (HasSupply plan) h.rest (h.before ∷ []) was in
-      let one : HasSupply plan h.after = ap (λ (t : Table). length t.rows) h.frame ∙ back.0 ∙ ap (supply_in plan) (sym h.source) in
+      let one : HasSupply plan h.after = λ plain. ap (λ (t : Table). length t.rows) h.frame ∙ back.0 (ap (is_marking plan) (sym h.source) ∙ plain) ∙ ap (supply_in plan) (sym h.source) in
       subst (AllByRecursion (HasSupply plan)) (sym h.is) (all-both (HasSupply plan) h.rest (h.after ∷ []) front (one, tt))
 
   -- the branches of some inputs so far begin where these do

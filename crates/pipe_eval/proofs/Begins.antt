@@ -1,37 +1,33 @@
 -- Where the rows of nodes begin, what is run at each, and the events of what workers took.
-use Rattle.std.proofs.Common.{◌≡◌, ℕ, zero, suc, ◌+◌, ◌<◌, ◌≤◌, Bool, true, false, cond, eqb, ◌||◌, List, [], ◌∷◌, ◌++◌, length, map, refl, ap, sym, ◌∙◌, subst, arith, ⊎_elim, append-nil}
+use Rattle.std.proofs.Common.{◌≡◌, ℕ, ◌+◌, ◌<◌, ◌≤◌, Bool, true, false, cond, List, [], ◌∷◌, ◌++◌, length, map, refl, ap, sym, ◌∙◌, subst, arith, ⊎_elim}
 use Rattle.std.specs.Prelude.{if◌then◌else◌}
 use Rattle.std.specs.List.{AllByRecursion, flat_map, range_with_len}
 use Rattle.std.proofs.lemmas.List.Concat.{flat_map-append}
-use Rattle.std.proofs.lemmas.Bool.{cases_lt, false≢true}
+use Rattle.std.proofs.lemmas.Bool.{cases_lt}
 use Rattle.pipe_frame.specs.Rows.{Row}
-use Rattle.pipe_frame.specs.Frame.{Table}
-use Rattle.pipe_frame.specs.declared.field.Field.{Field}
 use Rattle.pipe_expr.specs.Formula.{Formula}
 use Rattle.pipe_ops.specs.declared.context.PExecutionContext.{PExecutionContext}
-use Rattle.pipe_words.specs.Sums.{SameItems, one_at, times, total}
+use Rattle.pipe_words.specs.Sums.{one_at, times}
 use Rattle.pipe_words.proofs.OnceLemmas.{one_draw, no_draw}
 use Rattle.pipe_plan.specs.Walk.{walk}
 use Rattle.pipe_plan.specs.Node.{Node}
 use Rattle.pipe_plan.specs.Node as node
 use Rattle.pipe_plan.specs.Plan.{Plan, plan_of}
 use Rattle.pipe_plan.specs.Faults.{IsWellFormed}
-use Rattle.pipe_plan.specs.PlanRows.{scan_rows}
-use Rattle.pipe_plan.specs.Schemas.{frame_at, schema_of, schemas_to}
+use Rattle.pipe_plan.specs.Schemas.{schemas_to}
 use Rattle.pipe_plan.specs.Swap.{swaps}
 use Rattle.pipe_plan.specs.Under.{inputs_of, is_under, node_at}
 use Rattle.pipe_plan.specs.declared.ir.JoinOptions.{JoinOptions}
 use Rattle.pipe_plan.specs.declared.ir.SortOptions.{SortOptions}
-use Rattle.pipe_events.specs.Stages.{JoinStage, Stage, Stages, Scan, Each, Union, Sort, Joined, marks, marks_by, rows, rows_at, rows_to, stage_rows}
+use Rattle.pipe_events.specs.Stages.{Stage, Stages, Scan, Each, Union, Sort, Joined, flushes_by, marks_by, rows, rows_at, rows_to, stage_rows}
 use Rattle.pipe_events.specs.Worlds as worlds
 use Rattle.pipe_events.specs.Worlds.{OfBuild, OfSort, count}
-use Rattle.pipe_events.specs.PlanStages.{Setting, join_stage, stage_at, stage_of, stages_of}
+use Rattle.pipe_events.specs.PlanStages.{Setting, join_stage, stage_at, stage_of}
 use Rattle.pipe_events.proofs.PlanLemmas.{stages_have_rows}
-use Rattle.pipe_events.proofs.WalkLemmas.{walk_all}
 use Rattle.pipe_schedules.specs.Rounds.{Chunk, positions, takes}
-use Rattle.pipe_journal.specs.Runs.{AllMarkingRun, AreAllOf, FlowRun, InTwo, IsChunkOf, IsClose, IsRun, NodeRun, RunTo, SourcesTaken, begins, begins_at, begins_of, marking, marking_at, marking_of, supply, supply_of}
+use Rattle.pipe_journal.specs.Runs.{AreAllOf, FlowRun, InTwo, IsChunkOf, IsClose, NodeRun, SourceTaken, SourcesTaken, begins_at, begins_of, marking_at, marking_of, supply, supply_of}
 use Rattle.pipe_check.specs.Checked.{Checked}
-use Rattle.pipe_check.proofs.Walks.{itself, member, walk-at, walk-below}
+use Rattle.pipe_check.proofs.Walks.{member, walk-at, walk-below}
 use Rattle.pipe_convert.proofs.Granted.{Granted, granted}
 use Rattle.pipe_pipeline.specs.Taken as taken
 use Rattle.pipe_pipeline.specs.Taken.{AllTaken, IsPiece, TakenOf}
@@ -39,7 +35,7 @@ use Rattle.pipe_pipeline.specs.declared.flow.Branch.{Branch}
 use Rattle.pipe_pipeline.specs.declared.taking.Taking.{Taking}
 use Rattle.pipe_eval.proofs.Held.{first-member, later-member}
 use Rattle.pipe_eval.specs.Flows.{IsUnder, rows_in}
-use Rattle.pipe_eval.specs.Journals.{HasSupply, NoneMarks, any_setting, begins_in, source_of, stages_in, supply_in, taken_by, taken_events}
+use Rattle.pipe_eval.specs.Journals.{HasSupply, IsMarkingAt, any_setting, begins_in, is_marking, marking_in, marks_node, source_of, stages_in, supply_in, taken_by, taken_events, taken_in}
 
 -- ---- helpers
 
@@ -69,7 +65,7 @@ abbrev chunk_of : Taking → Chunk
 chunk_of taking = record { worker = taking.worker; from = taking.from; amount = taking.count }
 
 -- how often a number stands in a list
-times-count : (p : ℕ) (ns : List ℕ) → count p ns ≡ times p ns
+pub times-count : (p : ℕ) (ns : List ℕ) → count p ns ≡ times p ns
 times-count p [] = refl
 times-count p (n ∷ ns) = ap (λ k. one_at p n + k) (times-count p ns)
 
@@ -93,7 +89,42 @@ module _ (plan : Checked) (context : PExecutionContext) (setting : Setting) (wor
   supply-any n (Sort input sorted) e = rw e refl
   supply-any n (Joined j) e = rw e refl
 
-  module _ (source rows_there : ℕ) (there : rows_there ≡ supply_in plan source) where
+  -- a join that marks has no rows to be taken
+  marked-supply : (k : ℕ) → is_marking plan k ≡ true → supply run_stages k ≡ 0
+  marked-supply k m = here (is_under (plan_of plan.arena).nodes plan.root k) (node_at (plan_of plan.arena).nodes k) m
+    where
+      here : (b : Bool) (x : Node) → marks_node x ≡ true → supply_of run_stages k (if b then stage_of (plan_of plan.arena).frames (schemas_to (plan_of plan.arena) k) x else Union []) ≡ 0
+      here false x e = refl
+      here true (node.DataFrameScan frame columns) e = cc
+      here true (node.Filter i predicate) e = refl
+      here true (node.SimpleProjection i columns) e = refl
+      here true (node.Select i exprs) e = refl
+      here true (node.HStack i exprs) e = refl
+      here true (node.MapFunction i function) e = refl
+      here true (node.Union inputs) e = refl
+      here true (node.Join l r lo ro options) e = refl
+      here true (node.Sort i by options) e = cc
+
+  module _ (source rows_there : ℕ) where
+    -- nothing is written of the chunks of a join that marks
+    events-none : is_marking plan source ≡ true → (takings : List Taking) → AllByRecursion (IsPiece context source rows_there) takings → taken_events plan takings ≡ []
+    events-none m [] h = refl
+    events-none m (t ∷ ts) h =
+        let marked : is_marking plan t.source ≡ true = ap (is_marking plan) h.0.source_is ∙ m in
+        ap (λ b. cond b [] (taken_by t) ++ taken_events plan ts) marked ∙ events-none m ts h.1
+
+    none-taken : is_marking plan source ≡ true → (takings : List Taking) → AllTaken context source rows_there takings → SourceTaken run_stages source (taken_events plan takings)
+    none-taken m takings h = record {
+      chunks = [];
+      whole = events-none m takings h.pieces;
+      are_all = record {
+        each = tt;
+        once = λ p. (let none : count p [] ≡ 0 = refl in omega (arith, none));
+        all = λ p lt. absurd (let none = marked-supply source m in omega (arith, lt, none));
+      };
+    }
+
+  module _ (source rows_there : ℕ) (plain : is_marking plan source ≡ false) (there : rows_there ≡ supply_in plan source) where
     supply-is : rows_there ≡ supply run_stages source
     supply-is = there ∙ sym (supply-any source (run_stages.stage source) refl)
 
@@ -104,10 +135,12 @@ module _ (plan : Checked) (context : PExecutionContext) (setting : Setting) (wor
         let inside : t.from + t.count ≤ supply run_stages source = omega (arith, h.0.there, supply-is) in
         (record { is_worker = is_worker; some = h.0.some; there = inside }, chunks-of ts h.1)
 
-    events-of : (takings : List Taking) → AllByRecursion (IsPiece context source rows_there) takings → taken_events takings ≡ takes source (map chunk_of takings)
+    events-of : (takings : List Taking) → AllByRecursion (IsPiece context source rows_there) takings → taken_events plan takings ≡ takes source (map chunk_of takings)
     events-of [] h = refl
     events-of (t ∷ ts) h =
-        ap (λ s. worlds.Take t.worker s t.from t.count ∷ worlds.Done t.worker ∷ taken_events ts) h.0.source_is
+        let unmarked : is_marking plan t.source ≡ false = ap (is_marking plan) h.0.source_is ∙ plain in
+        ap (λ b. cond b [] (taken_by t) ++ taken_events plan ts) unmarked
+        ∙ ap (λ s. worlds.Take t.worker s t.from t.count ∷ worlds.Done t.worker ∷ taken_events plan ts) h.0.source_is
         ∙ ap (λ l. worlds.Take t.worker source t.from t.count ∷ worlds.Done t.worker ∷ l) (events-of ts h.1)
 
     all-of : (takings : List Taking) → AllTaken context source rows_there takings → AreAllOf run_stages source (map chunk_of takings)
@@ -120,18 +153,26 @@ module _ (plan : Checked) (context : PExecutionContext) (setting : Setting) (wor
           all = λ p lt. omega (arith, same p, one_draw rows_there p (omega (arith, lt, supply-is)));
         }
 
+    all-taken : (takings : List Taking) → AllTaken context source rows_there takings → SourceTaken run_stages source (taken_events plan takings)
+    all-taken takings h = record {
+      chunks = map chunk_of takings;
+      whole = events-of takings h.pieces;
+      are_all = all-of takings h;
+    }
+
+  -- what was taken of a branch
+  branch-taken : {O : Type 0} (branch : Branch O) (takings : List Taking) (b : Bool) → is_marking plan branch.source ≡ b → HasSupply plan branch → AllTaken context branch.source (length branch.frame.rows) takings → SourceTaken run_stages branch.source (taken_events plan takings)
+  branch-taken branch takings true m supply h = none-taken branch.source (length branch.frame.rows) m takings h
+  branch-taken branch takings false m supply h = all-taken branch.source (length branch.frame.rows) m (supply m) takings h
+
 -- Taken branches are taken sources
-pub sources-taken : {O : Type 0} (plan : Checked) (context : PExecutionContext) (setting : Setting) → setting.workers ≡ context.workers → (branches : List (Branch O)) (takings : List Taking) → AllByRecursion (HasSupply plan) branches → TakenOf context branches takings → SourcesTaken (stages_in plan setting) (map source_of branches) (taken_events takings)
-sources-taken plan context setting workers [] takings supplies h = ap taken_events h
+pub sources-taken : {O : Type 0} (plan : Checked) (context : PExecutionContext) (setting : Setting) → setting.workers ≡ context.workers → (branches : List (Branch O)) (takings : List Taking) → AllByRecursion (HasSupply plan) branches → TakenOf context branches takings → SourcesTaken (stages_in plan setting) (map source_of branches) (taken_events plan takings)
+sources-taken plan context setting workers [] takings supplies h = ap (taken_events plan) h
 sources-taken plan context setting workers (branch ∷ branches) takings supplies h = record {
-  first = taken_events h.first;
-  rest = taken_events h.second;
-  whole = ap taken_events h.is ∙ flat_map-append taken_by h.first h.second;
-  is_first = record {
-    chunks = map chunk_of h.first;
-    whole = events-of plan context setting workers branch.source (length branch.frame.rows) supplies.0 h.first h.first_holds.pieces;
-    are_all = all-of plan context setting workers branch.source (length branch.frame.rows) supplies.0 h.first h.first_holds;
-  };
+  first = taken_events plan h.first;
+  rest = taken_events plan h.second;
+  whole = ap (taken_events plan) h.is ∙ flat_map-append (taken_in plan) h.first h.second;
+  is_first = branch-taken plan context setting workers branch h.first (is_marking plan branch.source) refl supplies.0 h.first_holds;
   is_rest = sources-taken plan context setting workers branches h.second supplies.1 h.second_holds;
 }
 
@@ -170,6 +211,22 @@ module _ (plan : Checked) (n : ℕ) (good : IsWellFormed (plan_of plan.arena) pl
   supply-stage : (x : Node) → node_at own_plan.nodes n ≡ x → supply_in plan n ≡ supply_of any_stages n (stage_of own_plan.frames (schemas_to own_plan n) x)
   supply-stage x is = ap (supply_of any_stages n) (own-stage x is)
 
+  -- the marking joins on the way to the nodes below, and to this one
+  abbrev lower_marking : ℕ → List ℕ
+  lower_marking = walk [] (marking_at any_stages) n
+
+  marking-fed : (x : Node) (i : ℕ) → node_at own_plan.nodes n ≡ x → member i (inputs_of x) ≡ true → lower_marking i ≡ marking_in plan i
+  marking-fed x i is m =
+      let at : member i (inputs_of (node_at own_plan.nodes n)) ≡ true = ap (λ y. member i (inputs_of y)) is ∙ m in
+      let g = grants.fed i at in
+      walk-below [] (marking_at any_stages) n (length own_plan.nodes) i g.0 (omega (arith, g.0, grants.there))
+
+  own-marking : marking_in plan n ≡ marking_of lower_marking n (stage_at own_plan plan.root n)
+  own-marking = walk-at [] (marking_at any_stages) (length own_plan.nodes) n grants.there
+
+  marking-stage : (x : Node) → node_at own_plan.nodes n ≡ x → marking_in plan n ≡ marking_of lower_marking n (stage_of own_plan.frames (schemas_to own_plan n) x)
+  marking-stage x is = own-marking ∙ ap (marking_of lower_marking n) (own-stage x is)
+
   -- the rows of the stages are the node's
   rows-here : rows any_stages n ≡ rows_in plan n
   rows-here = stages_have_rows own_plan plan.root any_setting n under
@@ -204,22 +261,57 @@ module _ (plan : Checked) (n : ℕ) (good : IsWellFormed (plan_of plan.arena) pl
       let at = each-member x input op (sym (own-stage x refl) ∙ e) in
       own-begins ∙ ap (begins_of lower n) e ∙ fed x input refl at
 
-  all-fed : (xs : List ℕ) → ((i : ℕ) → member i xs ≡ true → lower i ≡ begins_in plan i) → flat_map lower xs ≡ flat_map (begins_in plan) xs
-  all-fed [] h = refl
-  all-fed (x ∷ xs) h =
-      let first : lower x ≡ begins_in plan x = h x (first-member x xs) in
-      rw (first, all-fed xs (λ i m. h i (later-member x i xs m))) refl
+  pub marking-each : (input : ℕ) (op : Row → List Row) → stage_at own_plan plan.root n ≡ Each input op → marking_in plan n ≡ marking_in plan input
+  marking-each input op e =
+      let x = node_at own_plan.nodes n in
+      let at = each-member x input op (sym (own-stage x refl) ∙ e) in
+      own-marking ∙ ap (marking_of lower_marking n) e ∙ marking-fed x input refl at
+
+  all-fed : (f g : ℕ → List ℕ) (xs : List ℕ) → ((i : ℕ) → member i xs ≡ true → f i ≡ g i) → flat_map f xs ≡ flat_map g xs
+  all-fed f g [] h = refl
+  all-fed f g (x ∷ xs) h =
+      let first : f x ≡ g x = h x (first-member x xs) in
+      rw (first, all-fed f g xs (λ i m. h i (later-member x i xs m))) refl
 
   pub begins-union : (inputs : List ℕ) → node_at own_plan.nodes n ≡ node.Union inputs → begins_in plan n ≡ flat_map (begins_in plan) inputs
-  begins-union inputs is = begins-stage (node.Union inputs) is ∙ all-fed inputs (λ i m. fed (node.Union inputs) i is m)
+  begins-union inputs is = begins-stage (node.Union inputs) is ∙ all-fed lower (begins_in plan) inputs (λ i m. fed (node.Union inputs) i is m)
 
-  pub begins-join : (left right : ℕ) (left_on right_on : List Formula) (options : JoinOptions) → node_at own_plan.nodes n ≡ node.Join left right left_on right_on options → NoneMarks plan → (marks_by options.how (swaps options) ≡ false) × (begins_in plan n ≡ begins_in plan (cond (swaps options) left right))
-  begins-join left right left_on right_on options is none =
+  pub marking-union : (inputs : List ℕ) → node_at own_plan.nodes n ≡ node.Union inputs → marking_in plan n ≡ flat_map (marking_in plan) inputs
+  marking-union inputs is = marking-stage (node.Union inputs) is ∙ all-fed lower_marking (marking_in plan) inputs (λ i m. marking-fed (node.Union inputs) i is m)
+
+  pub marking-scan : (frame : ℕ) (columns : _) → node_at own_plan.nodes n ≡ node.DataFrameScan frame columns → marking_in plan n ≡ []
+  marking-scan frame columns is = marking-stage (node.DataFrameScan frame columns) is
+
+  pub marking-sort : (input : ℕ) (by : List (List ℕ)) (options : SortOptions) → node_at own_plan.nodes n ≡ node.Sort input by options → marking_in plan n ≡ []
+  marking-sort input by options is = marking-stage (node.Sort input by options) is
+
+  probed-member : (left right : ℕ) (s : Bool) → member (cond s left right) (left ∷ right ∷ []) ≡ true
+  probed-member left right true = first-member left (right ∷ [])
+  probed-member left right false = later-member left right (right ∷ []) (first-member right [])
+
+  pub join-unmarked : (left right : ℕ) (left_on right_on : List Formula) (options : JoinOptions) → node_at own_plan.nodes n ≡ node.Join left right left_on right_on options → marks_by options.how (swaps options) ≡ false → (begins_in plan n ≡ begins_in plan (cond (swaps options) left right)) × (marking_in plan n ≡ marking_in plan (cond (swaps options) left right))
+  join-unmarked left right left_on right_on options is unmarked =
       let x = node.Join left right left_on right_on options in
-      let j = join_stage (schemas_to own_plan n) left right left_on right_on options in
-      let unmarked : marks j ≡ false = none n j (own-stage x is) in
-      let at : (s : Bool) → member (cond s left right) (left ∷ right ∷ []) ≡ true = elim [ true ↦ first-member left (right ∷ []) | false ↦ later-member left right (right ∷ []) (first-member right []) ] in
-      (unmarked, begins-stage x is ∙ ap (λ b. cond b (n ∷ []) (lower (cond (swaps options) left right))) unmarked ∙ fed x (cond (swaps options) left right) is (at (swaps options)))
+      let probed = cond (swaps options) left right in
+      let at = probed-member left right (swaps options) in (
+        begins-stage x is ∙ ap (λ b. cond b (n ∷ []) (lower probed)) unmarked ∙ fed x probed is at,
+        marking-stage x is ∙ ap (λ b. cond b (lower_marking probed ++ n ∷ []) (lower_marking probed)) unmarked ∙ marking-fed x probed is at,
+      )
+
+  pub join-marked : (left right : ℕ) (left_on right_on : List Formula) (options : JoinOptions) → node_at own_plan.nodes n ≡ node.Join left right left_on right_on options → marks_by options.how (swaps options) ≡ true → IsMarkingAt plan n (cond (swaps options) left right) (flushes_by options.how (swaps options))
+  join-marked left right left_on right_on options is marked =
+      let x = node.Join left right left_on right_on options in
+      let probed = cond (swaps options) left right in
+      let at = probed-member left right (swaps options) in
+      record {
+        alone = begins-stage x is ∙ ap (λ b. cond b (n ∷ []) (lower probed)) marked;
+        marking = marking-stage x is ∙ ap (λ b. cond b (lower_marking probed ++ n ∷ []) (lower_marking probed)) marked ∙ ap (λ l. l ++ n ∷ []) (marking-fed x probed is at);
+        marks = ap marks_node is ∙ marked;
+        join = join_stage (schemas_to own_plan n) left right left_on right_on options;
+        is_join = own-stage x is;
+        probe_is = refl;
+        flushes_is = refl;
+      }
 
   -- ---- what is run at a node
 
@@ -254,34 +346,3 @@ not-under plan setting n out =
     let own = plan_of plan.arena in
     let stage : stage_at own plan.root n ≡ Union [] = ap (λ b. if b then stage_of own.frames (schemas_to own n) (node_at own.nodes n) else Union []) out in
     subst (λ y. NodeRun (stages_in plan setting) n y []) (sym stage) refl
-
--- ---- where no join marks
-
-module _ (plan : Checked) (setting : Setting) (none : NoneMarks plan) where
-  abbrev all_stages : Stages
-  all_stages = stages_in plan setting
-
-  marking-stage : (at : ℕ → List ℕ) → ((m : ℕ) → at m ≡ []) → (k : ℕ) (x : Stage) → all_stages.stage k ≡ x → marking_of at k x ≡ []
-  marking-stage at h k (Scan list) e = refl
-  marking-stage at h k (Each input op) e = h input
-  marking-stage at h k (Union inputs) e = nothing inputs
-    where
-      nothing : (xs : List ℕ) → flat_map at xs ≡ []
-      nothing [] = refl
-      nothing (x ∷ xs) = rw (h x) (nothing xs)
-  marking-stage at h k (Sort input sorted) e = refl
-  marking-stage at h k (Joined j) e =
-      let unmarked : marks j ≡ false = none k j e in
-      ap (λ b. cond b (at j.probe ++ k ∷ []) (at j.probe)) unmarked ∙ h j.probe
-
-  pub none-marking : (n : ℕ) → marking all_stages n ≡ []
-  none-marking n = walk_all (λ m (x : List ℕ). x ≡ []) [] (marking_at all_stages) (λ m. refl) (λ k at h. marking-stage at h k (all_stages.stage k) refl) all_stages.size n
-
-  pub flow-run : (n : ℕ) (events : List worlds.Event) → SourcesTaken all_stages (begins all_stages n) events → FlowRun all_stages n events
-  flow-run n events h = record {
-    first = [];
-    rest = events;
-    whole = refl;
-    is_first = subst (λ ks. AllMarkingRun all_stages ks []) (sym (none-marking n)) refl;
-    is_rest = h;
-  }

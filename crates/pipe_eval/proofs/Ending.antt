@@ -123,5 +123,5 @@ module _ {O : Type 0} (op : OperatorWords O (Unit {0})) (plan : Checked) where
         ends = subst (EndAs op plan n h.from h.rows) (sym all) ends;
         settles = subst (λ l. AllByRecursion (IsSettled limit plan) h.below → AllFew op tt limit h.from h.rows l 0 → IsSettled limit plan n) (sym all) settles;
         in_order = λ sorts. not-both (is_sort (node_at (plan_of plan.arena).nodes n)) step.no_sort sorts;
-        begins = λ none. begins-again plan n input old.branches.items new.branches.items same (step.begins none) (h.begins none);
+        begins = begins-again plan n input old.branches.items new.branches.items same step.begins h.begins;
       }

@@ -15,7 +15,6 @@ use Rattle.pipe_plan.specs.Under.{node_at}
 use Rattle.pipe_check.specs.Checked.{Checked}
 use Rattle.pipe_convert.specs.Converted.{schema_in}
 use Rattle.pipe_eval.specs.Evaluated.{HasTooMany, is_sort}
-use Rattle.pipe_eval.specs.Journals.{NoneMarks}
 use Rattle.pipe_eval.specs.Flows.{AreOf, BeginsItself, EndAs, Give, IsBare, IsExact, IsFlowOf, IsFrameOf, IsMadeFor, IsSettled, IsUnder, rows_in}
 use Rattle.pipe_pipeline.specs.declared.flow.Branch.{Branch}
 use Rattle.pipe_pipeline.specs.declared.flow.Flow.{Flow}
@@ -87,7 +86,7 @@ give-alone {O = O} op limit plan b none stays few =
 
 module _ {O : Type 0} (op : OperatorWords O (Unit {0})) (limit : ℕ) (plan : Checked) (n : ℕ) where
   -- a frame alone is a flow
-  pub made-flow : (flow : Flow O) (frame : Table) → IsAlone frame n flow.branches.items → flow.stages.items ≡ [] → length frame.rows ≤ limit → limit ≤ 4294967294 → IsMadeFor limit plan n frame → (NoneMarks plan → BeginsItself plan n) → IsFlowOf op limit plan n flow
+  pub made-flow : (flow : Flow O) (frame : Table) → IsAlone frame n flow.branches.items → flow.stages.items ≡ [] → length frame.rows ≤ limit → limit ≤ 4294967294 → IsMadeFor limit plan n frame → BeginsItself plan n → IsFlowOf op limit plan n flow
   made-flow flow frame alone none few small made begins =
       let b = alone.branch in
       let h : IsMadeFor limit plan n b.frame = subst (IsMadeFor limit plan n) (sym alone.frame_is) made in
@@ -103,7 +102,7 @@ module _ {O : Type 0} (op : OperatorWords O (Unit {0})) (limit : ℕ) (plan : Ch
         ends = subst (EndAs op plan n b.frame.schema b.frame.rows) (sym none) here;
         settles = λ below all. h.settles (omega (arith, same-length h.frame_of.has_rows.same, short));
         in_order = λ sorts. record { bare = bare; exact = h.frame_of.has_rows.in_order sorts };
-        begins = λ unmarked. alone-begins plan limit n flow frame alone made (begins unmarked);
+        begins = alone-begins plan limit n flow frame alone made begins;
       }
 
   -- and a flow that is a frame alone has that frame

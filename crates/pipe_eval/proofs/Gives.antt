@@ -1,7 +1,6 @@
 -- The branches of a flow behind those of others give the rows of both.
-use Rattle.std.proofs.Common.{◌≡◌, ◌⊎◌, inl, inr, ℕ, ◌+◌, ◌<◌, ◌≤◌, false, List, [], ◌∷◌, ◌++◌, length, length-append, drop, refl, ap, sym, ◌∙◌, subst, arith}
-use Rattle.std.specs.List.{AllByRecursion, flat_map}
-use Rattle.pipe_frame.specs.Rows.{Row, Same}
+use Rattle.std.proofs.Common.{◌≡◌, ◌⊎◌, inl, inr, ℕ, ◌+◌, ◌≤◌, List, [], ◌∷◌, ◌++◌, length, length-append, drop, refl, ap, sym, ◌∙◌, subst, arith}
+use Rattle.pipe_frame.specs.Rows.{Row}
 use Rattle.pipe_frame.specs.declared.field.Field.{Field}
 use Rattle.pipe_ops.specs.declared.operator.Operator.{Ghosts as OperatorWords}
 use Rattle.pipe_lanes.specs.Counts.{operators_of}
@@ -17,7 +16,7 @@ use Rattle.pipe_plan.specs.Plan.{plan_of}
 use Rattle.pipe_check.specs.Checked.{Checked}
 use Rattle.pipe_convert.specs.Converted.{schema_in}
 use Rattle.pipe_eval.specs.Evaluated.{HasTooMany}
-use Rattle.pipe_eval.specs.Flows.{AreOf, EndAs, Give, IsFlowOf, IsSettled, rows_in}
+use Rattle.pipe_eval.specs.Flows.{EndAs, Give, IsFlowOf, IsSettled}
 use Rattle.pipe_eval.proofs.Branches.{few-back-of, few-entered, few-front-of, few-left, left-append, left-entered, left-left, made-append, made-entered, made-left, many-append, many-entered, many-left, runs-append, runs-entered, runs-left}
 use Rattle.pipe_eval.proofs.Ending.{ends-chain, ends-serve}
 use Rattle.pipe_eval.proofs.Filled.{chain-behind, chain-filled, few-added, few-back, few-front, filled-added, filled-behind, filled-length, made-added, made-behind, made-filled, made-first, made-none, many-added, many-more, serve-behind, serve-filled}
@@ -39,7 +38,7 @@ give-none {O = O} op limit plan from = record {
       ap (λ g. record st { given = g } ∷ stages) count
       ∙ ap (λ l. record st { given = st.given + 0 } ∷ l) (unchanged stages (op.output st.operator from))
 
-no-branch : {O : Type 0} {k : ℕ} {old : List (Branch O)} (bs closed : List (Branch O)) → Leaves k old closed → bs ++ closed ≡ [] → ⊥
+pub no-branch : {O : Type 0} {k : ℕ} {old : List (Branch O)} (bs closed : List (Branch O)) → Leaves k old closed → bs ++ closed ≡ [] → ⊥
 no-branch bs closed h e =
     let long = ap length e in
     let one = ap length h.is in

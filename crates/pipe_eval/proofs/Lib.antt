@@ -18,4 +18,10 @@ pub mod Shares
 pub mod Sides
 pub mod Steps
 pub mod Unions
-pub mod JoinRuns
+pub mod Courses
+pub mod CourseUnions
+pub mod Settles
+pub mod MarkRuns
+pub mod MarkJoins
+pub mod Turned
+pub mod Paces

@@ -1,8 +1,7 @@
 -- What the flows of a union's inputs give together is the union's.
-use Rattle.std.proofs.Common.{◌≡◌, ℕ, ◌≤◌, true, false, List, [], ◌∷◌, ◌++◌, length, refl, ap, sym, ◌∙◌, subst, arith}
+use Rattle.std.proofs.Common.{◌≡◌, ℕ, false, List, [], ◌∷◌, ◌++◌, refl, ap, sym, subst, arith}
 use Rattle.std.specs.List.{AllByRecursion, flat_map}
 use Rattle.pipe_frame.specs.Rows.{Row, Same}
-use Rattle.pipe_frame.specs.declared.field.Field.{Field}
 use Rattle.pipe_ops.specs.declared.operator.Operator.{Ghosts as OperatorWords}
 use Rattle.pipe_lanes.specs.declared.stage.Stage.{Stage}
 use Rattle.pipe_lanes.proofs.Rows.{same-length}
@@ -21,7 +20,6 @@ use Rattle.pipe_apply.proofs.SameRows.{same-refl, same-sym, same-append, piece-a
 use Rattle.pipe_eval.specs.Evaluated.{is_sort}
 use Rattle.pipe_eval.specs.Flows.{AreOf, EndAs, Give, IsFlowOf, IsSettled, IsUnder, rows_in}
 use Rattle.pipe_eval.proofs.Ending.{ends-same, not-both}
-use Rattle.pipe_eval.specs.Journals.{NoneMarks}
 use Rattle.pipe_eval.proofs.Begins.{begins-union}
 use Rattle.pipe_eval.proofs.BeginSteps.{BeginSoFar, begin-all, begin-more, begin-none}
 use Rattle.pipe_eval.proofs.Gives.{give-more, give-none}
@@ -35,7 +33,7 @@ pub record SoFar {O : Type 0} (op : OperatorWords O (Unit {0})) (limit : ℕ) (p
   pub give : Give op limit plan below (schema_in plan n) rows branches
   pub same : Same (rows ++ flat_map (rows_in plan) left) (flat_map (rows_in plan) inputs)
   pub settles : AllByRecursion (IsSettled limit plan) below → AllByRecursion (IsSettled limit plan) left → AllByRecursion (IsSettled limit plan) inputs
-  pub begin : NoneMarks plan → BeginSoFar plan inputs left branches
+  pub begin : BeginSoFar plan inputs left branches
 
 module _ (limit : ℕ) (plan : Checked) (n : ℕ) (good : IsWellFormed (plan_of plan.arena) plan.root) (under : IsUnder plan n) (inputs : List ℕ) (is : node_at (plan_of plan.arena).nodes n ≡ node.Union inputs) where
   pub union-once : repeats inputs ≡ false
@@ -59,7 +57,7 @@ module _ (limit : ℕ) (plan : Checked) (n : ℕ) (good : IsWellFormed (plan_of 
       give = subst (Give op limit plan [] (schema_in plan n) []) (sym none) (give-none op limit plan (schema_in plan n));
       same = same-refl (flat_map (rows_in plan) inputs);
       settles = λ h all. all;
-      begin = λ unmarked. begin-none plan inputs branches none;
+      begin = begin-none plan inputs branches none;
     }
 
     pub so-far-more : (x : ℕ) (rest : List ℕ) (old new : List (Branch O)) (flow : Flow O) → schema_in plan x ≡ schema_in plan n → IsFlowOf op limit plan x flow → IsAdded flow old new → SoFar op limit plan n inputs (x ∷ rest) old → SoFar op limit plan n inputs rest new
@@ -71,7 +69,7 @@ module _ (limit : ℕ) (plan : Checked) (n : ℕ) (good : IsWellFormed (plan_of 
           give = give-more op limit plan known.below (schema_in plan n) known.rows old new known.give x flow h schema added;
           same = union-step known.rows more x rest known.same (ends-same op plan x h.from h.rows flow.stages.items h.ends);
           settles = λ below left. known.settles below.1 (below.0, left);
-          begin = λ unmarked. begin-more plan inputs x rest old new flow (h.begins unmarked) added (known.begin unmarked);
+          begin = begin-more plan inputs x rest old new flow h.begins added known.begin;
         }
 
     pub union-flow : (flow : Flow O) (left : List ℕ) → left ≡ [] → (flow.branches.items ≡ [] → ⊥) → flow.stages.items ≡ [] → SoFar op limit plan n inputs left flow.branches.items → IsFlowOf op limit plan n flow
@@ -92,5 +90,5 @@ module _ (limit : ℕ) (plan : Checked) (n : ℕ) (good : IsWellFormed (plan_of 
               let within : AllFew op tt limit (schema_in plan n) rows [] 0 = subst (λ (l : List (Stage O)). AllFew op tt limit (schema_in plan n) rows l 0) none few in
               settled plan n good under limit inputs (ap inputs_of is) (known.settles below settled_all) (omega (arith, same-length own, within)));
           in_order = λ sorts. not-both (is_sort (node_at (plan_of plan.arena).nodes n)) (ap is_sort is) sorts;
-          begins = λ unmarked. begin-all plan n inputs left flow.branches.items done (begins-union plan n good under inputs is) (known.begin unmarked);
+          begins = begin-all plan n inputs left flow.branches.items done (begins-union plan n good under inputs is) known.begin;
         }

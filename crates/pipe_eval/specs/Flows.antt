@@ -22,8 +22,8 @@ use Rattle.pipe_probe.specs.Probed.{TakesProbed, shares_of}
 use Rattle.pipe_table.specs.declared.spec.JoinSpec.{JoinSpec}
 use Rattle.pipe_convert.specs.Converted.{schema_in}
 use Rattle.pipe_eval.specs.Evaluated.{AllWithin, HasRowsOf, HasTooMany, is_sort}
-use Rattle.pipe_eval.specs.Journals.{BeginAt, NoneMarks, begins_in, supply_in}
-use Rattle.pipe_events.specs.Stages.{marks_by}
+use Rattle.pipe_eval.specs.Journals.{BeginAt, IsMarkingAt, begins_in, is_marking, marking_in, supply_in}
+use Rattle.pipe_events.specs.Stages.{flushes_by, marks_by}
 
 -- the rows of a node of a checked plan
 abbrev pub rows_in : Checked → ℕ → List Row
@@ -88,7 +88,7 @@ pub record IsExact {O : Type 0} (limit : ℕ) (rows : List Row) (flow : Flow O) 
 
 -- a flow is that of a node: what its branches give ends as the node's rows; where no count of it is past
 -- the limit, all nodes under the node are within it; a sort's is a frame with the very rows; and its
--- branches are the scans and sorts where the node's rows begin
+-- branches are the scans, sorts and marking joins where the node's rows begin
 pub record IsFlowOf {O : Type 0} (op : OperatorWords O (Unit {0})) (limit : ℕ) (plan : Checked)
     (n : ℕ) (flow : Flow O) : Type 0 where
   pub below : List ℕ
@@ -101,7 +101,7 @@ pub record IsFlowOf {O : Type 0} (op : OperatorWords O (Unit {0})) (limit : ℕ)
       → AllFew op tt limit from rows flow.stages.items 0 → IsSettled limit plan n
   pub in_order : is_sort (node_at (plan_of plan.arena).nodes n) ≡ true
       → IsExact limit (rows_in plan n) flow
-  pub begins : NoneMarks plan → BeginAt plan n flow.branches.items
+  pub begins : BeginAt plan n flow.branches.items
 
 -- a frame is that of a node: its schema and its rows, in order where it is a sort
 pub record IsFrameOf (plan : Checked) (n : ℕ) (frame : Table) : Type 0 where
@@ -126,7 +126,7 @@ pub record IsStepOf {O : Type 0} (op : OperatorWords O (Unit {0})) (limit : ℕ)
   pub settles : IsSettled limit plan input → length (rows_in plan n) ≤ limit
       → IsSettled limit plan n
   pub no_sort : is_sort (node_at (plan_of plan.arena).nodes n) ≡ false
-  pub begins : NoneMarks plan → begins_in plan n ≡ begins_in plan input
+  pub begins : begins_in plan n ≡ begins_in plan input
 
 -- a join of two nodes is that of a node: its sides have their schemas, and it makes the node's rows of theirs
 pub record IsJoinOf (plan : Checked) (n left right : ℕ) (spec : JoinSpec) : Type 0 where
@@ -138,9 +138,12 @@ pub record IsJoinOf (plan : Checked) (n left right : ℕ) (spec : JoinSpec) : Ty
   pub gives_output : join_fields (settings_of spec) ≡ schema_in plan n
   pub makes : rows_in plan n ≡ join_rows (settings_of spec) (rows_in plan left) (rows_in plan right)
   pub no_sort : is_sort (node_at (plan_of plan.arena).nodes n) ≡ false
-  pub unmarked : NoneMarks plan → marks_by spec.how spec.swapped ≡ false
-  pub begins : NoneMarks plan
+  pub begins : marks_by spec.how spec.swapped ≡ false
       → begins_in plan n ≡ begins_in plan (if spec.swapped then left else right)
+  pub marking : marks_by spec.how spec.swapped ≡ false
+      → marking_in plan n ≡ marking_in plan (if spec.swapped then left else right)
+  pub marked : marks_by spec.how spec.swapped ≡ true
+      → IsMarkingAt plan n (if spec.swapped then left else right) (flushes_by spec.how spec.swapped)
 
 -- a join whose one side is built and whose other side is probed is that of a node, whatever order the built
 -- rows come in
@@ -154,9 +157,10 @@ pub record IsProbeOf (plan : Checked) (n built probed : ℕ) (spec : JoinSpec) :
   pub settles : (limit : ℕ) → IsSettled limit plan built → IsSettled limit plan probed
       → length (rows_in plan n) ≤ limit → IsSettled limit plan n
   pub no_sort : is_sort (node_at (plan_of plan.arena).nodes n) ≡ false
-  pub begins : NoneMarks plan → begins_in plan n ≡ begins_in plan probed
+  pub begins : begins_in plan n ≡ begins_in plan probed
+  pub marking : marking_in plan n ≡ marking_in plan probed
 
--- a node's rows begin at the node itself, all of them, where no join marks
+-- a node's rows begin at the node itself, all of them, if it isn't a join that marks
 pub record BeginsItself (plan : Checked) (n : ℕ) : Type 0 where
   pub alone : begins_in plan n ≡ n ∷ []
-  pub supply : supply_in plan n ≡ length (rows_in plan n)
+  pub supply : is_marking plan n ≡ false → supply_in plan n ≡ length (rows_in plan n)

@@ -4,7 +4,9 @@ pub mod Evaluated
 pub mod Journals
 -- the rows of a node, as a frame and stages
 pub mod Flows
--- flows of nodes, on the way to that of the root
+-- joins that mark, and the flow behind them
+pub mod Courses
+-- courses of nodes, on the way to that of the root
 pub mod Places
 -- the words of the operators of plans
 pub mod Words
@@ -14,5 +16,5 @@ pub mod Asked
 pub mod Halts
 -- the node that the parts of a join make
 pub mod JoinNodes
--- why there is no frame of a join's rows
-pub mod JoinEnds
+-- how often workers take to a question of the stop check
+pub mod Paced

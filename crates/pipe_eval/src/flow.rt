@@ -3,15 +3,18 @@
 ghost use Rattle.std.specs.Prelude.{◌≡◌, ◌∷◌, [], true, false, IfOk, IfErr};
 ghost use Rattle.pipe_pipeline.specs.declared.flow.Branch.{Branch};
 ghost use Rattle.pipe_plan.specs.Plan.{plan_of};
+ghost use Rattle.pipe_eval.specs.Courses.{IsCourseOf};
 ghost use Rattle.pipe_eval.specs.Evaluated.{EndsWith, stops};
-ghost use Rattle.pipe_eval.specs.Flows.{BeginsItself, IsBare, IsFlowOf, IsMadeFor};
-ghost use Rattle.pipe_eval.specs.Journals.{NoneMarks};
+ghost use Rattle.pipe_eval.specs.Flows.{BeginsItself, IsBare, IsMadeFor};
+ghost use Rattle.pipe_eval.specs.Journals.{marking_in};
 
+use crate::course::Course;
 use pipe_check::CheckedPlan;
 use pipe_frame::{DataFrame, TryClone};
 use pipe_ops::{Operator, PExecutionContext};
 use pipe_pipeline::Flow;
 use pipe_plan::PipeError;
+use pipe_rows::KeyHasher;
 use std::alloc::{AllocError, Global};
 
 /// Whether there is no item.
@@ -45,18 +48,19 @@ pub(crate) fn first_frame<O>(flow: &Flow<O>) -> Result<DataFrame, AllocError>
     flow.branches.as_slice()[0].frame.try_clone()
 }
 
-/// The flow of a frame that was made for a node, whose chunks share its memory. `TooMany` where the frame has more rows
+/// The course of a frame that was made for a node, whose chunks share its memory. `TooMany` where the frame has more rows
 /// than the limit.
-pub(crate) fn begin_flow<O: Operator<Shared = ()> + Drop>(
+pub(crate) fn begin_course<O: Operator<Shared = ()> + Drop, H: KeyHasher>(
     alloc: Global,
     plan: &CheckedPlan,
     context: &PExecutionContext,
     n: u32,
     frame: DataFrame,
-) -> Result<Flow<O>, PipeError>
+) -> Result<Course<O, H>, PipeError>
     requires made { IsMadeFor context.now.row_limit plan.now n frame }
-    requires begins { NoneMarks plan.now → BeginsItself plan.now n }
-    ensures flow { IfOk result (IsFlowOf O.Operator context.now.row_limit plan.now n) }
+    requires begins { BeginsItself plan.now n }
+    requires marking { marking_in plan.now n ≡ [] }
+    ensures course { IfOk result (IsCourseOf O.Operator context.now plan.now n) }
     ensures err { let root = plan.now.root in
         IfErr result (EndsWith context.now.row_limit (plan_of plan.now.arena) root) }
     ensures calm { stops result ≡ 0 }
@@ -66,5 +70,6 @@ pub(crate) fn begin_flow<O: Operator<Shared = ()> + Drop>(
         return Err(PipeError::TooMany(n));
     }
     let flow = Flow::new(alloc, frame.shared()?, n)?;
-    Ok(flow)
+    let marking = Vec::new(alloc);
+    Ok(Course { marking, flow })
 }

@@ -5,19 +5,21 @@
 #![tactic(auto)]
 
 mod collecting;
+mod course;
 mod evaluating;
+mod filling;
 mod flow;
-mod frame_join;
-mod full_frames;
-mod full_join;
 mod halts;
 mod join;
 mod journal;
+mod marking;
+mod marking_join;
 mod node;
 mod places;
 mod probe_join;
 mod row_by_row;
 mod scan;
+mod settling;
 mod sort;
 mod under;
 mod union;

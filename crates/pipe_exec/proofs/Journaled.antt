@@ -34,7 +34,7 @@ journaled plan hash_of workers rows old new some none fit same nothing ran setti
       parted = λ key. subst (λ part. part key < setting.parts) (sym is.part_is) (mod_below (hash_of (equality_row key)) setting.parts parts);
     } in
     let own : ran.own ≡ events_in new = sym (ran.is ∙ ap (λ l. events_in l ++ ran.own) nothing) in
-    let run = subst (IsRun stages) own (ran.holds setting is.workers_are) in
+    let run = subst (IsRun stages) own (ran.holds setting (is.workers_are, is.parts_are)) in
     let whole = runs_complete stages (are_stages p plan.root setting sound) (plans_trees p plan.root setting none) (events_in new) run in
     record {
       allowed = whole.0;

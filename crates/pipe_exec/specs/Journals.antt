@@ -1,8 +1,8 @@
 -- What the journal of a run is: a complete list of events of its plan.
-use Rattle.std.specs.Prelude.{◌≡◌, ℕ, List, false, map}
-use Rattle.pipe_events.specs.PlanStages.{Setting, stage_at, stages_of}
+use Rattle.std.specs.Prelude.{◌≡◌, ℕ, List, [], map}
+use Rattle.pipe_events.specs.PlanStages.{Setting, stages_of}
 use Rattle.pipe_events.specs.Schedules.{AllAllowed, IsComplete, run}
-use Rattle.pipe_events.specs.Stages.{JoinStage, Joined, Stages, marks}
+use Rattle.pipe_events.specs.Stages.{Stages}
 use Rattle.pipe_events.specs.Worlds as worlds
 use Rattle.pipe_events.specs.Worlds.{start}
 use Rattle.pipe_exec.specs.declared.answer.RunAnswer.{RunAnswer}
@@ -10,12 +10,7 @@ use Rattle.pipe_frame.specs.Rows.{Row, Same}
 use Rattle.pipe_plan.specs.Plan.{Plan}
 use Rattle.pipe_rows.specs.Partition.{IsPartitionCount, partition_of_key}
 use Rattle.pipe_world.specs.EventValues.{event_value}
-
--- no join under the root marks the keys that it probes: none is a full join, and of each semi and anti
--- join the right side is built
-abbrev pub NoneMarks : Plan → (root : ℕ) → Type 0
-NoneMarks plan root =
-    (k : ℕ) (j : JoinStage) → stage_at plan root k ≡ Joined j → marks j ≡ false
+use Rattle.pipe_eval.specs.Paced.{KeepsPace}
 
 -- a run by so many workers, with the partitions that a hash gives the keys
 pub record IsSettingOf (hash_of : List ℕ → ℕ) (workers : ℕ) (setting : Setting) : Type 0 where
@@ -37,3 +32,8 @@ HasJournal plan root hash_of workers answer =
     (setting : Setting) → IsSettingOf hash_of workers setting →
     IsWholeList (stages_of plan root setting) (map event_value answer.journal.events)
     answer.frame.rows
+
+-- the stop check was asked so many times, and so many workers took at most four times each a question
+abbrev pub KeptPace : (workers asked_old asked_new : ℕ) → RunAnswer → Type 0
+KeptPace workers asked_old asked_new answer =
+    KeepsPace workers asked_old asked_new [] answer.journal.events

@@ -6,7 +6,7 @@ ghost use Rattle.pipe_plan.specs.Plan.{plan_of};
 ghost use Rattle.pipe_plan.specs.Schemas.{schema_of};
 ghost use Rattle.pipe_eval.specs.Evaluated.{AllWithin, HasRowsOf, stops};
 ghost use Rattle.pipe_rows.specs.Fnv.{fnv1a};
-ghost use Rattle.pipe_exec.specs.Journals.{HasJournal, NoneMarks};
+ghost use Rattle.pipe_exec.specs.Journals.{HasJournal, KeptPace};
 ghost use Rattle.pipe_exec.specs.Runs.{IsMemory, RunCauses, Stays};
 ghost use Rattle.pipe_exec.specs.Sound.{IsSound};
 
@@ -22,8 +22,10 @@ use std::alloc::Global;
 use std::thread::Threads;
 
 /// The rows of a plan, by a hasher of the caller's own. The workers are threads: each takes chunks of rows through the
-/// plan's pipelines, one by one, behind the gate. The journal has what they took, and which sides were closed. First what `check_job` refuses is refused. Then `TooMany` where a
-/// node under the root has more rows than the limit; `Stopped` exactly where the stop check says yes; `Memory`.
+/// plan's pipelines, one by one, behind the gate, and flushes partitions of joins that mark, behind it too. The journal
+/// has what they took and flushed, and which sides were closed. To each question of the stop check they take at most
+/// four times each. First what `check_job` refuses is refused. Then `TooMany` where a node under the root has more rows
+/// than the limit; `Stopped` exactly where the stop check says yes; `Memory`.
 pub fn run_plan_with<R: Threads + Sync, H: KeyHasher, C: StopCheck, G: Gate + Sync>(
     rt: &R,
     alloc: Global,
@@ -39,8 +41,10 @@ pub fn run_plan_with<R: Threads + Sync, H: KeyHasher, C: StopCheck, G: Gate + Sy
     ensures schema { let plan = plan_of arena.now in
         IfOk result (λ answer. answer.frame.schema ≡ schema_of plan root) }
     ensures rows { IfOk result (λ answer. HasRowsOf (plan_of arena.now) root answer.frame.rows) }
-    ensures journal { NoneMarks (plan_of arena.now) root → IfOk result
+    ensures journal { IfOk result
         (HasJournal (plan_of arena.now) root (H.hash_of hasher) config.now.workers) }
+    ensures paced { IfOk result
+        (KeptPace config.now.workers (C.asked stop.old) (C.asked stop.new)) }
     ensures err { IfErr result (RunCauses (plan_of arena.now) root config.now) }
     ensures asked { OnOk result (Rises (C.asked stop.old) (C.asked stop.new)) }
     ensures yes { Counts (stops result) (C.yes stop.old) (C.yes stop.new) }
@@ -75,8 +79,10 @@ pub fn run_plan<R: Threads + Sync, C: StopCheck, G: Gate + Sync>(
     ensures schema { let plan = plan_of arena.now in
         IfOk result (λ answer. answer.frame.schema ≡ schema_of plan root) }
     ensures rows { IfOk result (λ answer. HasRowsOf (plan_of arena.now) root answer.frame.rows) }
-    ensures journal { NoneMarks (plan_of arena.now) root → IfOk result
+    ensures journal { IfOk result
         (HasJournal (plan_of arena.now) root fnv1a config.now.workers) }
+    ensures paced { IfOk result
+        (KeptPace config.now.workers (C.asked stop.old) (C.asked stop.new)) }
     ensures err { IfErr result (RunCauses (plan_of arena.now) root config.now) }
     ensures asked { OnOk result (Rises (C.asked stop.old) (C.asked stop.new)) }
     ensures yes { Counts (stops result) (C.yes stop.old) (C.yes stop.new) }

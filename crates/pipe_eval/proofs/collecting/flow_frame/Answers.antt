@@ -1,5 +1,5 @@
-use Rattle.std.proofs.Common.{◌≡◌, [], ◌∷◌, Err, ap, refl, sym, ◌∙◌, subst}
-use Rattle.pipe_eval.specs.Flows.{IsBare, IsFrameOf}
+use Rattle.std.proofs.Common.{Err, ap, sym, ◌∙◌, subst}
+use Rattle.pipe_eval.specs.Flows.{IsFrameOf}
 use Rattle.pipe_eval.proofs.Ending.{flow-can, flow-halts, flow-settled, flow-under}
 use Rattle.pipe_eval.proofs.Frames.{bare-frame, bare-settled, run-frame}
 use Rattle.pipe_eval.proofs.Asked.{asked-halted, asked-made, asked-run, asked_none, asked_passed, ends_memory, ends_passed}

@@ -1,6 +1,6 @@
-use Rattle.std.proofs.Common.{◌≡◌, Err, ap, sym, ◌∙◌}
+use Rattle.std.proofs.Common.{ap, sym, ◌∙◌}
 use Rattle.pipe_eval.proofs.Ending.{flow-can, flow-halts}
-use Rattle.pipe_eval.proofs.Asked.{asked-halted, asked-run, asked_none, ends_memory}
+use Rattle.pipe_eval.proofs.Asked.{asked-run}
 use Rattle.pipe_eval.proofs.collecting.passed_frame.Goals as goal
 
 pub run_flow-requires-clause-flows : goal.run_flow-requires-clause-flows

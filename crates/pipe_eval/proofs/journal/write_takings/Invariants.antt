@@ -4,5 +4,5 @@ use Rattle.pipe_eval.proofs.journal.write_takings.Given as goal
 
 abbrev pub invariant-loop-taking : goal.invariant-loop-taking
 invariant-loop-taking l =
-    events_in l.journal.items ++ taken_events (drop l.taking-index l.takings)
-    ≡ events_in l.fn.journal.items ++ taken_events l.takings
+    events_in l.journal.items ++ taken_events l.plan (drop l.taking-index l.takings)
+    ≡ events_in l.fn.journal.items ++ taken_events l.plan l.takings

@@ -1,0 +1,27 @@
+-- How often workers take to a question of the stop check, by what is written.
+use Rattle.std.specs.Prelude.{ℕ, ◌+◌, ◌*◌, ◌≤◌, List, [], ◌∷◌}
+use Rattle.pipe_frame.specs.Counts.{Counts}
+use Rattle.pipe_events.specs.Worlds as worlds
+use Rattle.pipe_world.specs.declared.event.Event.{Event}
+use Rattle.pipe_eval.specs.Journals.{events_in}
+
+-- 1 where a worker takes rows of a source
+abbrev pub takes_by : worlds.Event → ℕ
+takes_by (worlds.Take worker source from amount) = 1
+takes_by (worlds.Mark worker join key) = 0
+takes_by (worlds.Emit worker) = 0
+takes_by (worlds.Done worker) = 0
+takes_by (worlds.Close node side) = 0
+takes_by (worlds.Flush worker join part) = 0
+
+-- how often workers take, by some events
+abbrev pub takes_in : List worlds.Event → ℕ
+takes_in [] = 0
+takes_in (event ∷ events) = takes_by event + takes_in events
+
+-- since some events were written, the stop check was asked so many times, and so many workers took at most
+-- four times each a question
+pub record KeepsPace (workers asked_old asked_new : ℕ) (old new : List Event) : Type 0 where
+  pub questions : ℕ
+  pub asked : Counts questions asked_old asked_new
+  pub few : takes_in (events_in new) ≤ takes_in (events_in old) + 4 * workers * questions
