@@ -4,8 +4,8 @@
     journals.py [SEED] [PLANS]
 
 The play is written from the definitions of worlds and events alone. Each event of a journal has to be allowed where it
-stands, the list has to be complete, and the root has to have the rows that the run gives. Plans with a join that marks
-(a full join, a semi or anti join whose left side is built) are left out: their journals aren't complete yet.
+stands, the list has to be complete, and the root has to have the rows that the run gives. Many plans have joins that
+mark: full joins, and semi and anti joins whose left side is built.
 """
 
 import json
@@ -34,11 +34,7 @@ def main():
     given = [int(it) for it in sys.argv[1:]]
     seed, count = given + [1, 1000][len(given) :]
     rng = random.Random(seed)
-    plans = []
-    while len(plans) < count:
-        plan = Plan(rng)
-        if not any(it.kind == "join" and it.marks() for it in plan.nodes):
-            plans.append(plan)
+    plans = [Plan(rng) for _ in range(count)]
     jobs = [{**plan.job(), "chunk_rows": rng.randint(1, 3)} for plan in plans]
     told = Counter()
     for plan, job, lines in zip(plans, jobs, answers_of_program([json.dumps(it).encode() for it in jobs]), strict=True):
@@ -50,7 +46,9 @@ def main():
         if first != "complete" or sorted(map(json.dumps, rows)) != sorted(map(json.dumps, expected)):
             sys.exit(f"{first}, rows {rows} and {expected}: {events} {json.dumps(job)}")
         told[f"{plan.workers} workers"] += 1
+        told["with a join that marks"] += any(it.kind == "join" and it.marks() for it in plan.nodes)
         told["events"] += len(events)
+        told["flushes"] += sum(it[0] == "Flush" for it in events)
     print(f"{len(plans)} journals, all complete, with the rows of their runs: {dict(told)}")
 
 

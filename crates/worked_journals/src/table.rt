@@ -1,7 +1,7 @@
 //! The cases, in the order in which they are told.
 
 use crate::gates::CountGate;
-use crate::plans::{EIGHT, JOINED, NO_ROW};
+use crate::plans::{EIGHT, EIGHT_JOINED, PLANS};
 use crate::runs::{lines, ran, taken_by};
 use pipe_frame::OpenGate;
 use std::alloc::{AllocError, Global};
@@ -13,66 +13,85 @@ fn tell_journal<R: Threads + Sync>(
     rt: &R,
     alloc: Global,
     answers: &mut String,
-    shows: &str,
     nodes: &[WrittenNode],
 ) -> Result<(), AllocError> {
-    answers.push_str(shows)?;
-    answers.push_str("\n")?;
     match ran(rt, alloc, nodes, 1, 2, &OpenGate) {
         Ok(answer) => answers.push_str(lines(alloc, &answer)?.as_str()),
         Err(refusal) => answers.push_str(format!(in alloc; "{refusal}\n")?.as_str()),
     }
 }
 
-/// Whether each of two workers took as often as it entered a gate, in chunks of one row.
+/// Whether each of some workers took and flushed as often as it entered a gate, in chunks of one row.
 fn tell_entries<R: Threads + Sync>(
+    rt: &R,
+    alloc: Global,
+    answers: &mut String,
+    nodes: &[WrittenNode],
+    workers: u32,
+    gate: &CountGate,
+) -> Result<(), AllocError> {
+    let told = match ran(rt, alloc, nodes, workers, 1, gate) {
+        Ok(answer) => {
+            let mut entries = 0_u64;
+            let mut as_often = true;
+            for worker in 0..workers {
+                let came = gate.came(worker);
+                entries = entries.saturating_add(came);
+                as_often = as_often && taken_by(&answer, worker) == came;
+            }
+            format!(in alloc;
+                "{workers} workers: {entries} entries; as often as entered: {as_often}\n"
+            )?
+        }
+        Err(refusal) => format!(in alloc; "{workers} workers: {refusal}\n")?,
+    };
+    answers.push_str(told.as_str())
+}
+
+/// What a plan shows, its journal by one worker, and the entries of two workers and of three.
+fn tell_plan<R: Threads + Sync>(
     rt: &R,
     alloc: Global,
     answers: &mut String,
     shows: &str,
     nodes: &[WrittenNode],
-    gate: &CountGate,
 ) -> Result<(), AllocError> {
     answers.push_str(shows)?;
-    let told = match ran(rt, alloc, nodes, 2, 1, gate) {
-        Ok(answer) => {
-            let first = taken_by(&answer, 0) == gate.first();
-            let second = taken_by(&answer, 1) == gate.second();
-            let all = gate.first().saturating_add(gate.second());
-            format!(in alloc; ": {all} chunks; as often as entered: {first}, {second}\n")?
-        }
-        Err(refusal) => format!(in alloc; ": {refusal}\n")?,
-    };
-    answers.push_str(told.as_str())
+    answers.push_str("\n")?;
+    tell_journal(rt, alloc, answers, nodes)?;
+    tell_entries(rt, alloc, answers, nodes, 2, &CountGate::new(false))?;
+    tell_entries(rt, alloc, answers, nodes, 3, &CountGate::new(false))
 }
 
-/// A worker that is held at its first chunk, while the other takes the other seven of eight.
+/// A worker that is held at its first chunk of eight, while the other takes the other seven.
 fn tell_held<R: Threads + Sync>(
     rt: &R,
     alloc: Global,
     answers: &mut String,
+    shows: &str,
+    nodes: &[WrittenNode],
 ) -> Result<(), AllocError> {
+    answers.push_str(shows)?;
+    answers.push_str("\n")?;
     let gate = CountGate::new(true);
-    tell_entries(
-        rt,
-        alloc,
-        answers,
-        "eight rows, worker 0 held",
-        EIGHT,
-        &gate,
-    )?;
-    let seven = gate.second() >= 7;
+    tell_entries(rt, alloc, answers, nodes, 2, &gate)?;
+    let seven = gate.came(1) >= 7;
     answers.push_str(format!(in alloc; "worker 1 took seven: {seven}\n")?.as_str())
 }
 
 /// What each case shows, and its answer.
 pub(crate) fn answers<R: Threads + Sync>(rt: &R, alloc: Global) -> Result<String, AllocError> {
     let mut answers = String::new(alloc);
-    tell_journal(rt, alloc, &mut answers, "a scan of eight rows", EIGHT)?;
-    tell_journal(rt, alloc, &mut answers, "a scan without a row", NO_ROW)?;
-    tell_journal(rt, alloc, &mut answers, "a join in a union, sorted", JOINED)?;
-    let gate = CountGate::new(false);
-    tell_entries(rt, alloc, &mut answers, "the same", JOINED, &gate)?;
-    tell_held(rt, alloc, &mut answers)?;
+    for (shows, nodes) in PLANS {
+        tell_plan(rt, alloc, &mut answers, shows, nodes)?;
+    }
+    tell_held(rt, alloc, &mut answers, "eight rows, worker 0 held", EIGHT)?;
+    tell_held(
+        rt,
+        alloc,
+        &mut answers,
+        "eight probed rows of a full join, worker 0 held",
+        EIGHT_JOINED,
+    )?;
     Ok(answers)
 }
