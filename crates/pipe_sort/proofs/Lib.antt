@@ -1,4 +1,5 @@
 pub mod PrefixLaw
+pub mod Criteria
 pub mod EntryOrder
 pub mod Runs
 pub mod RowBytes
