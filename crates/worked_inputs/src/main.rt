@@ -3,9 +3,11 @@
 
 mod faults;
 mod length;
+mod many;
 mod prefixes;
 mod refused;
 mod table;
+mod unnoted;
 
 use std::io;
 

@@ -65,6 +65,31 @@ pub(crate) fn version_three<T: Threads + Sync>(rt: &T, alloc: Global) -> Result<
     )
 }
 
+/// A job of so many workers.
+pub(crate) fn workers<T: Threads + Sync>(
+    rt: &T,
+    alloc: Global,
+    workers: &'static str,
+) -> Result<Ended, AllocError> {
+    run_job(rt, alloc, JobText { workers, ..PAIRS })
+}
+
+/// A job of chunks of so many rows.
+pub(crate) fn chunk_rows<T: Threads + Sync>(
+    rt: &T,
+    alloc: Global,
+    chunk_rows: &'static str,
+) -> Result<Ended, AllocError> {
+    run_job(
+        rt,
+        alloc,
+        JobText {
+            chunk_rows,
+            ..PAIRS
+        },
+    )
+}
+
 pub(crate) fn text<T: Threads + Sync>(
     rt: &T,
     alloc: Global,

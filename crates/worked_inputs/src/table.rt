@@ -1,6 +1,6 @@
 //! The cases, in the order in which they are told.
 
-use crate::{faults, length, prefixes, refused};
+use crate::{faults, length, many, prefixes, refused, unnoted};
 use std::alloc::{AllocError, Global};
 use std::thread::Threads;
 use worked_runs::{tell, tell_length, tell_run};
@@ -23,7 +23,19 @@ fn tell_refused_jobs<T: Threads + Sync>(
         "unequal columns",
         refused::columns_of_unequal_length(rt, a)?,
     )?;
-    tell_run(a, answers, "version 3", refused::version_three(rt, a)?)
+    tell_run(a, answers, "version 3", refused::version_three(rt, a)?)?;
+    tell_run(
+        a,
+        answers,
+        "fewer workers than none",
+        refused::workers(rt, a, "-1")?,
+    )?;
+    tell_run(
+        a,
+        answers,
+        "chunks of a row and a half",
+        refused::chunk_rows(rt, a, "1.5")?,
+    )
 }
 
 fn tell_refused_texts<T: Threads + Sync>(
@@ -86,5 +98,8 @@ pub(crate) fn answers<T: Threads + Sync>(rt: &T, alloc: Global) -> Result<String
     tell_refused_jobs(rt, alloc, &mut answers)?;
     tell_refused_texts(rt, alloc, &mut answers)?;
     tell_faults(rt, alloc, &mut answers)?;
+    unnoted::tell_all(rt, alloc, &mut answers)?;
+    many::tell_under(rt, alloc, &mut answers, "1000000")?;
+    many::tell_under(rt, alloc, &mut answers, "999999")?;
     Ok(answers)
 }

@@ -21,6 +21,7 @@ const BACK: &str =
 #[derive(Clone, Copy)]
 pub struct JobText {
     pub version: &'static str,
+    pub workers: &'static str,
     pub chunk_rows: &'static str,
     pub row_limit: &'static str,
     pub left: &'static str,
@@ -32,6 +33,7 @@ pub struct JobText {
 /// Two keys match two keys, and the other keys none.
 pub const PAIRS: JobText = JobText {
     version: "1",
+    workers: "3",
     chunk_rows: "2",
     row_limit: "100",
     left: LEFT,
@@ -45,6 +47,7 @@ impl JobText {
     fn front(self, alloc: Global) -> Result<String, AllocError> {
         let JobText {
             version,
+            workers,
             chunk_rows,
             row_limit,
             left,
@@ -53,7 +56,7 @@ impl JobText {
             right_key: _,
         } = self;
         format!(in alloc;
-            "{{\"version\":{version},\"workers\":3,\"chunk_rows\":{chunk_rows},\"row_limit\":{row_limit},\"frames\":[{left},{right}],"
+            "{{\"version\":{version},\"workers\":{workers},\"chunk_rows\":{chunk_rows},\"row_limit\":{row_limit},\"frames\":[{left},{right}],"
         )
     }
 
@@ -61,6 +64,7 @@ impl JobText {
     fn keys(self, alloc: Global) -> Result<String, AllocError> {
         let JobText {
             version: _,
+            workers: _,
             chunk_rows: _,
             row_limit: _,
             left: _,

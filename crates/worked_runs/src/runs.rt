@@ -39,20 +39,20 @@ pub fn reader(alloc: Global, text: &str, failing: Option<u64>) -> Result<MemRead
     Ok(MemReader::new(standard, List::new(alloc), 400, failing))
 }
 
-/// Runs the program by these words under a stop check and behind a gate. It writes in pieces of 5 bytes, of which one
-/// may fail.
-pub fn run_behind<T: Threads + Sync, R: JobReader, C: StopCheck, G: Gate + Sync>(
+/// Runs the program by these words under a stop check and behind a gate, and takes its notes. It writes in pieces of
+/// 5 bytes, of which one may fail.
+fn run_noting<T: Threads + Sync, R: JobReader, C: StopCheck, G: Gate + Sync>(
     rt: &T,
     alloc: Global,
     words: &[&str],
     input: &mut R,
     failing: Option<u64>,
+    mut notes: MemWriter,
     stop: &mut C,
     gate: &G,
 ) -> Result<Ended, AllocError> {
     let words = words_of(alloc, words)?;
     let mut out = MemWriter::new(alloc, 5, at_most_one(alloc, failing)?);
-    let mut notes = MemWriter::new(alloc, 1000, List::new(alloc));
     let status = run_program(
         rt,
         alloc,
@@ -64,6 +64,41 @@ pub fn run_behind<T: Threads + Sync, R: JobReader, C: StopCheck, G: Gate + Sync>
         gate,
     );
     Ok(Ended { status, out, notes })
+}
+
+/// Runs the program by these words under a stop check and behind a gate. It writes in pieces of 5 bytes, of which one
+/// may fail.
+pub fn run_behind<T: Threads + Sync, R: JobReader, C: StopCheck, G: Gate + Sync>(
+    rt: &T,
+    alloc: Global,
+    words: &[&str],
+    input: &mut R,
+    failing: Option<u64>,
+    stop: &mut C,
+    gate: &G,
+) -> Result<Ended, AllocError> {
+    let notes = MemWriter::new(alloc, 1000, List::new(alloc));
+    run_noting(rt, alloc, words, input, failing, notes, stop, gate)
+}
+
+/// So many calls are made on notes that always fail, and no more.
+const MOST_NOTES: u64 = 8;
+
+/// Runs the program where each call on its notes fails.
+pub fn run_unnoted<T: Threads + Sync, R: JobReader, C: StopCheck>(
+    rt: &T,
+    alloc: Global,
+    words: &[&str],
+    input: &mut R,
+    failing: Option<u64>,
+    stop: &mut C,
+) -> Result<Ended, AllocError> {
+    let mut calls = List::new(alloc);
+    for call in 1..=MOST_NOTES {
+        calls.push(call)?;
+    }
+    let notes = MemWriter::new(alloc, 1000, calls);
+    run_noting(rt, alloc, words, input, failing, notes, stop, &OpenGate)
 }
 
 /// The same behind a gate that is always open.
