@@ -177,6 +177,8 @@ pub fn answer<T: Threads + Sync, C: StopCheck, G: Gate + Sync>(
 {
     let job = job_in(alloc, bytes)?;
     let frame = frame_of(rt, alloc, &job, stop, gate)?;
+    // the job's frames aren't held beside the text
+    drop(job);
     let text = text_of(alloc, &frame)?;
     Ok(text)
 }
