@@ -4,8 +4,9 @@
     journals.py [SEED] [PLANS]
 
 The play is written from the definitions of worlds and events alone. Each event of a journal has to be allowed where it
-stands, the list has to be complete, and the root has to have the rows that the run gives. Many plans have joins that
-mark: full joins, and semi and anti joins whose left side is built.
+stands, the list has to be complete, and the root has to have the rows that the run gives; no worker may take more rows
+at once than a chunk has, and all of them together no more than four times each to a question of the stop check. Many
+plans have joins that mark: full joins, and semi and anti joins whose left side is built.
 """
 
 import json
@@ -41,13 +42,19 @@ def main():
         if lines[0] != "ran":
             sys.exit(f"not run: {lines} {json.dumps(job)}")
         at = lines.index("rows")
-        events, rows = [json.loads(it) for it in lines[1:at]], [json.loads(it) for it in lines[at + 1 :]]
+        asked, *events = [json.loads(it) for it in lines[1:at]]
+        rows = [json.loads(it) for it in lines[at + 1 :]]
         first, expected = answer(plan, events)
         if first != "complete" or sorted(map(json.dumps, rows)) != sorted(map(json.dumps, expected)):
             sys.exit(f"{first}, rows {rows} and {expected}: {events} {json.dumps(job)}")
+        takes = [it for it in events if it[0] == "Take"]
+        if len(takes) > 4 * plan.workers * asked or any(it[4] > job["chunk_rows"] for it in takes):
+            sys.exit(f"{asked} questions: {takes} {json.dumps(job)}")
         told[f"{plan.workers} workers"] += 1
         told["with a join that marks"] += any(it.kind == "join" and it.marks() for it in plan.nodes)
         told["events"] += len(events)
+        told["takes"] += len(takes)
+        told["questions"] += asked
         told["flushes"] += sum(it[0] == "Flush" for it in events)
     print(f"{len(plans)} journals, all complete, with the rows of their runs: {dict(told)}")
 

@@ -1,16 +1,17 @@
 //! The answer to a job.
 
 use crate::written::event_line;
-use pipe_cli::{read_job, row_line};
 use pipe_exec::{RunAnswer, run_plan};
 use pipe_frame::{NeverStop, OpenGate};
+use pipe_job::{read_job, row_line};
 use std::alloc::{AllocError, Global};
 use std::thread::Threads;
 
-/// The lines of a run: its events, and its rows.
-fn lines_of(alloc: Global, answer: &RunAnswer) -> Result<Vec<u8>, AllocError> {
+/// The lines of a run: how often it asked its stop check, its events, and its rows.
+fn lines_of(alloc: Global, answer: &RunAnswer, asked: u64) -> Result<Vec<u8>, AllocError> {
     let mut lines = Vec::new(alloc);
     lines.extend_from_slice("ran\n".as_bytes())?;
+    lines.extend_from_slice(format!(in alloc; "{asked}\n")?.as_bytes())?;
     for event in answer.journal.events.as_slice() {
         lines.extend_from_slice(event_line(alloc, event)?.as_bytes())?;
     }
@@ -47,7 +48,7 @@ pub(crate) fn answer_to<T: Threads + Sync>(
         &mut stop,
         &OpenGate,
     ) {
-        Ok(answer) => lines_of(alloc, &answer),
+        Ok(answer) => lines_of(alloc, &answer, stop.asked()),
         Err(refusal) => told(alloc, format!(in alloc; "{refusal}\n")?.as_str()),
     }
 }

@@ -1,8 +1,9 @@
 //! Journals of jobs that are run, for comparisons.
 //!
 //! It reads jobs one after another, each behind a line with its length in bytes. For each it writes a line with the
-//! length of what follows, and then the line of why it isn't run, or `ran` and the events of its journal, each as the
-//! array of its name and its numbers, and behind a line `rows` the lines of its rows.
+//! length of what follows, and then the line of why it isn't run, or `ran`, how often the run asked its stop check, and
+//! the events of its journal, each as the array of its name and its numbers, and behind a line `rows` the lines of its
+//! rows.
 #![tactic(auto)]
 
 mod answer;
