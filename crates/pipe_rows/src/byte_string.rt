@@ -52,6 +52,20 @@ fn put_all_escaped(bytes: &[u8], descending: bool, i: usize, filler: &mut RowFil
     }
 }
 
+/// Writes some bytes, each 0 as 0, 255; at once where they stay as they are.
+#[tactic(auto, using(crate::proofs::OrderedLemmas::none_escaped))]
+fn put_escapes(bytes: &[u8], descending: bool, i: usize, filler: &mut RowFiller)
+    requires inside { i < length filler.old }
+    requires room { HasRoomAt filler.old i (directed_escapes descending bytes.now) }
+    ensures { filler.new ≡ appended_at filler.old i (directed_escapes descending bytes.now) }
+{
+    if !descending && count_zeros(bytes) == 0 {
+        filler.append(i, bytes);
+    } else {
+        put_all_escaped(bytes, descending, i, filler);
+    }
+}
+
 /// Writes the byte of a value and some bytes: each byte 0 as 0, 255, and at the end 0, 0.
 fn put_ended(bytes: &[u8], descending: bool, i: usize, filler: &mut RowFiller)
     requires inside { i < length filler.old }
@@ -60,7 +74,7 @@ fn put_ended(bytes: &[u8], descending: bool, i: usize, filler: &mut RowFiller)
 {
     let zero = directed(descending, 0);
     filler.append(i, &[VALUE]);
-    put_all_escaped(bytes, descending, i, filler);
+    put_escapes(bytes, descending, i, filler);
     filler.append(i, &[zero, zero]);
 }
 

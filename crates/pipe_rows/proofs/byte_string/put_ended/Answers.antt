@@ -10,7 +10,7 @@ pub returns : goal.returns
 returns c =
     let zero = c.directed-zero.result in
     let escaped = directed_bytes c.args.descending (flat_map escaped_byte c.args.bytes.now) in
-    append_twice c.args.filler.now c.put_all_escaped.new.filler c.append-2.new.self c.args.i (1 ∷ directed_bytes c.args.descending (flat_map escaped_byte c.args.bytes.now)) (c.directed-zero.result ∷ c.directed-zero.result ∷ []) c.requires.inside
-    (append_twice c.args.filler.now c.append.new.self c.put_all_escaped.new.filler c.args.i (1 ∷ []) (directed_bytes c.args.descending (flat_map escaped_byte c.args.bytes.now)) c.requires.inside c.append.ensures c.put_all_escaped.ensures)
+    append_twice c.args.filler.now c.put_escapes.new.filler c.append-2.new.self c.args.i (1 ∷ directed_bytes c.args.descending (flat_map escaped_byte c.args.bytes.now)) (c.directed-zero.result ∷ c.directed-zero.result ∷ []) c.requires.inside
+    (append_twice c.args.filler.now c.append.new.self c.put_escapes.new.filler c.args.i (1 ∷ []) (directed_bytes c.args.descending (flat_map escaped_byte c.args.bytes.now)) c.requires.inside c.append.ensures c.put_escapes.ensures)
     c.append-2.ensures
     ∙ ap (λ l. set c.args.filler.now c.args.i (appended (1 ∷ l) (open_row_at c.args.filler.now c.args.i))) (ended_last c.args.descending c.directed-zero.result c.args.bytes.now c.directed-zero.ensures)
