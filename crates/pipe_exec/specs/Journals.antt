@@ -33,7 +33,8 @@ HasJournal plan root hash_of workers answer =
     IsWholeList (stages_of plan root setting) (map event_value answer.journal.events)
     answer.frame.rows
 
--- the stop check was asked so many times, and so many workers took at most four times each a question
-abbrev pub KeptPace : (workers asked_old asked_new : ℕ) → RunAnswer → Type 0
-KeptPace workers asked_old asked_new answer =
-    KeepsPace workers asked_old asked_new [] answer.journal.events
+-- the stop check was asked so many times, so many workers took at most four times each a question, and each
+-- time some rows, at most so many
+abbrev pub KeptPace : (workers rows asked_old asked_new : ℕ) → RunAnswer → Type 0
+KeptPace workers rows asked_old asked_new answer =
+    KeepsPace workers rows asked_old asked_new [] answer.journal.events

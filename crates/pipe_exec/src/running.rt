@@ -24,7 +24,7 @@ use std::thread::Threads;
 /// The rows of a plan, by a hasher of the caller's own. The workers are threads: each takes chunks of rows through the
 /// plan's pipelines, one by one, behind the gate, and flushes partitions of joins that mark, behind it too. The journal
 /// has what they took and flushed, and which sides were closed. To each question of the stop check they take at most
-/// four times each. First what `check_job` refuses is refused. Then `TooMany` where a node under the root has more rows
+/// four chunks each. First what `check_job` refuses is refused. Then `TooMany` where a node under the root has more rows
 /// than the limit; `Stopped` exactly where the stop check says yes; `Memory`.
 pub fn run_plan_with<R: Threads + Sync, H: KeyHasher, C: StopCheck, G: Gate + Sync>(
     rt: &R,
@@ -43,8 +43,8 @@ pub fn run_plan_with<R: Threads + Sync, H: KeyHasher, C: StopCheck, G: Gate + Sy
     ensures rows { IfOk result (λ answer. HasRowsOf (plan_of arena.now) root answer.frame.rows) }
     ensures journal { IfOk result
         (HasJournal (plan_of arena.now) root (H.hash_of hasher) config.now.workers) }
-    ensures paced { IfOk result
-        (KeptPace config.now.workers (C.asked stop.old) (C.asked stop.new)) }
+    ensures paced { IfOk result (KeptPace config.now.workers config.now.chunk_rows
+        (C.asked stop.old) (C.asked stop.new)) }
     ensures err { IfErr result (RunCauses (plan_of arena.now) root config.now) }
     ensures asked { OnOk result (Rises (C.asked stop.old) (C.asked stop.new)) }
     ensures yes { Counts (stops result) (C.yes stop.old) (C.yes stop.new) }
@@ -81,8 +81,8 @@ pub fn run_plan<R: Threads + Sync, C: StopCheck, G: Gate + Sync>(
     ensures rows { IfOk result (λ answer. HasRowsOf (plan_of arena.now) root answer.frame.rows) }
     ensures journal { IfOk result
         (HasJournal (plan_of arena.now) root fnv1a config.now.workers) }
-    ensures paced { IfOk result
-        (KeptPace config.now.workers (C.asked stop.old) (C.asked stop.new)) }
+    ensures paced { IfOk result (KeptPace config.now.workers config.now.chunk_rows
+        (C.asked stop.old) (C.asked stop.new)) }
     ensures err { IfErr result (RunCauses (plan_of arena.now) root config.now) }
     ensures asked { OnOk result (Rises (C.asked stop.old) (C.asked stop.new)) }
     ensures yes { Counts (stops result) (C.yes stop.old) (C.yes stop.new) }

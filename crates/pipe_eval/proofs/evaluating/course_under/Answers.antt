@@ -23,4 +23,4 @@ returns-then-not-under-clause-ran g c =
     writes-none c.args.plan.now c.args.context.now.workers (λ stages. NodeRun stages c.args.n (stages.stage c.args.n)) _ (λ setting w. not-under c.args.plan.now setting c.args.n (c.requires.under ∙ c.if-not-under.true))
 
 pub returns-then-not-under-clause-paced : goal.returns-then-not-under-clause-paced
-returns-then-not-under-clause-paced g c = pace-none c.args.context.now.workers _ _
+returns-then-not-under-clause-paced g c = pace-none c.args.context.now.workers c.args.context.now.chunk_rows _ _

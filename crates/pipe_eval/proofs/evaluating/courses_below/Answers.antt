@@ -18,7 +18,7 @@ loop-n-init g c =
       ready = ready-none phys_words c.args.context.now c.args.plan.now c.new-places.result.items;
       ran = writes-none c.args.plan.now c.args.context.now.workers (λ stages. RunTo stages 0) c.args.journal.now.items (λ setting w. refl);
       asked = asked-ok g.C.StopCheck _ _;
-      paced = pace-none c.args.context.now.workers _ _;
+      paced = pace-none c.args.context.now.workers c.args.context.now.chunk_rows _ _;
     }
 
 pub course_under-requires-clause-under : goal.course_under-requires-clause-under
@@ -54,7 +54,7 @@ loop-n-preserved g c =
       ready = subst (AreReady phys_words context plan (n + 1)) (sym pushed) next;
       ran = writes-both plan c.args.context.now.workers (λ stages. RunTo stages n) (λ stages. NodeRun stages n (stages.stage n)) (λ stages. RunTo stages (n + 1)) _ _ _ (λ setting a b h k. subst (λ m. RunTo (stages_in plan setting) m (a ++ b)) later (run-more (stages_in plan setting) n a b h k)) known.ran c.in_ok-made.ensures.ran;
       asked = asked-made g.C.StopCheck _ _ _ _ (asked-then g.C.StopCheck _ _ _ _ _ known.asked c.in_ok-made.ensures.asked);
-      paced = pace-both c.args.context.now.workers _ _ _ _ _ _ known.paced c.in_ok-made.ensures.paced;
+      paced = pace-both c.args.context.now.workers c.args.context.now.chunk_rows _ _ _ _ _ _ known.paced c.in_ok-made.ensures.paced;
     }
 
 pub returns-clause-ready : goal.returns-clause-ready

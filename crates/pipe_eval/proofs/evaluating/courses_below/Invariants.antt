@@ -17,5 +17,5 @@ invariant-loop-n g l =
       ready : AreReady phys_words l.context l.plan l.n l.places.items;
       ran : Writes (λ stages. RunTo stages l.n) l.plan l.context.workers l.fn.journal.items l.journal.items;
       asked : WasAsked g.C.StopCheck l.fn.stop l.stop fine;
-      paced : KeepsPace l.context.workers (g.C.StopCheck.asked l.fn.stop) (g.C.StopCheck.asked l.stop) l.fn.journal.items l.journal.items;
+      paced : KeepsPace l.context.workers l.context.chunk_rows (g.C.StopCheck.asked l.fn.stop) (g.C.StopCheck.asked l.stop) l.fn.journal.items l.journal.items;
     }

@@ -101,4 +101,5 @@ returns-clause-ran g c =
 pub returns-clause-paced : goal.returns-clause-paced
 returns-clause-paced g c =
     let workers = c.args.context.now.workers in
-    pace-both workers _ _ _ _ _ _ c.in_ok-places.ensures.paced (pace-both workers _ _ _ _ _ _ c.in_ok-course.ensures.paced c.in_ok-frame.ensures.paced)
+    let rows = c.args.context.now.chunk_rows in
+    pace-both workers rows _ _ _ _ _ _ c.in_ok-places.ensures.paced (pace-both workers rows _ _ _ _ _ _ c.in_ok-course.ensures.paced c.in_ok-frame.ensures.paced)

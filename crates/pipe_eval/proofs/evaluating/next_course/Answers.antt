@@ -19,4 +19,4 @@ pub returns-in_err-course-clause-asked : goal.returns-in_err-course-clause-asked
 returns-in_err-course-clause-asked g c = asked-then g.C.StopCheck _ _ _ _ _ (asked-once g.C.StopCheck _ _ (tt {0}) c.should_stop.ensures.asked (rw c.if-should_stop.false at c.should_stop.ensures.yes)) (asked_passed g.C.StopCheck _ _ _ _ c.from_residual.ensures.1 c.in_err-course.ensures.asked)
 
 pub returns-clause-paced : goal.returns-clause-paced
-returns-clause-paced g c = pace-both c.args.context.now.workers _ _ _ _ _ _ (pace-once c.args.context.now.workers _ _ _ c.should_stop.ensures.asked) c.in_ok-course.ensures.paced
+returns-clause-paced g c = pace-both c.args.context.now.workers c.args.context.now.chunk_rows _ _ _ _ _ _ (pace-once c.args.context.now.workers c.args.context.now.chunk_rows _ _ _ c.should_stop.ensures.asked) c.in_ok-course.ensures.paced

@@ -156,25 +156,25 @@ returns-in_ok-joined-in-Join-clause-ran g c =
     subst (λ m. Writes (λ stages. NodeRun stages m (stages.stage m)) plan c.args.context.now.workers c.args.journal.now.items c.joined.new.journal.items) c.new-node.ensures.inputs.0 c.in_ok-joined-in-Join.ensures.ran
 
 pub returns-in_ok-scanned-in-DataFrameScan-clause-paced : goal.returns-in_ok-scanned-in-DataFrameScan-clause-paced
-returns-in_ok-scanned-in-DataFrameScan-clause-paced g c = pace-none c.args.context.now.workers _ _
+returns-in_ok-scanned-in-DataFrameScan-clause-paced g c = pace-none c.args.context.now.workers c.args.context.now.chunk_rows _ _
 
 pub returns-in_ok-filtered-in-Filter-clause-paced : goal.returns-in_ok-filtered-in-Filter-clause-paced
-returns-in_ok-filtered-in-Filter-clause-paced g c = pace-none c.args.context.now.workers _ _
+returns-in_ok-filtered-in-Filter-clause-paced g c = pace-none c.args.context.now.workers c.args.context.now.chunk_rows _ _
 
 pub returns-in_ok-cut_to_names-in-SimpleProjection-clause-paced : goal.returns-in_ok-cut_to_names-in-SimpleProjection-clause-paced
-returns-in_ok-cut_to_names-in-SimpleProjection-clause-paced g c = pace-none c.args.context.now.workers _ _
+returns-in_ok-cut_to_names-in-SimpleProjection-clause-paced g c = pace-none c.args.context.now.workers c.args.context.now.chunk_rows _ _
 
 pub returns-in_ok-projected-in-Select-clause-paced : goal.returns-in_ok-projected-in-Select-clause-paced
-returns-in_ok-projected-in-Select-clause-paced g c = pace-none c.args.context.now.workers _ _
+returns-in_ok-projected-in-Select-clause-paced g c = pace-none c.args.context.now.workers c.args.context.now.chunk_rows _ _
 
 pub returns-in_ok-extended-in-HStack-clause-paced : goal.returns-in_ok-extended-in-HStack-clause-paced
-returns-in_ok-extended-in-HStack-clause-paced g c = pace-none c.args.context.now.workers _ _
+returns-in_ok-extended-in-HStack-clause-paced g c = pace-none c.args.context.now.workers c.args.context.now.chunk_rows _ _
 
 pub returns-in_ok-by_function-in-MapFunction-clause-paced : goal.returns-in_ok-by_function-in-MapFunction-clause-paced
-returns-in_ok-by_function-in-MapFunction-clause-paced g c = pace-none c.args.context.now.workers _ _
+returns-in_ok-by_function-in-MapFunction-clause-paced g c = pace-none c.args.context.now.workers c.args.context.now.chunk_rows _ _
 
 pub returns-in_ok-united-in-Union-clause-paced : goal.returns-in_ok-united-in-Union-clause-paced
-returns-in_ok-united-in-Union-clause-paced g c = pace-none c.args.context.now.workers _ _
+returns-in_ok-united-in-Union-clause-paced g c = pace-none c.args.context.now.workers c.args.context.now.chunk_rows _ _
 
 pub returns-in_ok-joined-in-Join-clause-paced : goal.returns-in_ok-joined-in-Join-clause-paced
 returns-in_ok-joined-in-Join-clause-paced g c = c.in_ok-joined-in-Join.ensures.paced

@@ -48,6 +48,9 @@ returns-in_err-write_side-clause-asked g c = asked_lost g.C.StopCheck _ _ _ _ c.
 
 pub returns-clause-paced : goal.returns-clause-paced
 returns-clause-paced g c =
-    let workers = c.args.context.now.workers in
-    let taken = pace-closed c.args.plan.now workers _ _ _ c.sort_flow.new.takings.items c.args.n worlds.OfSort _ _ c.new-takings.ensures.items c.in_ok-made.ensures.paced (rw c.as_slice.ensures.value at c.in_ok-write_side.ensures) in
-    pace-both workers _ _ _ _ _ _ c.in_ok-flow.ensures.paced taken
+    let context = c.args.context.now in
+    let branches = c.in_ok-flow.flow.branches.items in
+    let takings = c.sort_flow.new.takings.items in
+    let all = since-none (TakenOf context branches) _ takings c.new-takings.ensures.items c.in_ok-made.ensures.taken in
+    let taken = pace-closed c.args.plan.now context branches _ _ _ takings c.args.n worlds.OfSort _ _ c.new-takings.ensures.items all c.in_ok-made.ensures.paced (rw c.as_slice.ensures.value at c.in_ok-write_side.ensures) in
+    pace-both context.workers context.chunk_rows _ _ _ _ _ _ c.in_ok-flow.ensures.paced taken

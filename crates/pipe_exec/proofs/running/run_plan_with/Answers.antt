@@ -36,7 +36,11 @@ returns-clause-paced g c =
     let a = asked c.args.stop.now in
     let b = asked c.evaluate.new.stop in
     let workers = c.args.config.now.workers in
+    let rows = c.args.config.now.chunk_rows in
+    let context = c.context_of-context.result in
     let events = c.evaluate.new.journal.items in
-    let ran = subst (λ (k : ℕ). KeepsPace k a b c.new-events.result.items events) c.context_of-context.ensures.workers c.in_ok-frame.ensures.paced in
-    let own = subst (λ (l : List Event). KeepsPace workers a b l events) c.new-events.ensures.items ran in
-    subst (λ (l : List Event). KeepsPace workers a b [] l) (sym c.from_vec.ensures) own
+    let nothing = c.new-events.result.items in
+    let cut = subst (λ (k : ℕ). KeepsPace context.workers k a b nothing events) c.context_of-context.ensures.rows c.in_ok-frame.ensures.paced in
+    let ran = subst (λ (k : ℕ). KeepsPace k rows a b nothing events) c.context_of-context.ensures.workers cut in
+    let own = subst (λ (l : List Event). KeepsPace workers rows a b l events) c.new-events.ensures.items ran in
+    subst (λ (l : List Event). KeepsPace workers rows a b [] l) (sym c.from_vec.ensures) own
