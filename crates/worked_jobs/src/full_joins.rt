@@ -114,7 +114,7 @@ const CHAINED: Case = Case {
 };
 
 const FULL_OF_NO_ROW: Case = Case {
-    shows: "a full join of no left row, the left side built",
+    shows: "a full join of no left row, the right side built",
     is_sorted: true,
     version: "1",
     limit: "1000000",
