@@ -62,6 +62,12 @@ fn with_a_failing_write<T: Threads + Sync>(
     run_words(rt, alloc, &["explain"], &mut input, Some(call))
 }
 
+/// The jobs, in the order in which they are told.
+const EXPLAINED: &[(&str, &str)] = &[
+    ("a scan, a filter and a sort, explained", FILTERED),
+    ("a full join over a union, explained", FULL_OVER_UNION),
+];
+
 /// The branches of some plans. A job of 720 bytes takes three reads in pieces of 400 bytes, the last of which finds
 /// the end, and its two lines of 59 bytes take twelve writes in pieces of 5 bytes.
 pub(crate) fn tell_explained<T: Threads + Sync>(
@@ -69,10 +75,7 @@ pub(crate) fn tell_explained<T: Threads + Sync>(
     a: Global,
     answers: &mut String,
 ) -> Result<(), AllocError> {
-    for (shows, text) in [
-        ("a scan, a filter and a sort, explained", FILTERED),
-        ("a full join over a union, explained", FULL_OVER_UNION),
-    ] {
+    for (shows, text) in EXPLAINED {
         tell_text(a, answers, shows, explain_text(rt, a, text)?)?;
     }
     for call in 1..5 {

@@ -34,7 +34,7 @@ const SCANNED: Parts = Parts {
     root: "0",
 };
 
-const FAULTY: [(&str, Parts); 20] = [
+const FAULTY: &[(&str, Parts)] = &[
     ("a scan alone", SCANNED),
     (
         "no worker",
@@ -204,7 +204,7 @@ pub(crate) fn tell_faulty<T: Threads + Sync>(
     answers: &mut String,
 ) -> Result<(), AllocError> {
     for (shows, parts) in FAULTY {
-        tell_each(rt, alloc, answers, shows, text_of(alloc, parts)?.as_str())?;
+        tell_each(rt, alloc, answers, shows, text_of(alloc, *parts)?.as_str())?;
     }
     Ok(())
 }

@@ -21,20 +21,26 @@ fn stopped<T: Threads + Sync>(rt: &T, alloc: Global) -> Result<Ended, AllocError
 }
 
 /// Words that are no self-test.
+const BAD_WORDS: &[(&str, &[&str])] = &[
+    ("a self-test of no row", &["selftest", "1", "0"]),
+    (
+        "a self-test of too many rows",
+        &["selftest", "1", "1000001"],
+    ),
+    (
+        "a self-test whose start has a sign",
+        &["selftest", "+1", "1"],
+    ),
+];
+
+/// How the program ends by words that are no self-test.
 fn tell_bad_words<T: Threads + Sync>(
     rt: &T,
     a: Global,
     answers: &mut String,
 ) -> Result<(), AllocError> {
-    for (shows, test) in [
-        ("a self-test of no row", ["selftest", "1", "0"]),
-        ("a self-test of too many rows", ["selftest", "1", "1000001"]),
-        (
-            "a self-test whose start has a sign",
-            ["selftest", "+1", "1"],
-        ),
-    ] {
-        tell_text(a, answers, shows, words(rt, a, &test)?)?;
+    for (shows, test) in BAD_WORDS {
+        tell_text(a, answers, shows, words(rt, a, test)?)?;
     }
     let shows = "a self-test without rows";
     tell_text(a, answers, shows, words(rt, a, &["selftest", "1"])?)

@@ -83,6 +83,4 @@ const ANTI_NULLS_RIGHT: Case = Case {
 };
 
 /// The jobs, in the order in which they are told.
-pub(crate) fn cases() -> [Case; 4] {
-    [ANTI_LEFT, ANTI_RIGHT, ANTI_NULLS_LEFT, ANTI_NULLS_RIGHT]
-}
+pub(crate) const CASES: &[Case] = &[ANTI_LEFT, ANTI_RIGHT, ANTI_NULLS_LEFT, ANTI_NULLS_RIGHT];

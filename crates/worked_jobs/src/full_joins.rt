@@ -149,14 +149,12 @@ const FULL_OF_NOTHING: Case = Case {
 };
 
 /// The jobs, in the order in which they are told.
-pub(crate) fn cases() -> [Case; 7] {
-    [
-        FULL,
-        FULL_NULLS,
-        FULL_COALESCED,
-        FULL_OF_UNION,
-        CHAINED,
-        FULL_OF_NO_ROW,
-        FULL_OF_NOTHING,
-    ]
-}
+pub(crate) const CASES: &[Case] = &[
+    FULL,
+    FULL_NULLS,
+    FULL_COALESCED,
+    FULL_OF_UNION,
+    CHAINED,
+    FULL_OF_NO_ROW,
+    FULL_OF_NOTHING,
+];

@@ -141,15 +141,13 @@ const TWO_KEYS_NULLS: Case = Case {
 };
 
 /// The jobs, in the order in which they are told.
-pub(crate) fn cases() -> [Case; 8] {
-    [
-        INNER,
-        PAIR_WITHIN,
-        PAIR_ABOVE,
-        KEPT_RIGHT,
-        KEPT_LEFT,
-        NULL_KEYS,
-        TWO_KEYS,
-        TWO_KEYS_NULLS,
-    ]
-}
+pub(crate) const CASES: &[Case] = &[
+    INNER,
+    PAIR_WITHIN,
+    PAIR_ABOVE,
+    KEPT_RIGHT,
+    KEPT_LEFT,
+    NULL_KEYS,
+    TWO_KEYS,
+    TWO_KEYS_NULLS,
+];

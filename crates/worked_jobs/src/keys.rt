@@ -74,6 +74,4 @@ const ELSEWHERE: Case = Case {
 };
 
 /// The jobs, in the order in which they are told.
-pub(crate) fn cases() -> [Case; 4] {
-    [ENDS, ESCAPED, SUFFIXED, ELSEWHERE]
-}
+pub(crate) const CASES: &[Case] = &[ENDS, ESCAPED, SUFFIXED, ELSEWHERE];

@@ -31,6 +31,4 @@ const LEDGER: Case = Case {
 };
 
 /// The jobs, in the order in which they are told.
-pub(crate) fn cases() -> [Case; 1] {
-    [LEDGER]
-}
+pub(crate) const CASES: &[Case] = &[LEDGER];

@@ -103,8 +103,6 @@ const SLICED: Case = Case {
 };
 
 /// The jobs, in the order in which they are told.
-pub(crate) fn cases() -> [Case; 7] {
-    [
-        FILTERED, WRAPPED, REPLACED, INT128, UNPIVOTED, DESCENDING, SLICED,
-    ]
-}
+pub(crate) const CASES: &[Case] = &[
+    FILTERED, WRAPPED, REPLACED, INT128, UNPIVOTED, DESCENDING, SLICED,
+];

@@ -106,13 +106,11 @@ const CROSS_LEFT_BUILT: Case = Case {
 };
 
 /// The jobs, in the order in which they are told.
-pub(crate) fn cases() -> [Case; 6] {
-    [
-        LEFT,
-        LEFT_UNSORTED,
-        CROSS,
-        CROSS_ABOVE,
-        CROSS_LEFT_EMPTY,
-        CROSS_LEFT_BUILT,
-    ]
-}
+pub(crate) const CASES: &[Case] = &[
+    LEFT,
+    LEFT_UNSORTED,
+    CROSS,
+    CROSS_ABOVE,
+    CROSS_LEFT_EMPTY,
+    CROSS_LEFT_BUILT,
+];

@@ -92,6 +92,4 @@ const SELECTED: Case = Case {
 };
 
 /// The jobs, in the order in which they are told.
-pub(crate) fn cases() -> [Case; 6] {
-    [SCANNED, PROJECTED, UNITED, RENAMED, SCAN_ABOVE, SELECTED]
-}
+pub(crate) const CASES: &[Case] = &[SCANNED, PROJECTED, UNITED, RENAMED, SCAN_ABOVE, SELECTED];

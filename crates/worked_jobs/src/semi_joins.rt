@@ -106,12 +106,10 @@ const SEMI_FULL: Case = Case {
 };
 
 /// The jobs, in the order in which they are told.
-pub(crate) fn cases() -> [Case; 5] {
-    [
-        SEMI_LEFT,
-        SEMI_RIGHT,
-        SEMI_NULLS_LEFT,
-        SEMI_NULLS_RIGHT,
-        SEMI_FULL,
-    ]
-}
+pub(crate) const CASES: &[Case] = &[
+    SEMI_LEFT,
+    SEMI_RIGHT,
+    SEMI_NULLS_LEFT,
+    SEMI_NULLS_RIGHT,
+    SEMI_FULL,
+];

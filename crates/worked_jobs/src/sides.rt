@@ -142,13 +142,16 @@ fn tell_case<T: Threads + Sync>(
     }
 }
 
+/// The joins, in the order in which they are told.
+const CASES: &[Case] = &[KEPT, NULLS_JOIN, COALESCED, ABOVE, NO_LIMIT];
+
 /// Joins with either side built.
 pub(crate) fn tell_sides<T: Threads + Sync>(
     rt: &T,
     alloc: Global,
     answers: &mut String,
 ) -> Result<(), AllocError> {
-    for case in &[KEPT, NULLS_JOIN, COALESCED, ABOVE, NO_LIMIT] {
+    for case in CASES {
         tell_case(rt, alloc, answers, case)?;
     }
     Ok(())

@@ -26,15 +26,15 @@ fn tell_plans<T: Threads + Sync>(
     a: Global,
     answers: &mut String,
 ) -> Result<(), AllocError> {
-    tell_cases(rt, a, answers, &inner_joins::cases())?;
-    tell_cases(rt, a, answers, &keys::cases())?;
-    tell_cases(rt, a, answers, &full_joins::cases())?;
-    tell_cases(rt, a, answers, &other_joins::cases())?;
-    tell_cases(rt, a, answers, &semi_joins::cases())?;
-    tell_cases(rt, a, answers, &anti_joins::cases())?;
-    tell_cases(rt, a, answers, &scans::cases())?;
-    tell_cases(rt, a, answers, &nodes::cases())?;
-    tell_cases(rt, a, answers, &ledger::cases())?;
+    tell_cases(rt, a, answers, inner_joins::CASES)?;
+    tell_cases(rt, a, answers, keys::CASES)?;
+    tell_cases(rt, a, answers, full_joins::CASES)?;
+    tell_cases(rt, a, answers, other_joins::CASES)?;
+    tell_cases(rt, a, answers, semi_joins::CASES)?;
+    tell_cases(rt, a, answers, anti_joins::CASES)?;
+    tell_cases(rt, a, answers, scans::CASES)?;
+    tell_cases(rt, a, answers, nodes::CASES)?;
+    tell_cases(rt, a, answers, ledger::CASES)?;
     Ok(())
 }
 
@@ -57,13 +57,13 @@ fn tell_hashed_joins<T: Threads + Sync>(
     answers: &mut String,
 ) -> Result<(), AllocError> {
     tell(answers, "under one hash for all keys")?;
-    tell_hashed(rt, a, answers, &inner_joins::cases())?;
-    tell_hashed(rt, a, answers, &keys::cases())?;
-    tell_hashed(rt, a, answers, &full_joins::cases())?;
-    tell_hashed(rt, a, answers, &other_joins::cases())?;
-    tell_hashed(rt, a, answers, &semi_joins::cases())?;
-    tell_hashed(rt, a, answers, &anti_joins::cases())?;
-    tell_hashed(rt, a, answers, &ledger::cases())?;
+    tell_hashed(rt, a, answers, inner_joins::CASES)?;
+    tell_hashed(rt, a, answers, keys::CASES)?;
+    tell_hashed(rt, a, answers, full_joins::CASES)?;
+    tell_hashed(rt, a, answers, other_joins::CASES)?;
+    tell_hashed(rt, a, answers, semi_joins::CASES)?;
+    tell_hashed(rt, a, answers, anti_joins::CASES)?;
+    tell_hashed(rt, a, answers, ledger::CASES)?;
     Ok(())
 }
 

@@ -13,7 +13,7 @@ pub(crate) const SEVERAL: Numbers = Numbers {
 
 /// The other numbers by which each job is run: one thread, more threads over chunks of one row, and the most workers
 /// over one chunk.
-const OTHERS: [(&str, Numbers); 3] = [
+const OTHERS: &[(&str, Numbers)] = &[
     (
         " by 1 worker\n",
         Numbers {
@@ -47,7 +47,7 @@ pub(crate) fn tell<T: Threads + Sync>(
     let told = case.ending(rt, alloc, SEVERAL)?;
     answers.push_str(told.as_str())?;
     for (by, numbers) in OTHERS {
-        let same = case.ends_so(rt, alloc, told.as_str(), numbers)?;
+        let same = case.ends_so(rt, alloc, told.as_str(), *numbers)?;
         answers.push_str(said(same))?;
         answers.push_str(by)?;
     }

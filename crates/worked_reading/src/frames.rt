@@ -3,7 +3,7 @@
 use crate::reading::{frame, tell_answer};
 use std::alloc::{AllocError, Global};
 
-const MISSPELLED: [(&str, &str); 13] = [
+const MISSPELLED: &[(&str, &str)] = &[
     ("no column", r#"{"columns":[]}"#),
     (
         "columns of unequal length",
@@ -59,7 +59,7 @@ const MISSPELLED: [(&str, &str); 13] = [
 const LARGE: &str =
     r#"{"columns":[{"name":"k","type":"Int128","values":["170141183460469231731687303715884105727","-170141183460469231731687303715884105728","0","-1",null]}]}"#;
 
-const MISSPELLED_INT128: [(&str, &str); 8] = [
+const MISSPELLED_INT128: &[(&str, &str)] = &[
     (
         "minus zero as a text",
         r#"{"columns":[{"name":"k","type":"Int128","values":["-0"]}]}"#,

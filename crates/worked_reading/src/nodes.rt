@@ -3,7 +3,7 @@
 use crate::reading::{node, tell_answer};
 use std::alloc::{AllocError, Global};
 
-const SPELLED: [(&str, &str); 14] = [
+const SPELLED: &[(&str, &str)] = &[
     (
         "a scan of chosen columns",
         r#"{"node":"DataFrameScan","frame":4294967295,"columns":["a","b"]}"#,
@@ -59,7 +59,7 @@ const SPELLED: [(&str, &str); 14] = [
     ),
 ];
 
-const MISSPELLED: [(&str, &str); 12] = [
+const MISSPELLED: &[(&str, &str)] = &[
     (
         "a scan with a further member",
         r#"{"node":"DataFrameScan","frame":0,"columns":null,"more":0}"#,

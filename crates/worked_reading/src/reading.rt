@@ -47,15 +47,18 @@ pub(crate) fn tell_answer(
 const MEMBERS: &str =
     r#"{"version":1,"workers":1,"chunk_rows":1,"row_limit":1,"root":0,"plan":[],"frames":[]"#;
 
+/// How the job ends.
+const ENDS: &[(&str, &str)] = &[
+    ("a job without nodes and frames", "}"),
+    ("a further member", r#","more":0}"#),
+    ("a version given again as 3", r#","version":3}"#),
+    ("a root given again as null", r#","root":null}"#),
+    ("an object that isn't ended", ""),
+];
+
 /// The answers to a job that ends in different ways.
 pub(crate) fn tell_ends(alloc: Global, answers: &mut String) -> Result<(), AllocError> {
-    for (shows, back) in [
-        ("a job without nodes and frames", "}"),
-        ("a further member", r#","more":0}"#),
-        ("a version given again as 3", r#","version":3}"#),
-        ("a root given again as null", r#","root":null}"#),
-        ("an object that isn't ended", ""),
-    ] {
+    for (shows, back) in ENDS {
         let text = format!(in alloc; "{MEMBERS}{back}")?;
         tell_answer(answers, shows, outcome(alloc, text.as_bytes()))?;
     }

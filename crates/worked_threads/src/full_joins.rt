@@ -57,6 +57,4 @@ const UNDER_A_SORT: Case = Case {
 };
 
 /// The jobs, in the order in which they are told.
-pub(crate) fn cases() -> [Case; 3] {
-    [FULL, OVER_A_FILTERED_JOIN, UNDER_A_SORT]
-}
+pub(crate) const CASES: &[Case] = &[FULL, OVER_A_FILTERED_JOIN, UNDER_A_SORT];

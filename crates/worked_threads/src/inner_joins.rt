@@ -69,6 +69,4 @@ const LONG: Case = Case {
 };
 
 /// The jobs, in the order in which they are told.
-pub(crate) fn cases() -> [Case; 3] {
-    [FILTERED_JOINS, LEFT_BUILT, LONG]
-}
+pub(crate) const CASES: &[Case] = &[FILTERED_JOINS, LEFT_BUILT, LONG];

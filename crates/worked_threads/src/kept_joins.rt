@@ -104,6 +104,4 @@ const CROSS: Case = Case {
 };
 
 /// The jobs, in the order in which they are told.
-pub(crate) fn cases() -> [Case; 6] {
-    [SEMI, SEMI_LEFT_SMALL, ANTI, ANTI_LEFT_SMALL, LEFT, CROSS]
-}
+pub(crate) const CASES: &[Case] = &[SEMI, SEMI_LEFT_SMALL, ANTI, ANTI_LEFT_SMALL, LEFT, CROSS];

@@ -53,6 +53,4 @@ const UNDER_A_JOIN: Case = Case {
 };
 
 /// The jobs, in the order in which they are told.
-pub(crate) fn cases() -> [Case; 3] {
-    [SLICED, NULLS_FIRST, UNDER_A_JOIN]
-}
+pub(crate) const CASES: &[Case] = &[SLICED, NULLS_FIRST, UNDER_A_JOIN];

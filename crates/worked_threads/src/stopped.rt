@@ -72,16 +72,19 @@ fn tell_by<T: Threads + Sync>(
     tell_numbers(alloc, answers, numbers, "always stopped")
 }
 
+/// The workers of these runs, and the rows of a chunk.
+const NUMBERS: &[(u32, u32)] = &[(1, 4294967295), (1, 1), (3, 1), (5, 2), (256, 1)];
+
 /// The same by one worker and by many.
 pub(crate) fn tell_stopped<T: Threads + Sync>(
     rt: &T,
     alloc: Global,
     answers: &mut String,
 ) -> Result<(), AllocError> {
-    for (workers, chunk_rows) in [(1, 4294967295), (1, 1), (3, 1), (5, 2), (256, 1)] {
+    for (workers, chunk_rows) in NUMBERS {
         let numbers = Numbers {
-            workers,
-            chunk_rows,
+            workers: *workers,
+            chunk_rows: *chunk_rows,
         };
         tell_by(rt, alloc, answers, numbers)?;
     }

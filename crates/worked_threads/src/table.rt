@@ -20,12 +20,12 @@ fn tell_cases<T: Threads + Sync>(
 /// What each case shows, and its answer.
 pub(crate) fn answers<T: Threads + Sync>(rt: &T, alloc: Global) -> Result<String, AllocError> {
     let mut answers = String::new(alloc);
-    tell_cases(rt, alloc, &mut answers, &inner_joins::cases())?;
-    tell_cases(rt, alloc, &mut answers, &unions::cases())?;
-    tell_cases(rt, alloc, &mut answers, &sorts::cases())?;
-    tell_cases(rt, alloc, &mut answers, &kept_joins::cases())?;
-    tell_cases(rt, alloc, &mut answers, &full_joins::cases())?;
-    tell_cases(rt, alloc, &mut answers, &too_many::cases())?;
+    tell_cases(rt, alloc, &mut answers, inner_joins::CASES)?;
+    tell_cases(rt, alloc, &mut answers, unions::CASES)?;
+    tell_cases(rt, alloc, &mut answers, sorts::CASES)?;
+    tell_cases(rt, alloc, &mut answers, kept_joins::CASES)?;
+    tell_cases(rt, alloc, &mut answers, full_joins::CASES)?;
+    tell_cases(rt, alloc, &mut answers, too_many::CASES)?;
     stopped::tell_stopped(rt, alloc, &mut answers)?;
     meeting::tell_met(rt, alloc, &mut answers)?;
     Ok(answers)

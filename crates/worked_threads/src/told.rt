@@ -8,7 +8,7 @@ use worked_runs::{Case, Numbers, said};
 const TIMES: u32 = 3;
 
 /// Workers and rows of a chunk.
-const NUMBERS: [(u32, u32); 8] = [
+const NUMBERS: &[(u32, u32)] = &[
     (1, 4294967295),
     (1, 1),
     (3, 1),
@@ -65,8 +65,8 @@ pub(crate) fn tell<T: Threads + Sync>(
     answers.push_str(told.as_str())?;
     for (workers, chunk_rows) in NUMBERS {
         let numbers = Numbers {
-            workers,
-            chunk_rows,
+            workers: *workers,
+            chunk_rows: *chunk_rows,
         };
         let same = ends_so_each_time(rt, alloc, case, told.as_str(), numbers)?;
         tell_numbers(alloc, answers, numbers, said(same))?;

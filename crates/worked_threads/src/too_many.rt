@@ -72,13 +72,11 @@ const UNION_ABOVE: Case = Case {
 };
 
 /// The jobs, in the order in which they are told.
-pub(crate) fn cases() -> [Case; 6] {
-    [
-        WITHIN,
-        ABOVE,
-        BUILT_WITHIN,
-        BUILT_ABOVE,
-        UNION_WITHIN,
-        UNION_ABOVE,
-    ]
-}
+pub(crate) const CASES: &[Case] = &[
+    WITHIN,
+    ABOVE,
+    BUILT_WITHIN,
+    BUILT_ABOVE,
+    UNION_WITHIN,
+    UNION_ABOVE,
+];

@@ -61,6 +61,4 @@ const UNION_OF_JOINS: Case = Case {
 };
 
 /// The jobs, in the order in which they are told.
-pub(crate) fn cases() -> [Case; 3] {
-    [UNION_PROBES, UNION_BUILT, UNION_OF_JOINS]
-}
+pub(crate) const CASES: &[Case] = &[UNION_PROBES, UNION_BUILT, UNION_OF_JOINS];
