@@ -1,8 +1,8 @@
 //! Runs under a hasher by which all keys have one hash.
 
-use pipe_cli::{head_line, read_job, row_line};
 use pipe_exec::run_plan_with;
 use pipe_frame::{DataFrame, NeverStop, OpenGate};
+use pipe_job::{head_line, read_job, row_line};
 use pipe_rows::ConstHash;
 use std::alloc::{AllocError, Global};
 use std::thread::Threads;

@@ -2,9 +2,9 @@
 
 use crate::{hashed, told};
 use pipe_check::check_plan;
-use pipe_cli::read_job;
 use pipe_exec::both_sides;
 use pipe_frame::DataFrame;
+use pipe_job::read_job;
 use pipe_plan::PipeError;
 use std::alloc::{AllocError, Global};
 use std::thread::Threads;

@@ -1,7 +1,9 @@
 //! What readers and writers in memory hold.
 
-use pipe_cli::{JobReader, MemReader, NamedBytes, SureReader, SureWriter, read_whole, write_whole};
 use pipe_frame::{Bytes, List};
+use pipe_outside::{
+    JobReader, MemReader, NamedBytes, SureReader, SureWriter, read_whole, write_whole,
+};
 use std::alloc::{AllocError, Global};
 use worked_runs::{at_most_one, named, shown};
 

@@ -1,7 +1,7 @@
 //! The lines of a frame that was read.
 
-use pipe_cli::{head_line, read_job, row_line};
 use pipe_frame::DataFrame;
+use pipe_job::{head_line, read_job, row_line};
 use std::alloc::{AllocError, Global};
 use worked_runs::shown;
 

@@ -1,7 +1,7 @@
 //! The parts of a job that was read.
 
-use pipe_cli::{Job, read_job};
 use pipe_expr::Expr;
+use pipe_job::{Job, read_job};
 use pipe_plan::{IR, JoinOptions, PipeConfig, RowsHint};
 use std::alloc::{AllocError, Global};
 

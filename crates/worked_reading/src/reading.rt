@@ -1,6 +1,6 @@
 //! What the reader of jobs answers.
 
-use pipe_cli::{JobError, read_job};
+use pipe_job::{JobError, read_job};
 use std::alloc::{AllocError, Global};
 
 /// The word of the reader's answer to some bytes.

@@ -1,7 +1,7 @@
 //! Real streams: standard input, a file, and an output that takes no more.
 
 use crate::held::text_named;
-use pipe_cli::{JobReader, StreamWriter, SystemReader, read_whole, write_whole};
+use pipe_outside::{JobReader, StreamWriter, SystemReader, read_whole, write_whole};
 use std::alloc::{AllocError, Global};
 use std::io::Read;
 use std::rt::Files;
