@@ -1,6 +1,7 @@
 pub mod PrefixLaw
 pub mod Criteria
 pub mod EntryOrder
+pub mod SpotLaw
 pub mod Runs
 pub mod RowBytes
 pub mod RowOrder

@@ -6,5 +6,7 @@ pub mod SortColumns
 pub mod Prefix
 -- the places of encoded rows, in order
 pub mod Entries
+-- the bytes that tell rows apart
+pub mod Spots
 -- a sort ends alike, in whatever order its rows came
 pub mod SortLaws

@@ -7,6 +7,7 @@ mod key;
 mod prefix;
 mod sink;
 mod sorted;
+mod spots;
 mod ties;
 
 pub use key::{SortKey, SortSlice};
