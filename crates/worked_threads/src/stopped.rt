@@ -37,6 +37,30 @@ const TEN_NODES: Case = Case {
 "root":9}"#,
 };
 
+/// Six nodes: two full joins one above the other under a sort, and three scans.
+const CHAINED: Case = Case {
+    shows: "two full joins in a chain that are stopped at each of their questions",
+    is_sorted: true,
+    version: "1",
+    limit: "1000000",
+    frames: r#""frames":[
+{"columns":[{"name":"k","type":"Int64","values":[1]}]},
+{"columns":[{"name":"k","type":"Int64","values":[1,3]}]},
+{"columns":[{"name":"k","type":"Int64","values":[3,4]}]}],"#,
+    plan: r#""plan":[
+{"node":"DataFrameScan","frame":0,"columns":null},
+{"node":"DataFrameScan","frame":1,"columns":null},
+{"node":"Join","left":0,"right":1,"left_on":[{"col":"k"}],"right_on":[{"col":"k"}],
+"how":"full","join_nulls":false,"coalesce":"CoalesceColumns","suffix":"_right",
+"rows_left":[null,9],"rows_right":[null,1]},
+{"node":"DataFrameScan","frame":2,"columns":null},
+{"node":"Join","left":2,"right":3,"left_on":[{"col":"k"}],"right_on":[{"col":"k"}],
+"how":"full","join_nulls":false,"coalesce":"CoalesceColumns","suffix":"_right",
+"rows_left":[null,9],"rows_right":[null,1]},
+{"node":"Sort","input":4,"by":["k"],"descending":[false],"nulls_last":[false],"slice":null}],
+"root":5}"#,
+};
+
 /// Whether a run ended by the last answer of its stop check, and wrote nothing.
 fn is_stop(ended: &Ended, stop: &StopAfter, left: u64) -> bool {
     ended.status == 8
@@ -51,16 +75,18 @@ fn tell_by<T: Threads + Sync>(
     rt: &T,
     alloc: Global,
     answers: &mut String,
+    case: &Case,
+    nodes: u64,
     numbers: Numbers,
 ) -> Result<(), AllocError> {
-    let text = TEN_NODES.text(alloc, numbers)?;
+    let text = case.text(alloc, numbers)?;
     for left in 0..MOST_QUESTIONS {
         let mut stop = StopAfter::new(left);
         let mut input = reader(alloc, text.as_str(), None)?;
         let ended = run_stopping(rt, alloc, &["run"], &mut input, None, &mut stop)?;
         if !is_stop(&ended, &stop, left) {
-            tell_text(alloc, answers, TEN_NODES.shows, ended)?;
-            let is_last = stop.yes() == 0 && stop.asked() == left && left >= 10;
+            tell_text(alloc, answers, case.shows, ended)?;
+            let is_last = stop.yes() == 0 && stop.asked() == left && left >= nodes;
             let how = if is_last {
                 "stopped each time before"
             } else {
@@ -75,18 +101,30 @@ fn tell_by<T: Threads + Sync>(
 /// The workers of these runs, and the rows of a chunk.
 const NUMBERS: &[(u32, u32)] = &[(1, 4294967295), (1, 1), (3, 1), (5, 2), (256, 1)];
 
-/// The same by one worker and by many.
-pub(crate) fn tell_stopped<T: Threads + Sync>(
+/// The same of one plan by one worker and by many.
+fn tell_case<T: Threads + Sync>(
     rt: &T,
     alloc: Global,
     answers: &mut String,
+    case: &Case,
+    nodes: u64,
 ) -> Result<(), AllocError> {
     for (workers, chunk_rows) in NUMBERS {
         let numbers = Numbers {
             workers: *workers,
             chunk_rows: *chunk_rows,
         };
-        tell_by(rt, alloc, answers, numbers)?;
+        tell_by(rt, alloc, answers, case, nodes, numbers)?;
     }
     Ok(())
+}
+
+/// The same of both plans.
+pub(crate) fn tell_stopped<T: Threads + Sync>(
+    rt: &T,
+    alloc: Global,
+    answers: &mut String,
+) -> Result<(), AllocError> {
+    tell_case(rt, alloc, answers, &TEN_NODES, 10)?;
+    tell_case(rt, alloc, answers, &CHAINED, 6)
 }
