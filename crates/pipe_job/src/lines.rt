@@ -12,6 +12,9 @@ use crate::cell_texts::{push_byte, push_cell, push_comma, push_quoted};
 use pipe_frame::{Bytes, DataFrame, Field, Schema, Series};
 use std::alloc::{AllocError, Global};
 
+/// About how many rows are looked at to tell how long all lines are.
+const SAMPLE: usize = 1024;
+
 /// Appends the array of some fields' names.
 fn push_names(out: &mut Vec<u8>, fields: &[Field]) -> Result<(), AllocError>
     ensures { OnOk result
@@ -73,12 +76,28 @@ pub fn push_head_line(out: &mut Vec<u8>, schema: &Schema) -> Result<(), AllocErr
     push_byte(out, b'\n')
 }
 
+/// About how many bytes the lines of all rows take, told by a sample of rows that stand evenly apart.
+fn room_for(alloc: Global, columns: &[Series], height: usize) -> Result<usize, AllocError>
+    requires { AllOfHeight height columns.now }
+{
+    let step = height / SAMPLE + 1;
+    let mut sample = Vec::new(alloc);
+    for i in (0..height).step_by(step) {
+        push_row(&mut sample, columns, height, i)?;
+    }
+    let room = sample.len().saturating_mul(step);
+    // a little more, since other rows may be longer
+    Ok(room.saturating_add(room / 32))
+}
+
 /// Appends the lines of all rows in order. After an error, a part of them may stand there.
 pub fn push_rows(out: &mut Vec<u8>, frame: &DataFrame) -> Result<(), AllocError>
     ensures { OnOk result (out.new.items ≡ out.old.items ++ flat_map row_line frame.now.rows) }
 {
     let columns = frame.get_columns();
     let height = frame.height();
+    // taken once, since a text that grows by doubling is held twice while it moves
+    out.reserve(room_for(*out.allocator(), columns, height)?)?;
     for i in 0..height {
         push_row(out, columns, height, i)?;
     }
