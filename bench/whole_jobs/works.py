@@ -17,11 +17,20 @@ def scan(frame):
     return {"node": "DataFrameScan", "frame": frame, "columns": None}
 
 
-def join(left, right, on, how):
+# A hint that tells nothing.
+UNKNOWN = [None, 0]
+
+
+def known(rows):
+    """A hint that tells how many rows a side has."""
+    return [rows, rows]
+
+
+def join(left, right, on, how, rows_left=UNKNOWN, rows_right=UNKNOWN):
     keys = [{"col": name} for name in on]
     return {
         "node": "Join", "left": left, "right": right, "left_on": keys, "right_on": keys, "how": how, "join_nulls": False,
-        "coalesce": "JoinSpecific", "suffix": "_right", "rows_left": [None, 0], "rows_right": [None, 0],
+        "coalesce": "JoinSpecific", "suffix": "_right", "rows_left": rows_left, "rows_right": rows_right,
     }  # fmt: skip
 
 
@@ -73,14 +82,15 @@ def filtered(rows, seed):
 
 
 def star(rows, seed):
-    """Many rows joined to four small frames, one after another."""
+    """Many rows joined to four small frames, one after another, of which it is known that they are small."""
     chance = random.Random(seed)
     facts = [column(f"k{n}", "Int64", numbers(chance, rows, 100)) for n in range(4)]
     small = [[column(f"k{n}", "Int64", list(range(100))), column(f"name{n}", "String", [f"{n}-{k}" for k in range(100)])]
              for n in range(4)]  # fmt: skip
     plan = [scan(0), *[scan(n + 1) for n in range(4)]]
     for n in range(4):
-        plan.append(join(0 if n == 0 else len(plan) - 1, n + 1, [f"k{n}"], "inner"))
+        left = 0 if n == 0 else len(plan) - 1
+        plan.append(join(left, n + 1, [f"k{n}"], "inner", known(rows), known(100)))
     return job([facts, *small], plan)
 
 
