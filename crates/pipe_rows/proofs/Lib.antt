@@ -12,3 +12,4 @@ pub mod RowLemmas
 pub mod SortLaw
 pub mod FillingLemmas
 pub mod PartitionLemmas
+pub mod EvenLemmas

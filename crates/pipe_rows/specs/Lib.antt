@@ -20,3 +20,7 @@ pub mod SortBytes
 pub mod Filling
 -- the laws of the encodings and of sorted lists
 pub mod Laws
+-- byte strings of one width
+pub mod EvenRows
+-- byte strings of one width or of any
+pub mod RowBytes

@@ -4,8 +4,8 @@ ghost use Rattle.std.specs.Prelude.{◌≡◌, ◌<◌, ◌≤◌, ◌+◌, ◌�
 ghost use Rattle.pipe_rows.specs.Filling.{appended_at, patched, unwritten, HasRoomAt, AreFull, written_rows};
 ghost use Rattle.pipe_rows.specs.Encoded.{marked_rows};
 
+use crate::row_bytes::RowBytes;
 use crate::rows_encoded::RowsEncoded;
-use pipe_frame::BytesList;
 use std::alloc::{AllocError, Global};
 use std::marker::Model;
 
@@ -97,6 +97,6 @@ impl RowFiller {
             cursors,
         } = self;
         drop(cursors);
-        RowsEncoded::of_parts(BytesList::from_parts(bytes, ends), marks)
+        RowsEncoded::of_parts(RowBytes::from_parts(bytes, ends), marks)
     }
 }

@@ -3,6 +3,7 @@
 ghost use Rattle.std.specs.Prelude.{◌≡◌, ◌<◌, ◌++◌, length, map, IfOk, OnOk, OnErr};
 ghost use Rattle.pipe_rows.specs.Encoded.{unmarked, encoded_at, marked_rows};
 
+use crate::row_bytes::RowBytes;
 use pipe_frame::{Bytes, BytesList};
 use std::alloc::{AllocError, Global};
 use std::marker::Model;
@@ -10,7 +11,7 @@ use std::marker::Model;
 /// A list of byte strings, each with a mark whether one of its row's cells was null.
 #[derive(Debug)]
 pub struct RowsEncoded {
-    rows: BytesList,
+    rows: RowBytes,
     marks: Vec<bool>,
 }
 
@@ -37,7 +38,7 @@ impl Model for RowsEncoded {
 #[tactic(auto, using(crate::proofs::EncodedLemmas::marked_rules))]
 impl RowsEncoded {
     /// These byte strings, each with its mark.
-    pub(crate) fn of_parts(rows: BytesList, marks: Vec<bool>) -> RowsEncoded
+    pub(crate) fn of_parts(rows: RowBytes, marks: Vec<bool>) -> RowsEncoded
         requires { length marks.items ≡ length rows }
         ensures { result ≡ marked_rows rows marks.items }
     {
@@ -53,7 +54,7 @@ impl RowsEncoded {
             copies.push(row.as_slice())?;
         }
         let marks = vec![in alloc; false; rows.len()]?;
-        Ok(RowsEncoded::of_parts(copies, marks))
+        Ok(RowsEncoded::of_parts(RowBytes::of_list(copies), marks))
     }
 
     /// How many rows there are.
