@@ -1,13 +1,13 @@
 -- The cells of columns at a place.
-use Rattle.std.proofs.Common.{◌≡◌, ℕ, zero, suc, ◌+◌, ◌<◌, true, List, [], ◌∷◌, ◌++◌, append-nil, append_assoc, refl, ap, sym, ◌∙◌, arith}
+use Rattle.std.proofs.Common.{◌≡◌, ℕ, zero, suc, ◌+◌, ◌≤◌, true, List, [], ◌∷◌, ◌++◌, append-nil, append_assoc, refl, ap, sym, ◌∙◌, arith}
+use Rattle.std.specs.Borrow.{Bor}
 use Rattle.std.specs.List.{AllByRecursion, flat_map, range_with_len}
 use Rattle.pipe_frame.specs.Cell.{eq_dtype}
-use Rattle.pipe_frame.specs.Frame.{AllOfHeight}
 use Rattle.pipe_frame.specs.Series.{Cells}
 use Rattle.pipe_frame.specs.declared.data_type.DataType.{DataType}
 use Rattle.pipe_frame.specs.declared.data_type.DataType.TheVariants as dtype
 use Rattle.pipe_frame.proofs.SeriesCells.{cell_at-map}
-use Rattle.pipe_function.specs.Unpivots.{HasType, HasCell}
+use Rattle.pipe_function.specs.Lent.{HasCells}
 
 -- a type is itself
 dtype-refl : (a : DataType) → eq_dtype a a ≡ true
@@ -23,11 +23,11 @@ dtype-refl dtype.Int128 = refl
 pub same_dtype : (a b : DataType) → a ≡ b → eq_dtype a b ≡ true
 same_dtype a b e = rw e (dtype-refl b)
 
--- columns of a type and a height have a cell at each place below it
-pub cells_there : (dtype : DataType) (height i : ℕ) (columns : List Cells) → AllByRecursion (HasType dtype) columns → AllOfHeight height columns → i < height → AllByRecursion (HasCell dtype i) columns
-cells_there dtype height i [] typed even lt = tt
-cells_there dtype height i (c ∷ columns) typed even lt =
-    ((typed.0, (let n = even 0 c (omega arith) in omega arith)), cells_there dtype height i columns typed.1 (λ k d less. even (suc k) d (omega arith)) lt)
+-- columns of so many cells have fewer too
+pub cells_there : (dtype : DataType) (end fewer : ℕ) (columns : List (Bor Cells)) → AllByRecursion (HasCells dtype end) columns → fewer ≤ end → AllByRecursion (HasCells dtype fewer) columns
+cells_there dtype end fewer [] has less = tt
+cells_there dtype end fewer (c ∷ columns) has less =
+    let long = has.0.1 in ((has.0.0, omega arith), cells_there dtype end fewer columns has.1 less)
 
 -- one number more
 flat-from : {X : Type 0} (f : ℕ → List X) (a n : ℕ) → flat_map f (range_with_len a (suc n)) ≡ flat_map f (range_with_len a n) ++ f (a + n)
@@ -46,4 +46,4 @@ flat_more f n =
 pub flat_next : {X : Type 0} (f : ℕ → List X) (a n : ℕ) → flat_map f (range_with_len a (n + 1)) ≡ flat_map f (range_with_len a n) ++ f (a + n)
 flat_next f a n = let next : n + 1 ≡ suc n = omega arith in ap (λ k. flat_map f (range_with_len a k)) next ∙ flat-from f a n
 
-pub ruleset flat_rules = (cell_at-map, same_dtype, cells_there, flat_more)
+pub ruleset flat_rules = (cell_at-map, same_dtype, cells_there, flat_next)

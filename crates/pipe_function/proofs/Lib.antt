@@ -4,3 +4,4 @@ pub mod UnpivotColumns
 pub mod RenamedColumns
 pub mod Turned
 pub mod ColumnsAt
+pub mod PartRows

@@ -1,7 +1,8 @@
 -- The columns of an unpivot are what becomes of the rows.
-use Rattle.std.proofs.Common.{◌≡◌, ℕ, zero, suc, ◌+◌, ◌<◌, ◌≤◌, Bool, true, false, cond, List, [], ◌∷◌, ◌++◌, Some, None, length, map, get_or, take, drop, replicate, refl, ap, subst, sym, ◌∙◌, arith, length-append, append_assoc}
+use Rattle.std.proofs.Common.{◌≡◌, ℕ, ◌+◌, ◌<◌, ◌≤◌, Bool, true, false, cond, List, [], ◌∷◌, ◌++◌, Some, None, length, map, get_or, take, drop, replicate, refl, ap, subst, sym, ◌∙◌, arith, length-append, append_assoc}
+use Rattle.std.specs.Borrow.{Bor}
 use Rattle.std.specs.List.{AllByRecursion, flat_map, range_with_len}
-use Rattle.std.proofs.lemmas.List.{length-map, map-append, get_or-map}
+use Rattle.std.proofs.lemmas.List.{map-append, get_or-map}
 use Rattle.std.proofs.lemmas.List.FromFn.{get_or-range_with_len, length-range_with_len}
 use Rattle.pipe_frame.specs.Rows.{Row}
 use Rattle.pipe_frame.specs.Series.{Cells, named_cells}
@@ -20,7 +21,9 @@ use Rattle.pipe_expr.specs.declared.join_words.FunctionIR.TheVariants as functio
 use Rattle.pipe_ops.proofs.MadeColumns.{made-even, made-height, made-table, made-fields}
 use Rattle.pipe_ops.proofs.Projected.{AreTable}
 use Rattle.pipe_function.specs.Applied.{applied, Applies, IsOfType, ReadsColumns}
-use Rattle.pipe_function.specs.Unpivots.{unpivot_columns, repeated, name_cell, name_cells, repeated_cells, cell_named, column_at, flat_cells, HasType}
+use Rattle.pipe_function.specs.Unpivots.{unpivot_columns, repeated, name_cell, name_cells, repeated_cells, cell_named, column_at, flat_cells}
+use Rattle.pipe_function.specs.Lent.{lent, whole_column, lent_row, cells_between, HasCells}
+use Rattle.pipe_function.proofs.ColumnsAt.{cell-under, whole-height}
 use Rattle.pipe_function.proofs.Ranges.{range-same, flat-same, map-flat, part-range, map-replicate, once}
 
 -- names of two lists that are known
@@ -100,6 +103,14 @@ module _ (on index : List (List ℕ)) (variable value : List ℕ) (frame : Table
       ∙ get_or-map (cell_named frame name) (range_with_len from count) i 0 cell.Null (omega (arith, length-range_with_len from count))
       ∙ ap (cell_named frame name) (get_or-range_with_len from count i 0 less)
 
+  -- the cells of a row under the names
+  pub chosen-row : (i : ℕ) → i < count → row_at chosen (0 + i) ≡ map (named_cell frame.schema (get_or frame.rows (from + i) [])) on
+  chosen-row i less =
+      let zero_on : 0 + i ≡ i = omega arith in
+      ap (row_at chosen) zero_on
+      ∙ map_map (cell_in i) (column_at frame rows_at) on
+      ∙ map_same (λ name. cell_in i (column_at frame rows_at name)) (named_cell frame.schema (get_or frame.rows (from + i) [])) on (λ name. place-cell name i less)
+
   cells-are : from + count ≤ length frame.rows → (x : Part) → (made x).cells ≡ map (λ p. value_in p x) (flat_map pairs_of part)
   cells-are room (index_of name) =
       map-flat (cell_named frame name) (replicate (length on)) (range_with_len from count)
@@ -109,9 +120,7 @@ module _ (on index : List (List ℕ)) (variable value : List ℕ) (frame : Table
       range-same (name_cells on) (λ i. map name_cell on) 0 from count (λ i less. refl)
       ∙ by-places (λ row name. cell.String name) room
   cells-are room value_of =
-      range-same (row_at chosen) (λ i. map (named_cell frame.schema (get_or frame.rows i [])) on) 0 from count
-      (λ i less. let zero_on : 0 + i ≡ i = omega arith in
-      ap (row_at chosen) zero_on ∙ map_map (cell_in i) (column_at frame rows_at) on ∙ map_same (λ name. cell_in i (column_at frame rows_at name)) (named_cell frame.schema (get_or frame.rows (from + i) [])) on (λ name. place-cell name i less))
+      range-same (row_at chosen) (λ i. map (named_cell frame.schema (get_or frame.rows i [])) on) 0 from count chosen-row
       ∙ by-places (named_cell frame.schema) room
 
   apart : {B : Type 0} (g : Part → B) → map g parts ≡ map (λ name. g (index_of name)) index ++ g variable_of ∷ g value_of ∷ []
@@ -151,19 +160,36 @@ module _ (on index : List (List ℕ)) (variable value : List ℕ) (frame : Table
       } in
       subst (λ (cs : List Cells). AreTable cs (applied f (sliced from count frame))) (sym (made_so ∙ sym (apart made))) are
 
+-- columns that are lent by their names, the first and the others
+first-lent : (frame : Table) (name : List ℕ) (on : List (List ℕ)) (c : Bor Cells) (columns : List (Bor Cells)) → map lent (c ∷ columns) ≡ map (whole_column frame) (name ∷ on) → c.now ≡ whole_column frame name
+first-lent frame name on c columns e = ap (λ (cs : List Cells). get_or cs 0 c.now) e
+
+others-lent : (frame : Table) (name : List ℕ) (on : List (List ℕ)) (c : Bor Cells) (columns : List (Bor Cells)) → map lent (c ∷ columns) ≡ map (whole_column frame) (name ∷ on) → map lent columns ≡ map (whole_column frame) on
+others-lent frame name on c columns e = ap (λ (cs : List Cells). drop 1 cs) e
+
 -- the columns of one type that are unpivoted
-pub chosen-typed : (frame : Table) (dtype : DataType) (rows : List ℕ) (on : List (List ℕ)) → AllByRecursion (IsOfType frame.schema dtype) on → AllByRecursion (HasType dtype) (map (column_at frame rows) on)
-chosen-typed frame dtype rows [] typed = tt
-chosen-typed frame dtype rows (name ∷ on) typed = (ap known_type typed.0, chosen-typed frame dtype rows on typed.1)
+pub lent-cells : (frame : Table) (dtype : DataType) (end : ℕ) (on : List (List ℕ)) (columns : List (Bor Cells)) → map lent columns ≡ map (whole_column frame) on → AllByRecursion (IsOfType frame.schema dtype) on → end ≤ length frame.rows → AllByRecursion (HasCells dtype end) columns
+lent-cells frame dtype end on [] e typed room = tt
+lent-cells frame dtype end [] (c ∷ columns) e typed room = cc
+lent-cells frame dtype end (name ∷ on) (c ∷ columns) e typed room =
+    let is = first-lent frame name on c columns e in
+    let wide : length c.now.cells ≡ length frame.rows = ap (λ (x : Cells). length x.cells) is ∙ whole-height frame name in
+    ((ap (λ (x : Cells). x.dtype) is ∙ ap known_type typed.0, omega arith), lent-cells frame dtype end on columns (others-lent frame name on c columns e) typed.1 room)
 
-pub chosen-even : (frame : Table) (rows : List ℕ) (height : ℕ) (on : List (List ℕ)) → length rows ≡ height → AllOfHeight height (map (column_at frame rows) on)
-chosen-even frame rows height [] wide k d less = absurd (let no : k < 0 = less in omega arith)
-chosen-even frame rows height (name ∷ on) wide zero d less = length-map rows (cell_named frame name) ∙ wide
-chosen-even frame rows height (name ∷ on) wide (suc k) d less = chosen-even frame rows height on wide k d (omega arith)
+-- their cells at a place
+lent-row : (frame : Table) (k : ℕ) (on : List (List ℕ)) (columns : List (Bor Cells)) → map lent columns ≡ map (whole_column frame) on → lent_row columns k ≡ map (named_cell frame.schema (get_or frame.rows k [])) on
+lent-row frame k [] [] e = refl
+lent-row frame k (name ∷ on) [] e = cc
+lent-row frame k [] (c ∷ columns) e = cc
+lent-row frame k (name ∷ on) (c ∷ columns) e =
+    ap (λ x. x ∷ lent_row columns k) (ap (λ (x : Cells). cell_in k x) (first-lent frame name on c columns e) ∙ cell-under frame.schema name frame.rows k)
+    ∙ ap (λ l. named_cell frame.schema (get_or frame.rows k []) name ∷ l) (lent-row frame k on columns (others-lent frame name on c columns e))
 
--- so many rows
-pub once-length : (from count : ℕ) → length (repeated 1 from count) ≡ count
-once-length from count = ap length (once from count) ∙ length-range_with_len from count
+-- and of so many rows from a row on
+lent-flat : (on : List (List ℕ)) (frame : Table) (from count : ℕ) (columns : List (Bor Cells)) → map lent columns ≡ map (whole_column frame) on → cells_between columns from count ≡ flat_cells (map (column_at frame (repeated 1 from count)) on) count
+lent-flat on frame from count columns e =
+    range-same (lent_row columns) (row_at (map (column_at frame (repeated 1 from count)) on)) from 0 count
+    (λ i less. lent-row frame (from + i) on columns e ∙ sym (chosen-row on [] [] [] frame from count i less))
 
 -- an unpivot that is well formed reads columns that are there
 pub reads-of : (f : FunctionIR) (on index more others : List (List ℕ)) (variable value : List ℕ) (schema : List Field) → f ≡ function.Unpivot on index variable value → more ≡ on → others ≡ index → Applies f schema → ReadsColumns more others schema
@@ -180,21 +206,22 @@ unpivoted-by f on index more others variable value frame from count columns is o
     subst (λ (g : FunctionIR). AreTable columns (applied g (sliced from count frame))) (sym is) (unpivoted-table on index variable value frame from count columns so room good)
 
 -- the first column that is unpivoted has the type of all
-pub first-type : (frame : Table) (rows : List ℕ) (on : List (List ℕ)) (column : Cells) → 0 < length on → column ≡ get_or (map (column_at frame rows) on) 0 column → column.dtype ≡ on_type frame.schema on
-first-type frame rows [] column some is = absurd (omega arith)
-first-type frame rows (name ∷ on) column some is = ap (λ (x : Cells). x.dtype) is
+pub first-type : (frame : Table) (on : List (List ℕ)) (columns : List (Bor Cells)) (column : Bor Cells) → 0 < length on → map lent columns ≡ map (whole_column frame) on → column ≡ get_or columns 0 column → column.now.dtype ≡ on_type frame.schema on
+first-type frame [] columns column some e is = absurd (omega arith)
+first-type frame (name ∷ on) [] column some e is = cc
+first-type frame (name ∷ on) (c ∷ columns) column some e is =
+    ap (λ (x : Bor Cells). x.now.dtype) is ∙ ap (λ (x : Cells). x.dtype) (first-lent frame name on c columns e)
 
 -- the columns, made one after another
-pub assembled : (on index : List (List ℕ)) (variable value own other : List ℕ) (frame : Table) (from count : ℕ) (rows places : List ℕ) (type : DataType) (picked slice columns first all : List Cells) (names values : Cells) → rows ≡ repeated 1 from count → places ≡ repeated (length on) from count → picked ≡ map (column_at frame rows) on → slice ≡ picked → columns ≡ map (column_at frame places) index → own ≡ variable → other ≡ value → type ≡ on_type frame.schema on → names ≡ named_cells own dtype.String (repeated_cells on count) → values ≡ named_cells other type (flat_cells slice count) → first ≡ columns ++ names ∷ [] → all ≡ first ++ values ∷ [] → all ≡ unpivot_columns on index variable value frame from count
-assembled on index variable value own other frame from count rows places type picked slice columns first all names values r p ch s co v o t n u f a =
+pub assembled : (on index : List (List ℕ)) (variable value own other : List ℕ) (frame : Table) (from count : ℕ) (places : List ℕ) (type : DataType) (slice : List (Bor Cells)) (columns first all : List Cells) (names values : Cells) → places ≡ repeated (length on) from count → map lent slice ≡ map (whole_column frame) on → columns ≡ map (column_at frame places) index → own ≡ variable → other ≡ value → type ≡ on_type frame.schema on → names ≡ named_cells own dtype.String (repeated_cells on count) → values ≡ named_cells other type (cells_between slice from count) → first ≡ columns ++ names ∷ [] → all ≡ first ++ values ∷ [] → all ≡ unpivot_columns on index variable value frame from count
+assembled on index variable value own other frame from count places type slice columns first all names values p s co v o t n u f a =
     let kept : List Cells = map (column_at frame (repeated (length on) from count)) index in
     let col : columns ≡ kept = co ∙ ap (λ ps. map (column_at frame ps) index) p in
     let nam : names ≡ named_cells variable dtype.String (repeated_cells on count) = n ∙ ap (λ x. named_cells x dtype.String (repeated_cells on count)) v in
-    let sli : slice ≡ map (column_at frame (repeated 1 from count)) on = s ∙ ch ∙ ap (λ rs. map (column_at frame rs) on) r in
     let val : values ≡ named_cells value (on_type frame.schema on) (flat_cells (map (column_at frame (repeated 1 from count)) on) count) =
-    u ∙ ap (λ x. named_cells x type (flat_cells slice count)) o
-    ∙ ap (λ x. named_cells value x (flat_cells slice count)) t
-    ∙ ap (λ (cs : List Cells). named_cells value (on_type frame.schema on) (flat_cells cs count)) sli in
+    u ∙ ap (λ x. named_cells x type (cells_between slice from count)) o
+    ∙ ap (λ x. named_cells value x (cells_between slice from count)) t
+    ∙ ap (named_cells value (on_type frame.schema on)) (lent-flat on frame from count slice s) in
     a ∙ ap (λ (l : List Cells). l ++ values ∷ []) f
     ∙ append_assoc columns (names ∷ []) (values ∷ [])
     ∙ ap (λ (l : List Cells). l ++ names ∷ values ∷ []) col

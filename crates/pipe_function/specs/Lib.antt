@@ -1,5 +1,9 @@
 -- the columns of an unpivot
 pub mod Unpivots
+-- columns that are lent
+pub mod Lent
+-- columns by their parts
+pub mod Parts
 -- the columns of a renaming
 pub mod Renamings
 -- what a function makes of a frame

@@ -1,11 +1,10 @@
 -- The columns of an unpivot: each row of the frame gives a row for each of some columns.
-use Rattle.std.specs.Prelude.{◌≡◌, ℕ, ◌<◌, List, [], ◌∷◌, ◌++◌, length, map, replicate, slice_index_or}
+use Rattle.std.specs.Prelude.{ℕ, List, [], ◌∷◌, ◌++◌, length, map, replicate, slice_index_or}
 use Rattle.std.specs.List.{flat_map, range_with_len}
 use Rattle.pipe_frame.specs.Frame.{Table, row_at}
 use Rattle.pipe_frame.specs.Series.{Cells, named_cells}
 use Rattle.pipe_frame.specs.declared.any_value.AnyValue.{AnyValue}
 use Rattle.pipe_frame.specs.declared.any_value.AnyValue.TheVariants as cell
-use Rattle.pipe_frame.specs.declared.data_type.DataType.{DataType}
 use Rattle.pipe_frame.specs.declared.data_type.DataType.TheVariants as dtype
 use Rattle.pipe_expr.specs.Projections.{known_type, on_type}
 use Rattle.pipe_expr.specs.Types.{type_of_column}
@@ -46,10 +45,3 @@ unpivot_columns on index variable value frame from count =
     ++ named_cells variable dtype.String (repeated_cells on count)
     ∷ named_cells value (on_type frame.schema on) (flat_cells (map (column_at frame (repeated 1 from count)) on) count)
     ∷ []
-
--- a column has a type, and a cell at a place
-abbrev pub HasType : DataType → Cells → Type 0
-HasType dtype column = column.dtype ≡ dtype
-
-abbrev pub HasCell : DataType → ℕ → Cells → Type 0
-HasCell dtype i column = (column.dtype ≡ dtype) × (i < length column.cells)

@@ -6,6 +6,7 @@
 mod cutting;
 mod function;
 mod named;
+mod parts;
 mod renamed;
 mod repeated;
 mod row_by_row;

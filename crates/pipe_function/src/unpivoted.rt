@@ -6,7 +6,7 @@ ghost use Rattle.pipe_function.specs.Applied.{applied, Applies, ReadsColumns};
 ghost use Rattle.pipe_function.specs.Unpivots.{unpivot_columns};
 ghost use Rattle.pipe_function.specs.Turns.{is_unpivot};
 
-use crate::named::named_columns;
+use crate::named::{columns_named, named_columns};
 use crate::repeated::{repeated_names, repeated_places};
 use crate::row_by_row::flattened;
 use pipe_expr::FunctionIR;
@@ -33,15 +33,15 @@ fn unpivoted_columns(
         (λ v. v.items ≡
         unpivot_columns on.now index.now variable.now value.now frame.now from count) }
 {
-    let rows = repeated_places(alloc, from, count, 1)?;
-    let chosen = named_columns(alloc, frame, on, rows.as_slice())?;
+    let chosen = columns_named(alloc, frame, on)?;
     let places = repeated_places(alloc, from, count, on.len())?;
     let mut columns = named_columns(alloc, frame, index, places.as_slice())?;
     let names = repeated_names(alloc, variable.try_clone()?, on, count as usize)?;
     columns.push(names)?;
     let dtype = chosen[0].dtype();
     let name = value.try_clone()?;
-    let values = flattened(alloc, name, dtype, chosen.as_slice(), count as usize)?;
+    let (first, rows) = (from as usize, count as usize);
+    let values = flattened(alloc, name, dtype, chosen.as_slice(), first, rows)?;
     columns.push(values)?;
     Ok(columns)
 }

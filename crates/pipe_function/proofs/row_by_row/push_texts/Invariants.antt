@@ -1,13 +1,12 @@
-use Rattle.std.proofs.Common.{◌≡◌, ◌++◌, map, take, drop}
+use Rattle.std.proofs.Common.{◌≡◌, ◌+◌, ◌++◌, map, take, drop}
 use Rattle.std.specs.List.{AllByRecursion}
 use Rattle.pipe_frame.specs.Cell.{string_cell}
-use Rattle.pipe_frame.specs.Frame.{cell_in}
 use Rattle.pipe_frame.specs.declared.data_type.DataType.TheVariants as dtype
-use Rattle.pipe_function.specs.Unpivots.{HasCell}
+use Rattle.pipe_function.specs.Lent.{lent_cell, HasCells}
 use Rattle.pipe_function.proofs.row_by_row.push_texts.Given as goal
 
 abbrev pub invariant-loop-column : goal.invariant-loop-column
 invariant-loop-column l = record {
-  made : map string_cell l.made ≡ map string_cell l.initial.made ++ map (cell_in l.i) (take l.column-index l.columns);
-  left : AllByRecursion (HasCell dtype.String l.i) (drop l.column-index l.columns);
+  made : map string_cell l.made ≡ map string_cell l.initial.made ++ map (lent_cell l.i) (take l.column-index l.columns);
+  left : AllByRecursion (HasCells dtype.String (l.i + 1)) (drop l.column-index l.columns);
 }

@@ -1,6 +1,0 @@
-use Rattle.std.proofs.Common.{◌≡◌, map}
-use Rattle.pipe_function.specs.Unpivots.{flat_cells}
-use Rattle.pipe_function.proofs.row_by_row.flattened_values.Given as goal
-
-abbrev pub invariant-loop-i : goal.invariant-loop-i
-invariant-loop-i g l = map g.T.Native.cell l.made ≡ flat_cells l.columns l.i
