@@ -4,15 +4,16 @@ ghost use Rattle.std.specs.Prelude.{◌≡◌, ℕ, ◌≤◌, ◌<◌, ◌^◌,
 ghost use Rattle.std.specs.List.{flat_map};
 ghost use Rattle.pipe_frame.specs.Chunks.{HasSchema, chunk_rows, chunks_table};
 ghost use Rattle.pipe_frame.specs.declared.field.Field.{Field};
-ghost use Rattle.pipe_sort.specs.SortKeys.{AreWithin, Settings, Sorting};
+ghost use Rattle.pipe_sort.specs.SortKeys.{AreWithin, Settings, Sorting, may_end};
 
 use crate::key::{SortKey, SortSlice};
-use crate::sorted::sorted_frame;
+use crate::sorted::{sorted_frame, sorted_frame_on};
 use pipe_frame::{DataChunk, DataFrame, List, Schema, TryClone, chunks_to_df_unchecked};
 use pipe_ops::{FinalizedSink, PExecutionContext, Sink, SinkResult};
 use std::alloc::{AllocError, Global};
 use std::marker::Model;
 use std::mem::replace;
+use std::thread::Threads;
 
 /// A sort: it keeps the chunks that it is given, and ends as a frame of their rows in order (polars-pipe's
 /// `SortSink`, here without a merge of lanes: the one sort comes last).
@@ -69,6 +70,28 @@ impl SortSink {
             schema,
             chunks: Vec::new(alloc),
         }
+    }
+}
+
+impl SortSink {
+    /// The frame that `finalize` ends as, sorted by as many threads as there are workers.
+    pub fn sorted_on<R: Threads + Sync>(
+        self,
+        rt: &R,
+        alloc: Global,
+        workers: u32,
+    ) -> Result<DataFrame, AllocError>
+        ensures schema { IfOk result (λ made. made.schema ≡ self.settings.schema) }
+        ensures rows { IfOk result (λ made. may_end self.settings self.rows made.rows) }
+    {
+        let SortSink {
+            keys,
+            slice,
+            schema,
+            chunks,
+        } = self;
+        let frame = gathered(alloc, chunks, &schema)?;
+        sorted_frame_on(rt, alloc, workers as usize, keys.as_slice(), slice, &frame)
     }
 }
 
