@@ -13,3 +13,4 @@ pub mod NamePlaces
 pub mod NativeBytes
 pub mod NameOrders
 pub mod NameSets
+pub mod Stacks

@@ -1,5 +1,5 @@
 -- Chunks: frames with their places in a run.
-use Rattle.std.specs.Prelude.{◌≡◌, List}
+use Rattle.std.specs.Prelude.{◌≡◌, ℕ, List, Some, slice_get}
 use Rattle.std.specs.List.{flat_map}
 use Rattle.pipe_frame.specs.Frame.{Table}
 use Rattle.pipe_frame.specs.Rows.{Row}
@@ -17,3 +17,7 @@ chunks_table schema chunks = record { schema = schema; rows = flat_map chunk_row
 -- a chunk has this schema
 abbrev pub HasSchema : List Field → DataChunk → Type 0
 HasSchema schema chunk = chunk.frame.schema ≡ schema
+
+-- a chunk has this field at a place of its schema
+abbrev pub HasFieldAt : ℕ → Field → DataChunk → Type 0
+HasFieldAt k field chunk = slice_get chunk.frame.schema k ≡ Some field

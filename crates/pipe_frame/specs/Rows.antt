@@ -1,5 +1,5 @@
 -- Same rows (bags of relational algebra): two lists have the same rows where each row stands in both as often.
-use Rattle.std.specs.Prelude.{◌≡◌, ℕ, ◌+◌, ◌≤◌, List, [], ◌∷◌, Bool, if◌then◌else◌}
+use Rattle.std.specs.Prelude.{◌≡◌, ℕ, ◌+◌, ◌≤◌, List, [], ◌∷◌, Bool, if◌then◌else◌, length}
 use Rattle.std.specs.Str.{bytes_eq}
 use Rattle.std.specs.Cmp.Lexicographic.{pointwise}
 use Rattle.pipe_frame.specs.Cell.{eq_cell}
@@ -8,6 +8,10 @@ use Rattle.pipe_frame.specs.declared.any_value.AnyValue.{AnyValue}
 -- a row is a list of cells
 abbrev pub Row : Type 0
 Row = List AnyValue
+
+-- a row has so many cells
+abbrev pub HasWidth : ℕ → Row → Type 0
+HasWidth width row = length row ≡ width
 
 -- whether two rows have the same cells, in order
 abbrev pub eq_row : Row → Row → Bool

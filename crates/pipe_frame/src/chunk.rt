@@ -1,12 +1,10 @@
 //! Chunks: a frame with a number that says where it stands among others.
 
-ghost use Rattle.std.specs.Prelude.{◌≡◌, [], IsTrue, ◌↔◌, All, IfOk};
-ghost use Rattle.pipe_frame.specs.Chunks.{chunks_table, HasSchema};
+ghost use Rattle.std.specs.Prelude.{◌≡◌, [], IsTrue, ◌↔◌};
 
 use crate::data_frame::DataFrame;
-use crate::schema::Schema;
 use crate::try_clone::TryClone;
-use std::alloc::{AllocError, Global};
+use std::alloc::AllocError;
 
 /// A frame with its place among the chunks of a run.
 #[derive(Debug)]
@@ -58,20 +56,4 @@ impl TryClone for DataChunk {
             frame: self.frame.try_clone()?,
         })
     }
-}
-
-/// The rows of chunks of one schema, in order, as one frame.
-pub fn chunks_to_df_unchecked(
-    alloc: Global,
-    chunks: Vec<DataChunk>,
-    schema: &Schema,
-) -> Result<DataFrame, AllocError>
-    requires { All (HasSchema schema.now) chunks.items }
-    ensures { IfOk result (λ frame. frame ≡ chunks_table schema.now chunks.items) }
-{
-    let mut frame = DataFrame::empty(alloc, schema)?;
-    for chunk in &chunks {
-        frame.vstack_mut(&chunk.frame)?;
-    }
-    Ok(frame)
 }

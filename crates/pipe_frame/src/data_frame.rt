@@ -3,6 +3,7 @@
 ghost use Rattle.std.specs.Prelude.{◌≡◌, ℕ, ◌<◌, ◌≤◌, ◌+◌, ◌⊎◌, [], ◌++◌, length, All, map, take, drop, IfOk, IfErr, OnOk, OnErr, Some, None, slice_get, ◌^◌};
 ghost use Rattle.pipe_frame.specs.Schema.{MemoryOr, IsSchema};
 ghost use Rattle.pipe_frame.specs.Frame.{column_rows, even_rows, field_of, columns_of, height_of, frame_fault, table_of, AllOfHeight, IsRowOrNone, with_rows, chosen, taken, filtered, sliced, stacked, selected, select_fault};
+ghost use Rattle.pipe_frame.specs.Rows.{HasWidth};
 ghost use Rattle.pipe_frame.specs.Sizes.{frame_size};
 
 use crate::any_value::AnyValue;
@@ -96,6 +97,28 @@ impl DataFrame {
             columns,
             height,
         }
+    }
+
+    /// The frame of these columns, which all have this height, and of their schema.
+    pub(crate) fn of_height(schema: Schema, columns: Vec<Series>, height: usize) -> DataFrame
+        requires fields { map field_of columns.items ≡ schema }
+        requires even { AllOfHeight height columns.items }
+        ensures { result ≡ table_of columns.items height }
+    {
+        let _ = schema.len();
+        DataFrame {
+            schema,
+            columns,
+            height,
+        }
+    }
+
+    /// How many rows there are, each of which has a cell in each column.
+    pub(crate) fn whole_height(&self) -> usize
+        ensures height { result ≡ length self.now.rows }
+        ensures whole { All (HasWidth (length self.now.schema)) self.now.rows }
+    {
+        self.height
     }
 
     /// How many rows there are.

@@ -54,6 +54,21 @@ impl Series {
         }
     }
 
+    /// A column with no cell, and room for so many but for the bytes of texts.
+    pub(crate) fn with_capacity(
+        alloc: Global,
+        name: Text,
+        dtype: DataType,
+        places: usize,
+    ) -> Result<Series, AllocError>
+        ensures { IfOk result (λ made. made ≡ record { name = name; dtype = dtype; cells = [] }) }
+    {
+        Ok(Series {
+            name,
+            values: Values::with_capacity(alloc, dtype, places)?,
+        })
+    }
+
     /// The name.
     pub fn name(&self) -> &Text
         ensures { result.now ≡ self.now.name }

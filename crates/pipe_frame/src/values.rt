@@ -45,6 +45,27 @@ impl Values {
         }
     }
 
+    /// The values of a type, none yet, and room for so many but for the bytes of texts.
+    pub(crate) fn with_capacity(
+        alloc: Global,
+        dtype: DataType,
+        places: usize,
+    ) -> Result<Values, AllocError>
+        ensures dtype { IfOk result (λ made. dtype_of_values made ≡ dtype) }
+        ensures cells { IfOk result (λ made. cells_of made ≡ []) }
+    {
+        Ok(match dtype {
+            DataType::Int32 => Values::Int32(Column::with_capacity(alloc, places)?),
+            DataType::Int64 => Values::Int64(Column::with_capacity(alloc, places)?),
+            DataType::UInt32 => Values::UInt32(Column::with_capacity(alloc, places)?),
+            DataType::UInt64 => Values::UInt64(Column::with_capacity(alloc, places)?),
+            DataType::Boolean => Values::Boolean(Column::with_capacity(alloc, places)?),
+            DataType::String => Values::String(StringColumn::with_capacity(alloc, places)?),
+            DataType::Binary => Values::Binary(BinaryColumn::with_capacity(alloc, places)?),
+            DataType::Int128 => Values::Int128(Column::with_capacity(alloc, places)?),
+        })
+    }
+
     /// The type.
     pub(crate) fn dtype(&self) -> DataType
         ensures { result ≡ dtype_of_values self.now }
