@@ -18,13 +18,13 @@ import tempfile
 from pathlib import Path
 
 import works
-from run import PROGRAM, peak_of
+from run import ENVIRONMENT, PROGRAM, peak_of
 
 
 def processor_seconds(job):
     """The seconds of processor time of one run."""
     with open(job, "rb") as source:
-        run = subprocess.Popen([PROGRAM, "run"], stdin=source, stdout=subprocess.DEVNULL)
+        run = subprocess.Popen([PROGRAM, "run"], stdin=source, stdout=subprocess.DEVNULL, env=ENVIRONMENT)
         _, status, used = os.wait4(run.pid, 0)
     if status != 0:
         sys.exit(f"{job} ended with {os.waitstatus_to_exitcode(status)}")

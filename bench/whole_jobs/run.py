@@ -30,6 +30,8 @@ import works
 HERE = Path(__file__).resolve().parent
 TOP = HERE.parent.parent
 PROGRAM = TOP / "crates" / "liskevar" / "out" / "liskevar"
+# Where the program runs, as ./liskevar has it.
+ENVIRONMENT = {**os.environ, "MALLOC_ARENA_MAX": "1"}
 
 
 # A work by Miller, over the CSV files of its frames, {0}, {1} and so on.
@@ -50,9 +52,10 @@ PEAK = "import os, subprocess, sys; run = subprocess.Popen(sys.argv[1:]); print(
 
 def timed(command, job, lines):
     """The seconds of one run."""
+    environment = ENVIRONMENT if command[0] == PROGRAM else os.environ
     with open(job, "rb") as source, open(lines, "wb") as sink:
         start = time.perf_counter()
-        status = subprocess.run(command, stdin=source, stdout=sink).returncode
+        status = subprocess.run(command, stdin=source, stdout=sink, env=environment).returncode
         seconds = time.perf_counter() - start
     if status != 0:
         sys.exit(f"{' '.join(map(str, command))} ended with {status}")
@@ -62,7 +65,8 @@ def timed(command, job, lines):
 def peak_of(job):
     """The program's peak of memory for a job, in bytes."""
     with open(job, "rb") as source:
-        run = subprocess.run([sys.executable, "-c", PEAK, PROGRAM, "run"], stdin=source, stdout=subprocess.DEVNULL, stderr=subprocess.PIPE)
+        command = [sys.executable, "-c", PEAK, PROGRAM, "run"]
+        run = subprocess.run(command, stdin=source, stdout=subprocess.DEVNULL, stderr=subprocess.PIPE, env=ENVIRONMENT)
     return int(run.stderr) * 1024
 
 
