@@ -56,9 +56,11 @@ fn all_places_text(
     let mut before = "";
     for row in 0..keys.len() {
         text.push_str(before)?;
-        match build.positions_of(keys.row(row)) {
-            None => text.push_str("none")?,
-            Some(places) => text.push_str(places_text(alloc, places)?.as_str())?,
+        let places = build.positions_of(alloc, keys.row(row))?;
+        if places.is_empty() {
+            text.push_str("none")?;
+        } else {
+            text.push_str(places_text(alloc, places.as_slice())?.as_str())?;
         }
         before = "; ";
     }
