@@ -7,3 +7,4 @@ pub mod RowBytes
 pub mod RowOrder
 pub mod SortedColumns
 pub mod SortedRows
+pub mod TakenColumns

@@ -8,6 +8,7 @@ mod prefix;
 mod sink;
 mod sorted;
 mod spots;
+mod taking;
 mod ties;
 
 pub use key::{SortKey, SortSlice};
