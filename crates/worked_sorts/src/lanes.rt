@@ -9,6 +9,7 @@ use pipe_ops::{FinalizedSink, PExecutionContext, Sink};
 use pipe_rows::SortField;
 use pipe_sort::{SortKey, SortSink, SortSlice};
 use std::alloc::{AllocError, Global};
+use std::thread::Threads;
 use worked_columns::{WrittenColumn, frame_of};
 
 /// The most rows of a sink.
@@ -105,6 +106,36 @@ pub(crate) fn sorted_text(
         over_two(alloc, keys, slice, frame)
     } else {
         not_made(alloc)
+    }
+}
+
+/// The rows of a frame, sorted on threads.
+fn on_threads<R: Threads + Sync>(
+    rt: &R,
+    alloc: Global,
+    keys: &[SortKey],
+    frame: DataFrame,
+) -> Result<DataFrame, AllocError>
+    requires keys { AreWithin (length frame.schema) keys.now }
+    requires few { length frame.rows ≤ 4294967294 }
+{
+    let schema = frame.schema().try_clone()?;
+    let sink = SortSink::new(alloc, listed(alloc, keys)?, None, schema);
+    let sink = sunk(alloc, sink, frame)?;
+    Ok(sink.sorted_on(rt, alloc, 2)?)
+}
+
+/// The same, none where a key has no column.
+pub(crate) fn sorted_on_threads<R: Threads + Sync>(
+    rt: &R,
+    alloc: Global,
+    keys: &[SortKey],
+    frame: DataFrame,
+) -> Result<Option<DataFrame>, AllocError> {
+    if frame.height() <= MOST && are_within(keys, frame.width()) {
+        Ok(Some(on_threads(rt, alloc, keys, frame)?))
+    } else {
+        Ok(None)
     }
 }
 

@@ -6,24 +6,27 @@ mod lanes;
 mod many;
 mod rows;
 mod slices;
+mod threads;
 mod told;
 mod types;
 
 use std::alloc::{AllocError, Global};
 use std::io;
+use std::thread::Threads;
 
 /// What each case shows, and its answer.
-fn answers(alloc: Global) -> Result<String, AllocError> {
+fn answers<R: Threads + Sync>(rt: &R, alloc: Global) -> Result<String, AllocError> {
     let mut answers = String::new(alloc);
     rows::tell(alloc, &mut answers)?;
     types::tell(alloc, &mut answers)?;
     flags::tell(alloc, &mut answers)?;
     slices::tell(alloc, &mut answers)?;
     many::tell(alloc, &mut answers)?;
+    threads::tell(rt, alloc, &mut answers)?;
     Ok(answers)
 }
 
 fn main(rt: HostRuntime) -> io::Result<()> {
-    let answers = answers(rt.alloc())?;
+    let answers = answers(&rt, rt.alloc())?;
     print!(rt; "{answers}")
 }
