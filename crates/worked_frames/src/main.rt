@@ -20,6 +20,6 @@ mod wide;
 use std::io;
 
 fn main(rt: HostRuntime) -> io::Result<()> {
-    let answers = table::answers(rt.alloc())?;
+    let answers = table::answers(&rt, rt.alloc())?;
     print!(rt; "{answers}")
 }

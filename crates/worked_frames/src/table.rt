@@ -4,9 +4,10 @@ use crate::{
     chunks, columns, copies, names, refusals, rows, series, shared, sizes, stacks, stops, wide,
 };
 use std::alloc::{AllocError, Global};
+use std::thread::Threads;
 
 /// What each case shows, and its answer.
-pub(crate) fn answers(alloc: Global) -> Result<String, AllocError> {
+pub(crate) fn answers<R: Threads + Sync>(rt: &R, alloc: Global) -> Result<String, AllocError> {
     let mut answers = String::new(alloc);
     refusals::tell(alloc, &mut answers)?;
     rows::tell(alloc, &mut answers)?;
@@ -16,7 +17,7 @@ pub(crate) fn answers(alloc: Global) -> Result<String, AllocError> {
     wide::tell(alloc, &mut answers)?;
     copies::tell(alloc, &mut answers)?;
     shared::tell(alloc, &mut answers)?;
-    chunks::tell(alloc, &mut answers)?;
+    chunks::tell(rt, alloc, &mut answers)?;
     sizes::tell(alloc, &mut answers)?;
     stacks::tell(alloc, &mut answers)?;
     stops::tell(alloc, &mut answers)?;
