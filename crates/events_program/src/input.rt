@@ -2,10 +2,10 @@
 
 use crate::items::items_of;
 use crate::keys::key_of;
+use pipe_events::{Event, Side};
 use pipe_frame::{List, Row};
 use pipe_stages::{Stage, StagedPlan};
 use pipe_value::Item;
-use pipe_world::{Event, Side};
 use std::alloc::{AllocError, Global};
 
 /// The number at a place of an array.

@@ -1,6 +1,6 @@
 //! Events as lines.
 
-use pipe_world::{Event, Side};
+use pipe_events::{Event, Side};
 use std::alloc::{AllocError, Global};
 
 fn side_name(side: Side) -> &'static str {

@@ -5,7 +5,7 @@ ghost use Rattle.pipe_events.specs.Worlds as worlds;
 ghost use Rattle.pipe_events.specs.Decided.{may_take as takes, is_allowed as allows};
 ghost use Rattle.pipe_stages.specs.Staged.{staged};
 ghost use Rattle.pipe_world.specs.Shown.{world_of};
-ghost use Rattle.pipe_world.specs.EventValues.{side_value, event_value};
+ghost use Rattle.pipe_events.specs.EventValues.{side_value, event_value};
 
 use crate::carried::is_idle;
 use crate::chains::is_chain_built;
@@ -13,9 +13,10 @@ use crate::closing::{may_close, side_below};
 use crate::flushing::may_flush;
 use crate::marking::{is_all_marked, may_mark};
 use crate::sources::{are_fresh, is_source_ready, source_count};
+use pipe_events::{Event, Side};
 use pipe_frame::Row;
 use pipe_stages::StagedPlan;
-use pipe_world::{Event, Side, World};
+use pipe_world::World;
 use std::alloc::{AllocError, Global};
 
 /// Whether the positions are there, and not taken.

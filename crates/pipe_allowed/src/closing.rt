@@ -8,14 +8,15 @@ ghost use Rattle.pipe_events.specs.Decided.{all_below, is_quiet as quiet_at, may
 ghost use Rattle.pipe_stages.specs.StageValues.{join_value, stage_value};
 ghost use Rattle.pipe_stages.specs.Staged.{staged};
 ghost use Rattle.pipe_world.specs.Shown.{world_of};
-ghost use Rattle.pipe_world.specs.EventValues.{side_value};
+ghost use Rattle.pipe_events.specs.EventValues.{side_value};
 ghost use Rattle.pipe_allowed.specs.Closing.{is_coming, spent_if_coming};
 ghost use Rattle.pipe_allowed.specs.Joins.{join_passes, built_if_probed};
 
 use crate::marks::is_flushing;
 use crate::spent::is_spent;
+use pipe_events::Side;
 use pipe_stages::{JoinStage, Stage, StagedPlan, is_marked, reach_marks};
-use pipe_world::{Load, Side, World};
+use pipe_world::{Load, World};
 use std::alloc::{AllocError, Global};
 
 /// Whether the rows of a node come to another.

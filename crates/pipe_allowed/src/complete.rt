@@ -8,8 +8,9 @@ ghost use Rattle.pipe_allowed.specs.Closing.{spent_at, closed_at};
 
 use crate::closing::side_below;
 use crate::spent::is_spent;
+use pipe_events::Side;
 use pipe_stages::StagedPlan;
-use pipe_world::{Side, World};
+use pipe_world::World;
 
 /// Whether the side above a node is closed, if there is one.
 fn is_side_closed(world: &World, below: Option<u32>) -> bool

@@ -11,7 +11,7 @@ use Rattle.pipe_pipeline.specs.Taken.{IsPiece, TakenOf}
 use Rattle.pipe_pipeline.specs.declared.flow.Branch.{Branch}
 use Rattle.pipe_pipeline.specs.declared.taking.Taking.{Taking}
 use Rattle.pipe_check.specs.Checked.{Checked}
-use Rattle.pipe_world.specs.declared.event.Event.{Event}
+use Rattle.pipe_events.specs.declared.event.Event.{Event}
 use Rattle.pipe_eval.specs.Journals.{ending_events, events_in, flushed_events, is_marking, taken_by, taken_events, taken_in}
 use Rattle.pipe_eval.specs.Paced.{IsSized, KeepsPace, takes_in}
 

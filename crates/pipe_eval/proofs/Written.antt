@@ -9,7 +9,7 @@ use Rattle.pipe_pipeline.specs.Taken.{Since, TakenOf}
 use Rattle.pipe_pipeline.specs.declared.flow.Branch.{Branch}
 use Rattle.pipe_pipeline.specs.declared.taking.Taking.{Taking}
 use Rattle.pipe_check.specs.Checked.{Checked}
-use Rattle.pipe_world.specs.declared.event.Event.{Event}
+use Rattle.pipe_events.specs.declared.event.Event.{Event}
 use Rattle.pipe_eval.specs.Journals.{BeginAt, IsRunBy, Writes, events_in, stages_in, taken_events}
 use Rattle.pipe_eval.proofs.Begins.{sources-taken}
 

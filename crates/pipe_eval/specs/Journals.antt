@@ -15,8 +15,8 @@ use Rattle.pipe_plan.specs.Under.{node_at}
 use Rattle.pipe_rows.specs.Partition.{IsPartitionCount}
 use Rattle.pipe_check.specs.Checked.{Checked}
 use Rattle.pipe_marking.specs.declared.flushing.Flushing.{Flushing}
-use Rattle.pipe_world.specs.EventValues.{event_value}
-use Rattle.pipe_world.specs.declared.event.Event.{Event}
+use Rattle.pipe_events.specs.EventValues.{event_value}
+use Rattle.pipe_events.specs.declared.event.Event.{Event}
 
 -- the stages of a checked plan
 abbrev pub stages_in : Checked → Setting → Stages

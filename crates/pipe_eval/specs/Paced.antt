@@ -3,7 +3,7 @@ use Rattle.std.specs.Prelude.{◌≡◌, ℕ, ◌+◌, ◌*◌, ◌≤◌, List,
 use Rattle.std.specs.List.{AllByRecursion}
 use Rattle.pipe_frame.specs.Counts.{Counts}
 use Rattle.pipe_events.specs.Worlds as worlds
-use Rattle.pipe_world.specs.declared.event.Event.{Event}
+use Rattle.pipe_events.specs.declared.event.Event.{Event}
 use Rattle.pipe_eval.specs.Journals.{events_in}
 
 -- 1 where a worker takes rows of a source

@@ -2,14 +2,14 @@
 
 ghost use Rattle.std.specs.Prelude.{◌≡◌, [], ◌∷◌, ◌++◌, IfOk, OnOk};
 ghost use Rattle.pipe_events.specs.Worlds as worlds;
-ghost use Rattle.pipe_world.specs.EventValues.{side_value};
+ghost use Rattle.pipe_events.specs.EventValues.{side_value};
 ghost use Rattle.pipe_eval.specs.Journals.{ending_events, events_in, flushed_by, flushed_events, taken_by, taken_events, taken_in};
 
 use crate::marking::is_marking_node;
 use pipe_check::CheckedPlan;
+use pipe_events::{Event, Side};
 use pipe_marking::Flushing;
 use pipe_pipeline::Taking;
-use pipe_world::{Event, Side};
 use std::alloc::AllocError;
 
 /// Positions of rows have 32 bits.

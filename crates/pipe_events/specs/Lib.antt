@@ -3,3 +3,4 @@ pub mod Worlds
 pub mod Schedules
 pub mod PlanStages
 pub mod Decided
+pub mod EventValues

@@ -17,7 +17,7 @@ use Rattle.pipe_journal.proofs.Whole.{runs_complete}
 use Rattle.pipe_typing.specs.Fits.{FramesFit}
 use Rattle.pipe_typing.proofs.Plans.{sorts_sure}
 use Rattle.pipe_check.specs.Checked.{Checked}
-use Rattle.pipe_world.specs.declared.event.Event.{Event}
+use Rattle.pipe_events.specs.declared.event.Event.{Event}
 use Rattle.pipe_eval.specs.Journals.{Writes, events_in, stages_in}
 use Rattle.pipe_exec.specs.Journals.{IsSettingOf, IsWholeList}
 

@@ -9,7 +9,7 @@ use Rattle.pipe_exec.specs.declared.answer.RunAnswer.{RunAnswer}
 use Rattle.pipe_frame.specs.Rows.{Row, Same}
 use Rattle.pipe_plan.specs.Plan.{Plan}
 use Rattle.pipe_rows.specs.Partition.{IsPartitionCount, partition_of_key}
-use Rattle.pipe_world.specs.EventValues.{event_value}
+use Rattle.pipe_events.specs.EventValues.{event_value}
 use Rattle.pipe_eval.specs.Paced.{KeepsPace}
 
 -- a run by so many workers, with the partitions that a hash gives the keys

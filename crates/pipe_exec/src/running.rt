@@ -16,8 +16,8 @@ use crate::numbers::context_of;
 use pipe_eval::evaluate;
 use pipe_frame::{Gate, List, StopCheck};
 use pipe_plan::{Arena, PipeConfig, PipeError};
-use pipe_replay::frames_fit;
 use pipe_rows::{Fnv, KeyHasher};
+use pipe_typing::frames_fit;
 use std::alloc::Global;
 use std::thread::Threads;
 

@@ -5,6 +5,5 @@ pub mod PlayLemmas
 pub mod Parts
 pub mod Sides
 pub mod RowLists
-pub mod FitLemmas
 pub mod KeptLemmas
 pub mod SortLemmas

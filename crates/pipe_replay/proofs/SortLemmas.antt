@@ -10,7 +10,7 @@ use Rattle.pipe_frame.specs.Frame.{cell_in, row_at, column_rows, even_rows, heig
 use Rattle.pipe_frame.specs.declared.any_value.AnyValue.TheVariants as cell
 use Rattle.pipe_frame.specs.declared.field.Field.{Field}
 use Rattle.pipe_expr.proofs.NamedColumns as named
-use Rattle.pipe_replay.proofs.FitLemmas.{fields-from}
+use Rattle.pipe_typing.proofs.FitLemmas.{fields-from}
 
 some-field : (schema : List Field) → IsSchema schema → 0 < length schema
 some-field [] h = cc

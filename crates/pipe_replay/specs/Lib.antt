@@ -4,8 +4,6 @@ pub mod Marks
 pub mod Replayed
 -- lists of sorts that are kept
 pub mod KeptLists
--- columns whose cells fit their type
-pub mod Fitting
 -- sinks that are filled
 pub mod Sinks
 -- what a world of a plan has at its root

@@ -6,7 +6,7 @@ ghost use Rattle.pipe_events.specs.Worlds.{after};
 ghost use Rattle.pipe_events.specs.Decided.{is_allowed as allows};
 ghost use Rattle.pipe_stages.specs.Staged.{staged};
 ghost use Rattle.pipe_world.specs.Shown.{world_of, IsFor};
-ghost use Rattle.pipe_world.specs.EventValues.{side_value};
+ghost use Rattle.pipe_events.specs.EventValues.{side_value};
 ghost use Rattle.pipe_replay.specs.KeptLists.{AreKept};
 ghost use Rattle.pipe_replay.specs.Replayed.{parted, AreBelow};
 
@@ -16,10 +16,11 @@ use crate::lists::SortedLists;
 use crate::marking::{mark_all, mark_all_seen};
 use crate::sources::picked_rows;
 use pipe_allowed::side_below;
+use pipe_events::Side;
 use pipe_frame::{List, Row, TryClone};
 use pipe_rows::KeyHasher;
 use pipe_stages::{Stage, StagedPlan};
-use pipe_world::{Side, World};
+use pipe_world::World;
 use std::alloc::{AllocError, Global};
 
 /// Positions of a source are taken.

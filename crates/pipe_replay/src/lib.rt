@@ -7,7 +7,6 @@
 
 mod changing;
 mod emitting;
-mod fitting;
 mod flushing;
 mod framing;
 mod key_bytes;
@@ -18,6 +17,5 @@ mod replaying;
 mod sorting;
 mod sources;
 
-pub use fitting::frames_fit;
 pub use lists::SortedLists;
 pub use replaying::{Played, StepAnswer, play, replay, root_bag, step};

@@ -8,21 +8,22 @@ ghost use Rattle.pipe_events.specs.Worlds.{start, after};
 ghost use Rattle.pipe_events.specs.Decided.{is_allowed as allows};
 ghost use Rattle.pipe_stages.specs.Staged.{staged, IsStaged};
 ghost use Rattle.pipe_world.specs.Shown.{world_of, IsFor};
-ghost use Rattle.pipe_world.specs.EventValues.{event_value};
+ghost use Rattle.pipe_events.specs.EventValues.{event_value};
 ghost use Rattle.pipe_replay.specs.Ends.{HasTheRows};
 ghost use Rattle.pipe_replay.specs.KeptLists.{AreKept};
 ghost use Rattle.pipe_replay.specs.Replayed.{parted, AreBelow, replayed, IsPlayed};
 
 use crate::changing::{close, finish, flush, mark, take};
 use crate::emitting::emit;
-use crate::fitting::frames_fit;
 use crate::lists::SortedLists;
 use pipe_allowed::is_allowed;
+use pipe_events::Event;
 use pipe_frame::Row;
 use pipe_plan::Arena;
 use pipe_rows::KeyHasher;
 use pipe_stages::StagedPlan;
-use pipe_world::{Event, World};
+use pipe_typing::frames_fit;
+use pipe_world::World;
 use std::alloc::{AllocError, Global};
 
 /// What an allowed event changes.

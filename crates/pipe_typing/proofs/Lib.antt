@@ -3,3 +3,4 @@ pub mod Cells
 pub mod Rows
 pub mod Orders
 pub mod Plans
+pub mod FitLemmas

@@ -8,13 +8,14 @@ ghost use Rattle.pipe_replay.specs.Replayed.{AreBelow};
 
 use crate::written::{WrittenEvent, WrittenList};
 use pipe_allowed::is_complete;
+use pipe_events::Event;
 use pipe_frame::{AnyValue, List, Row};
 use pipe_plain::plan_fault;
 use pipe_plan::Arena;
 use pipe_replay::{play, root_bag};
 use pipe_rows::Fnv;
 use pipe_stages::{PlanTables, StagedPlan};
-use pipe_world::{Event, World};
+use pipe_world::World;
 use std::alloc::{AllocError, Global};
 use worked_builders::plan_of;
 

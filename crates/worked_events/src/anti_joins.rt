@@ -3,8 +3,8 @@
 use crate::answers::tell_lists;
 use crate::written::WrittenEvent::{Close, Done, Emit, Flush, Take};
 use crate::written::{ONE_AND_TWO, WrittenList};
+use pipe_events::Side;
 use pipe_expr::JoinType;
-use pipe_world::Side;
 use std::alloc::{AllocError, Global};
 use worked_builders::WrittenNode::{Join, Scan};
 use worked_builders::{INNER_ON_K, WrittenJoin};

@@ -3,7 +3,7 @@
 use crate::answers::{tell_damaged, tell_lists};
 use crate::written::WrittenEvent::{Close, Done, Emit, Flush, Mark, Take};
 use crate::written::{FULL, ONE, ONE_AND_TWO, WrittenList};
-use pipe_world::Side;
+use pipe_events::Side;
 use std::alloc::{AllocError, Global};
 use worked_builders::WrittenNode::{Join, Scan};
 

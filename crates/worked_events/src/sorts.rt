@@ -3,7 +3,7 @@
 use crate::answers::tell_lists;
 use crate::written::WrittenEvent::{Close, Done, Take};
 use crate::written::{ONE_AND_TWO, WrittenList};
-use pipe_world::Side;
+use pipe_events::Side;
 use std::alloc::{AllocError, Global};
 use worked_builders::WrittenNode::{Join, Scan, Sort, Union};
 use worked_builders::{BY_K, INNER_ON_K, WrittenJoin, WrittenSort};

@@ -1,8 +1,8 @@
 //! Lists of events as they are written.
 
+use pipe_events::{Event, Side};
 use pipe_expr::{JoinCoalesce, JoinType};
 use pipe_frame::{AnyValue, Row};
-use pipe_world::{Event, Side};
 use std::alloc::{AllocError, Global};
 use worked_builders::{INNER_ON_K, WrittenJoin, WrittenNode};
 use worked_columns::{INT, WrittenColumn};

@@ -1,9 +1,9 @@
 //! A plan run, and what its journal says.
 
+use pipe_events::{Event, Side};
 use pipe_exec::{PipeConfig, RunAnswer, run_plan};
 use pipe_frame::{Gate, NeverStop};
 use pipe_plan::PipeError;
-use pipe_world::{Event, Side};
 use std::alloc::{AllocError, Global};
 use std::thread::Threads;
 use worked_builders::{WrittenNode, plan_of};

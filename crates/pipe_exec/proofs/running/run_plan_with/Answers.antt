@@ -3,9 +3,9 @@ use Rattle.pipe_plan.specs.Plan.{plan_of}
 use Rattle.pipe_check.specs.Checked.{Checked}
 use Rattle.pipe_events.specs.PlanStages.{stages_of}
 use Rattle.pipe_journal.specs.Runs.{IsRun}
-use Rattle.pipe_replay.specs.Fitting.{TablesFit}
-use Rattle.pipe_world.specs.EventValues.{event_value}
-use Rattle.pipe_world.specs.declared.event.Event.{Event}
+use Rattle.pipe_typing.specs.Fitting.{TablesFit}
+use Rattle.pipe_events.specs.EventValues.{event_value}
+use Rattle.pipe_events.specs.declared.event.Event.{Event}
 use Rattle.pipe_eval.specs.Evaluated.{HasRowsOf}
 use Rattle.pipe_eval.specs.Journals.{Writes}
 use Rattle.pipe_eval.specs.Paced.{KeepsPace}

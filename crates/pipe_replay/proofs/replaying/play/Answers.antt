@@ -1,8 +1,8 @@
 use Rattle.std.proofs.Common.{map, subst}
 use Rattle.pipe_plan.specs.Plan.{plan_of}
 use Rattle.pipe_world.specs.Shown.{world_of}
-use Rattle.pipe_world.specs.EventValues.{event_value}
-use Rattle.pipe_replay.specs.Fitting.{TablesFit}
+use Rattle.pipe_events.specs.EventValues.{event_value}
+use Rattle.pipe_typing.specs.Fitting.{TablesFit}
 use Rattle.pipe_replay.proofs.EndLemmas.{has-the-rows}
 use Rattle.pipe_replay.proofs.replaying.play.Goals as goal
 

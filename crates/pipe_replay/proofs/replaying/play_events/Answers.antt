@@ -2,7 +2,7 @@ use Rattle.std.proofs.Common.{◌≡◌, ◌∙◌, true, false, cond, ap, sym}
 use Rattle.pipe_events.specs.Worlds.{after}
 use Rattle.pipe_events.specs.Decided.{is_allowed}
 use Rattle.pipe_world.specs.Shown.{world_of}
-use Rattle.pipe_world.specs.EventValues.{event_value}
+use Rattle.pipe_events.specs.EventValues.{event_value}
 use Rattle.pipe_replay.specs.Replayed.{parted}
 use Rattle.pipe_replay.proofs.PlayLemmas.{more-allowed, more-run, play-stops}
 use Rattle.pipe_replay.proofs.replaying.play_events.Goals as goal

@@ -3,7 +3,7 @@ use Rattle.pipe_events.specs.Worlds.{start}
 use Rattle.pipe_events.specs.Schedules.{run}
 use Rattle.pipe_events.specs.Decided.{all_allowed}
 use Rattle.pipe_world.specs.Shown.{world_of, IsFor}
-use Rattle.pipe_world.specs.EventValues.{event_value}
+use Rattle.pipe_events.specs.EventValues.{event_value}
 use Rattle.pipe_stages.specs.Staged.{staged}
 use Rattle.pipe_replay.specs.KeptLists.{AreKept}
 use Rattle.pipe_replay.specs.Replayed.{parted}

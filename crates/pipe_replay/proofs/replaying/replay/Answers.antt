@@ -1,7 +1,7 @@
 use Rattle.std.proofs.Common.{◌<◌, length, map, arith}
 use Rattle.std.proofs.lemmas.List.{length-map}
 use Rattle.pipe_world.specs.Shown.{world_of}
-use Rattle.pipe_world.specs.EventValues.{event_value}
+use Rattle.pipe_events.specs.EventValues.{event_value}
 use Rattle.pipe_replay.specs.Replayed.{parted}
 use Rattle.pipe_replay.proofs.PlayLemmas.{replays-none}
 use Rattle.pipe_replay.proofs.replaying.replay.Goals as goal

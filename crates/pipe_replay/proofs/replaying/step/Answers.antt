@@ -1,5 +1,5 @@
 use Rattle.pipe_world.specs.Shown.{world_of}
-use Rattle.pipe_world.specs.EventValues.{event_value}
+use Rattle.pipe_events.specs.EventValues.{event_value}
 use Rattle.pipe_replay.proofs.KeptLemmas.{kept-next}
 use Rattle.pipe_replay.proofs.replaying.step.Goals as goal
 

@@ -1,5 +1,5 @@
-use Rattle.pipe_replay.proofs.FitLemmas.{values-fit}
-use Rattle.pipe_replay.proofs.fitting.native_fits.Goals as goal
+use Rattle.pipe_typing.proofs.FitLemmas.{values-fit}
+use Rattle.pipe_typing.proofs.fitting.native_fits.Goals as goal
 
 pub returns : goal.returns
 returns g c =

@@ -1,8 +1,8 @@
 use Rattle.std.proofs.Common.{refl}
 use Rattle.pipe_frame.specs.Cell.{binary_cell}
 use Rattle.pipe_frame.specs.declared.data_type.DataType.TheVariants as dtype
-use Rattle.pipe_replay.proofs.FitLemmas.{values-fit}
-use Rattle.pipe_replay.proofs.fitting.binary_fits.Goals as goal
+use Rattle.pipe_typing.proofs.FitLemmas.{values-fit}
+use Rattle.pipe_typing.proofs.fitting.binary_fits.Goals as goal
 
 pub returns : goal.returns
 returns c =

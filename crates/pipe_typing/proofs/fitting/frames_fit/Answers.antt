@@ -1,7 +1,7 @@
 use Rattle.std.proofs.Common.{arith}
-use Rattle.pipe_replay.specs.Fitting.{TableFits}
-use Rattle.pipe_replay.proofs.FitLemmas.{one-more, frames-fit}
-use Rattle.pipe_replay.proofs.fitting.frames_fit.Goals as goal
+use Rattle.pipe_typing.specs.Fitting.{TableFits}
+use Rattle.pipe_typing.proofs.FitLemmas.{one-more, frames-fit}
+use Rattle.pipe_typing.proofs.fitting.frames_fit.Goals as goal
 
 pub loop-frame-preserved : goal.loop-frame-preserved
 loop-frame-preserved c =

@@ -1,7 +1,7 @@
 use Rattle.std.proofs.Common.{arith}
-use Rattle.pipe_replay.specs.Fitting.{ColumnFits}
-use Rattle.pipe_replay.proofs.FitLemmas.{one-more, frame-fits}
-use Rattle.pipe_replay.proofs.fitting.frame_fits.Goals as goal
+use Rattle.pipe_typing.specs.Fitting.{ColumnFits}
+use Rattle.pipe_typing.proofs.FitLemmas.{one-more, frame-fits}
+use Rattle.pipe_typing.proofs.fitting.frame_fits.Goals as goal
 
 pub loop-column-preserved : goal.loop-column-preserved
 loop-column-preserved c =

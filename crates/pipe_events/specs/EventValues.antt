@@ -1,9 +1,9 @@
 -- The events that the code's ones are.
 use Rattle.pipe_events.specs.Worlds as worlds
-use Rattle.pipe_world.specs.declared.event.Side.{Side}
-use Rattle.pipe_world.specs.declared.event.Side.TheVariants as side
-use Rattle.pipe_world.specs.declared.event.Event.{Event}
-use Rattle.pipe_world.specs.declared.event.Event.TheVariants as event
+use Rattle.pipe_events.specs.declared.event.Side.{Side}
+use Rattle.pipe_events.specs.declared.event.Side.TheVariants as side
+use Rattle.pipe_events.specs.declared.event.Event.{Event}
+use Rattle.pipe_events.specs.declared.event.Event.TheVariants as event
 
 abbrev pub side_value : Side → worlds.Side
 side_value side.Sort = worlds.OfSort

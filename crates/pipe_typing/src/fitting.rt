@@ -1,7 +1,7 @@
 //! The rows of frames fit their schemas, since columns are typed. Nothing is read of them but their types.
 
 ghost use Rattle.std.specs.Prelude.{◌≡◌};
-ghost use Rattle.pipe_replay.specs.Fitting.{ColumnFits, TableFits, TablesFit};
+ghost use Rattle.pipe_typing.specs.Fitting.{ColumnFits, TableFits, TablesFit};
 
 use pipe_frame::{DataFrame, DataType, Native, Series};
 

@@ -14,7 +14,7 @@ use Rattle.pipe_frame.specs.declared.data_type.DataType.{DataType}
 use Rattle.pipe_frame.specs.declared.data_type.DataType.TheVariants as dtype
 use Rattle.pipe_frame.specs.declared.field.Field.{Field}
 use Rattle.pipe_typing.specs.Fits.{FitsRow, FitRows}
-use Rattle.pipe_replay.specs.Fitting.{ColumnFits, TableFits, TablesFit}
+use Rattle.pipe_typing.specs.Fitting.{ColumnFits, TableFits, TablesFit}
 
 same-type : (d : DataType) → eq_dtype d d ≡ true
 same-type dtype.Int32 = refl
