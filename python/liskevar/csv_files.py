@@ -1,0 +1,267 @@
+"""CSV and TSV files as tables, and rows as CSV.
+
+Files are UTF-8 and as RFC 4180 says: a header, quotes round a field that holds a separator, a quote or a line break. An
+empty field is null, and `""` is the empty text.
+"""
+
+from __future__ import annotations
+
+import csv
+import itertools
+import os
+import re
+import warnings
+from collections.abc import Iterable, Iterator, Mapping, Sequence
+from datetime import date, datetime
+from typing import Any
+
+from .dtypes import GUESSED, RANGES, STRING, Cell, DType, Guess
+from .errors import JobTooLong, Refused
+from .limits import BYTES_OF_A_JOB, too_long
+from .tables import Column, Table, told_types
+
+WHOLE = re.compile(r"0|-?[1-9][0-9]*")
+SCALED = re.compile(r"-?(?:0|[1-9][0-9]*)(?:\.[0-9]+)?")
+HEXADECIMAL = re.compile(r"(?:[0-9a-f]{2})*")
+DECIMAL = re.compile(r"-?[0-9]*\.[0-9]+|-?[0-9]+\.")
+HEXASCALED = re.compile(r"-?(?:0|[1-9][0-9]*)(?:\.[0-9]+)?")
+HEXADECIMAL = re.compile(r"(?:[0-9a-f]{2})*")
+DECIMAL = re.compile(r"(?:[0-9a-f]{2})*")
+ISO_DATE = re.compile(r"[0-9]{4}-[0-9]{2}-[0-9]{2}(?:[T ][0-9:.]+(?:Z|[+-][0-9:]+)?)?")
+OTHER_DATE = re.compile(r"[0-9]{1,2}[./-][0-9]{1,2}[./-](?:[0-9]{4}|[0-9]{2})|[0-9]{4}[./][0-9]{1,2}[./][0-9]{1,2}")
+# Stands for a field that is written as two quotes, until it is read; no file that is UTF-8 has it.
+EMPTY = "\udc00"
+BLOCK = 20_000
+
+
+class TypeWarning(UserWarning):
+    """A column is read as texts that look like something else."""
+
+
+def delimiter_of(path: str, tabs: bool = False) -> str:
+    """What separates fields: tabs where that is told or the file's name ends in .tsv."""
+    return "\t" if tabs or path.endswith(".tsv") else ","
+
+
+def _lines(path: str, delimiter: str) -> Iterator[str]:
+    """The lines of a file, with each `""` that is a whole field marked; a mark of byte order is no part of the first."""
+    empty = re.compile(rf'(?:^|(?<={re.escape(delimiter)}))""(?=[{re.escape(delimiter)}\r\n]|$)')
+    inside = 0
+    try:
+        with open(path, "rb") as file:
+            for number, raw in enumerate(file, start=1):
+                try:
+                    line = raw.decode("utf-8-sig" if number == 1 else "utf-8")
+                except UnicodeDecodeError as error:
+                    raise Refused(f"{path}, line {number}, byte {error.start + 1}: not UTF-8") from error
+                before, inside = inside, inside ^ (line.count('"') & 1)
+                if '""' in line:
+                    line = _marked(line, empty, before)
+                yield line
+    except OSError as error:
+        raise Refused(f"{path}: {error.strerror}") from error
+
+
+def _marked(line: str, empty: re.Pattern[str], inside: int) -> str:
+    """The line with its empty quoted fields marked: those with an even number of quotes before them in the record."""
+    marked = lambda found: EMPTY if (line.count('"', 0, found.start()) + inside) % 2 == 0 else found[0]  # noqa: E731
+    return empty.sub(marked, line)
+
+
+def _header(path: str, header: list[str], names: Sequence[str] | None) -> list[str]:
+    header = ["" if it == EMPTY else it for it in header]
+    found = header if names is None else list(names)
+    if len(found) != len(header):
+        raise Refused(f"{path}, line 1: {len(header)} columns, and {len(found)} names are given")
+    for place, name in enumerate(found):
+        first = found.index(name)
+        if first < place:
+            words = f"the name {name!r} stands twice; give other names (names=, or --names)"
+            raise Refused(f"{path}, line 1, columns {first + 1} and {place + 1}: {words}")
+    return found
+
+
+def records(path: str, delimiter: str, width: int | None = None) -> Iterator[tuple[int, list[str]]]:
+    """The records of a file, each with the line on which it ends, the header first."""
+    reader = csv.reader(_lines(path, delimiter), delimiter=delimiter, strict=True)
+    csv.field_size_limit(2**31 - 1)
+    try:
+        for row in reader:
+            if width is None and not row:
+                raise Refused(f"{path}, line 1: no header")
+            width = len(row) if width is None else width
+            row = row or [""] if width == 1 else row
+            if len(row) != width:
+                found = f"{len(row)} fields, where the header has {width}" if row else "an empty line"
+                raise Refused(f"{path}, line {reader.line_num}: {found}")
+            yield reader.line_num, row
+    except csv.Error as error:
+        raise Refused(f"{path}, line {reader.line_num}: {error}") from error
+
+
+def _spells(dtype: DType, field: str) -> bool:
+    """Whether a field spells a value of the type, in its one way; a decimal may have fewer digits than its type."""
+    if dtype.kind == "number":
+        if not (SCALED if dtype.scale else WHOLE).fullmatch(field):
+            return False
+        if len(field.partition(".")[2].rstrip("0")) > dtype.scale:
+            return False
+        least, greatest = RANGES[dtype.base]
+        return least <= int(_cell(DType("Int64", dtype.scale), field) or 0) <= greatest
+    if dtype.base == "Boolean":
+        return field in ("true", "false")
+    return dtype == STRING or HEXADECIMAL.fullmatch(field) is not None
+
+
+def _cell(dtype: DType, field: str) -> Cell:
+    if dtype.kind == "number":
+        whole, _, digits = field.partition(".")
+        number = int(whole + digits[: dtype.scale].ljust(dtype.scale, "0"))
+        return str(number) if dtype.base == "Int128" else number
+    return field == "true" if dtype.base == "Boolean" else field
+
+
+class Field(Column):
+    """A column of a file: its fields, empty for null and EMPTY for two quotes."""
+
+    def __init__(self, source: tuple[str, str], name: str, place: int, fields: list[str], empty_is_text: bool) -> None:
+        (self.path, self.delimiter), self.place, self.empty_is_text = source, place, empty_is_text
+        self.distinct = {it for it in fields if it and it != EMPTY}
+        has_empty = EMPTY in fields
+        hint = self._hint()
+        fits = lambda dtype: all(_spells(dtype, it) for it in self.distinct)  # noqa: E731
+        super().__init__(name, fields, Guess(fits, GUESSED, not self.distinct and not has_empty, hint), self._cells)
+
+    def _hint(self) -> str:
+        """What is to be told of texts that aren't what they look like."""
+        if not self.distinct or all(WHOLE.fullmatch(it) for it in self.distinct):
+            return ""
+        where = f"; {self.path} gives texts that look like"
+        if all(DECIMAL.fullmatch(it) or WHOLE.fullmatch(it) for it in self.distinct):
+            return f"{where} decimals: tell a type, as Cents"
+        if all(OTHER_DATE.fullmatch(it) for it in self.distinct):
+            return f"{where} dates: tell their form, as %d.%m.%Y"
+        return ""
+
+    def warn(self) -> None:
+        """Says that texts will sort and join as texts, where they look like something else."""
+        told = isinstance(self.type, Guess) and self.type.hint
+        if told and "decimals" in told:
+            how = f"types={{{self.name!r}: 'Cents'}} (--types {self.name}:Cents) reads them as numbers"
+            _warn(f"{self.path}: {self.name!r} looks like decimals, and is read as texts, which sort and join as texts; {how}")
+        elif told:
+            how = f"types={{{self.name!r}: '%d.%m.%Y'}} (--types {self.name}:%d.%m.%Y) reads them as 2026-11-29, which sort as dates"
+            _warn(f"{self.path}: {self.name!r} looks like dates, and is read as texts, which don't sort as dates; {how}")
+
+    def tell(self, text: str, dtype: DType | None) -> None:
+        """The type is told: one of the program's, or the form of its dates, which become texts in the order of ISO."""
+        if dtype is None:
+            self.values = [it if not it or it == EMPTY else self._iso(it, text, row) for row, it in enumerate(self.values)]
+            dtype = STRING
+        self.type = dtype
+        self._cells(dtype)
+
+    def _iso(self, field: str, form: str, row: int) -> str:
+        try:
+            found = datetime.strptime(field, form)
+        except ValueError:
+            raise self._refused(row, f"{field!r} isn't of the form {form}") from None
+        has_time = any(it in form for it in ("%H", "%I", "%M", "%S", "%X", "%c"))
+        return found.isoformat() if has_time else date.isoformat(found.date())
+
+    def _refused(self, row: int, words: str) -> Refused:
+        line = next(itertools.islice(records(self.path, self.delimiter), row + 1, None))[0]
+        return Refused(f"{self.path}, line {line}, column {self.place + 1} ({self.name}): {words}")
+
+    def _cells(self, dtype: DType) -> list[Cell]:
+        """The cells; two quotes are the empty text in columns of texts, and else null."""
+        is_text = dtype.base in ("String", "Binary")
+        empty = "" if is_text else None
+        null = "" if is_text and self.empty_is_text else None
+        if dtype != STRING and not all(_spells(dtype, it) for it in self.distinct):
+            row = next(k for k, it in enumerate(self.values) if it and it != EMPTY and not _spells(dtype, it))
+            raise self._refused(row, f"{self.values[row]!r} is no {dtype}")
+        return [_cell(dtype, it) if it and it != EMPTY else (empty if it else null) for it in self.values]
+
+
+def _warn(words: str) -> None:
+    warnings.warn(words, TypeWarning, stacklevel=2)
+
+
+def read_csv(
+    path: str,
+    *,
+    delimiter: str | None = None,
+    names: Sequence[str] | None = None,
+    types: Mapping[str, str] | None = None,
+    columns: Iterable[str] | None = None,
+    read: Iterable[str] | None = None,
+    empty_is_text: bool = False,
+    most_bytes: int = 4 * BYTES_OF_A_JOB,
+) -> Table:
+    """The table of a file, or some of its columns; JobTooLong as soon as these have more than `most_bytes`.
+
+    Of the columns those of `read` alone have values: whoever tells it knows that no other is asked for them.
+    """
+    delimiter = delimiter or delimiter_of(path)
+    rows = records(path, delimiter)
+    first = next(rows, None)
+    if first is None:
+        raise Refused(f"{path}, line 1: no header")
+    header = _header(path, first[1], names)
+    kept = [place for place, name in enumerate(header) if columns is None or name in set(columns)]
+    lists: list[list[str]] = [[] for _ in kept]
+    valued = [(fields, place) for fields, place in zip(lists, kept) if read is None or header[place] in set(read)]
+    height = size = 0
+    while block := list(itertools.islice(rows, BLOCK)):
+        turned = list(zip(*(row for _, row in block)))
+        for fields, place in valued:
+            fields.extend(turned[place])
+            size += sum(map(len, turned[place])) + len(block)
+        height += len(block)
+        if size > most_bytes:
+            raise JobTooLong(too_long(f"{path}, by line {block[-1][0]}, in {len(valued)} columns", size))
+    found = [Field((path, delimiter), header[place], place, fields, empty_is_text) for place, fields in zip(kept, lists)]
+    _tell(path, found, types)
+    return Table(os.path.basename(path), found, height)
+
+
+def _tell(path: str, columns: Sequence[Field], types: Mapping[str, str] | None) -> None:
+    forms = {name: text for name, text in (types or {}).items() if "%" in text}
+    plain = {name: text for name, text in (types or {}).items() if name not in forms}
+    names = [it.name for it in columns]
+    told = told_types({**plain, **dict.fromkeys(forms, "String")}, names, path)
+    for it in columns:
+        if it.name in told:
+            it.tell(forms.get(it.name, ""), None if it.name in forms else told[it.name])
+        else:
+            it.warn()
+
+
+# ---- rows as CSV
+
+
+def field_of(value: Any, delimiter: str, null: str) -> str:
+    """One field, as RFC 4180 has it: null is an empty field, the empty text two quotes."""
+    if value is None:
+        return null
+    text = str(value).lower() if isinstance(value, bool) else value.hex() if isinstance(value, bytes) else str(value)
+    if text in ("", null) or any(it in text for it in (delimiter, '"', "\r", "\n")):
+        return '"' + text.replace('"', '""') + '"'
+    return text
+
+
+def csv_lines(
+    names: Sequence[str], rows: Iterable[Sequence[Any]], delimiter: str = ",", end: str = "\n", null: str = ""
+) -> Iterator[str]:
+    """The lines of a CSV file. In a file of one column a null is two quotes, so that no line is blank."""
+    yield delimiter.join(field_of(it, delimiter, '""') for it in names) + end
+    if len(names) > 1 or null:
+        for row in rows:
+            yield delimiter.join([field_of(it, delimiter, null) for it in row]) + end
+        return
+    values = [row[0] for row in rows]
+    if None in values and "" in values:
+        raise Refused(f"{names[0]!r} has nulls and empty texts, which a CSV of one column can't tell apart; give --null WORD (null=)")
+    for value in values:
+        yield field_of(value, delimiter, '""') + end

@@ -1,0 +1,292 @@
+"""Expressions over the columns of a frame: `col`, `lit`, arithmetic, comparisons, `&`, `|`, `~`."""
+
+from __future__ import annotations
+
+import datetime
+from collections.abc import Iterable, Sequence
+from decimal import Decimal
+from typing import Any
+
+from .dtypes import BINARY, BOOLEAN, GUESSED, INT64, RANGES, STRING, DType, Guess, Mismatch, Type, Typing, dtype_of
+
+Schema = dict[str, Type]
+INFIX = {
+    "add": "+", "sub": "-", "mul": "*", "eq": "=", "not_eq": "<>", "lt": "<", "lt_eq": "<=", "gt": ">", "gt_eq": ">=",
+    "and": "and", "or": "or",
+}  # fmt: skip
+SINGLE = ("not", "is_null", "is_not_null")
+# Chains of these are kept flat, and spelled as balanced pairs: a job may nest about 60 of them.
+CHAINED = ("and", "or", "add", "mul")
+DEEPEST = 58
+
+
+class UnknownName(Exception):
+    """A column that the frame hasn't."""
+
+
+class Expr:
+    """An expression. Its operators make further ones; nothing is computed in Python."""
+
+    __slots__ = ("op", "args", "value", "name", "type", "depth")
+    __hash__ = object.__hash__
+
+    def __init__(
+        self, op: str, args: Iterable[Expr] = (), value: Any = None, name: str | None = None, type: Type | None = None
+    ) -> None:
+        self.op, self.args, self.value, self.name, self.type = op, tuple(args), value, name, type
+        wide = (len(self.args) - 1).bit_length() if op in CHAINED else 1
+        self.depth: int = wide + max((it.depth for it in self.args), default=0)
+
+    def alias(self, name: str) -> Expr:
+        """The same value under another name."""
+        return Expr(self.op, self.args, self.value, name, self.type)
+
+    @property
+    def output(self) -> str | None:
+        """The name of its column: its alias, or that of the first column in it."""
+        if self.name is not None or self.op == "col":
+            return self.name or str(self.value)
+        return next((it.output for it in self.args if it.output is not None), None)
+
+    def _with(self, op: str, other: Any, turned: bool = False) -> Expr:
+        sides = (lit(other), self) if turned else (self, lit(other))
+        if op not in CHAINED:
+            return Expr(op, sides)
+        return Expr(op, [part for it in sides for part in (it.args if it.op == op and it.name is None else (it,))])
+
+    def __add__(self, other: Any) -> Expr:
+        return self._with("add", other)
+
+    def __radd__(self, other: Any) -> Expr:
+        return self._with("add", other, turned=True)
+
+    def __sub__(self, other: Any) -> Expr:
+        return self._with("sub", other)
+
+    def __rsub__(self, other: Any) -> Expr:
+        return self._with("sub", other, turned=True)
+
+    def __mul__(self, other: Any) -> Expr:
+        return self._with("mul", other)
+
+    def __rmul__(self, other: Any) -> Expr:
+        return self._with("mul", other, turned=True)
+
+    def __neg__(self) -> Expr:
+        return self._with("sub", 0, turned=True)
+
+    def __eq__(self, other: object) -> Expr:  # type: ignore[override]
+        return self._with("eq", other)
+
+    def __ne__(self, other: object) -> Expr:  # type: ignore[override]
+        return self._with("not_eq", other)
+
+    def __lt__(self, other: Any) -> Expr:
+        return self._with("lt", other)
+
+    def __le__(self, other: Any) -> Expr:
+        return self._with("lt_eq", other)
+
+    def __gt__(self, other: Any) -> Expr:
+        return self._with("gt", other)
+
+    def __ge__(self, other: Any) -> Expr:
+        return self._with("gt_eq", other)
+
+    def __and__(self, other: Any) -> Expr:
+        return self._with("and", other)
+
+    def __rand__(self, other: Any) -> Expr:
+        return self._with("and", other, turned=True)
+
+    def __or__(self, other: Any) -> Expr:
+        return self._with("or", other)
+
+    def __ror__(self, other: Any) -> Expr:
+        return self._with("or", other, turned=True)
+
+    def __invert__(self) -> Expr:
+        return Expr("not", (self,))
+
+    def __bool__(self) -> bool:
+        raise TypeError("an expression has no truth of its own: write & for and, | for or, ~ for not, each side in brackets")
+
+    def is_null(self) -> Expr:
+        """Whether the value is null; never null itself."""
+        return Expr("is_null", (self,))
+
+    def is_not_null(self) -> Expr:
+        """Whether the value isn't null; never null itself."""
+        return Expr("is_not_null", (self,))
+
+    def is_in(self, values: Iterable[Any]) -> Expr:
+        """Whether it equals one of some values."""
+        return any_of([self == it for it in values])
+
+    def is_between(self, least: Any, greatest: Any) -> Expr:
+        """Whether it lies between two values, each included."""
+        return all_of([self >= least, self <= greatest])
+
+    def __repr__(self) -> str:
+        return f"<{written(self)}>"
+
+
+def col(name: str) -> Expr:
+    """The column of that name."""
+    return Expr("col", value=name)
+
+
+def lit(value: Any, dtype: str | None = None) -> Expr:
+    """A value. A number takes the type of what it is compared with; `dtype` tells another. An expression stays itself."""
+    if isinstance(value, Expr):
+        return value
+    if dtype is not None:
+        told = dtype_of(dtype)
+        told.cell(value)
+        return Expr("lit", value=value, type=told)
+    if not isinstance(value, (bool, int, str, bytes, Decimal, float, datetime.date, datetime.time, type(None))):
+        raise TypeError(f"{value!r} is no value that a column can hold")
+    return Expr("lit", value=value)
+
+
+def any_of(parts: Sequence[Expr]) -> Expr:
+    """True where one of them is."""
+    return parts[0] if len(parts) == 1 else Expr("or", parts) if parts else lit(False)
+
+
+def all_of(parts: Sequence[Expr]) -> Expr:
+    """True where all of them are."""
+    return parts[0] if len(parts) == 1 else Expr("and", parts) if parts else lit(True)
+
+
+def conjuncts(expr: Expr) -> list[Expr]:
+    """The parts of a chain of `and`."""
+    return [part for it in expr.args for part in conjuncts(it)] if expr.op == "and" else [expr]
+
+
+def names_in(expr: Expr) -> list[str]:
+    """The columns that it reads, from left to right."""
+    return [str(expr.value)] if expr.op == "col" else [name for it in expr.args for name in names_in(it)]
+
+
+# ---- types
+
+
+def _literal_type(value: Any) -> Type:
+    if isinstance(value, bool):
+        return BOOLEAN
+    if isinstance(value, (str, datetime.date, datetime.time)):
+        return STRING
+    if isinstance(value, bytes):
+        return BINARY
+    if value is None:
+        return Guess(lambda dtype: True, is_empty=True)
+    tried: tuple[DType, ...] = GUESSED[:3]
+    if not isinstance(value, int):
+        exact = Decimal(repr(value)) if isinstance(value, float) else value
+        exponent = exact.as_tuple().exponent
+        if not isinstance(exponent, int) or exponent < -18:
+            raise ValueError(f"{value!r} has no exact type here")
+        tried = (DType("Int64", max(-exponent, 0)), DType("Int128", max(-exponent, 0)))
+    if not any(can_be(value, it) for it in tried):
+        raise ValueError(f"{value!r} doesn't fit 128 bits")
+    return Guess(lambda dtype: can_be(value, dtype), tried)
+
+
+def can_be(value: Any, dtype: DType) -> bool:
+    """Whether a value of Python is one of the type."""
+    try:
+        dtype.cell(value)
+    except (ValueError, ArithmeticError):
+        return False
+    return True
+
+
+def _arithmetic(op: str, args: list[Expr], typing: Typing) -> tuple[Type, Typing]:
+    """The type of whole numbers or decimals that all have; a product of decimals has the digits of both."""
+    number = Guess(lambda it: it.base in RANGES, (*GUESSED[:3],), is_empty=False)
+    first = typing.resolve(args[0].type or INT64)
+    scales = [typing.resolve(it.type or INT64).scale for it in args]
+    if op == "mul" and any(scales):
+        bases = [DType(typing.resolve(it.type or INT64).base) for it in args]
+        if bases != [bases[0]] * len(bases) or sum(scales) > 18 or first.kind != "number":
+            raise Mismatch(first, typing.resolve(args[1].type or INT64))
+        for it, scale in zip(args, scales):
+            typing = typing.unify(it.type or INT64, DType(bases[0].base, scale))
+        return DType(bases[0].base, sum(scales)), typing
+    for it in args:
+        typing = typing.unify(number, it.type or INT64)
+        typing = typing.unify(args[0].type or INT64, it.type or INT64)
+    return args[0].type or INT64, typing
+
+
+def bind(expr: Expr, schema: Schema, typing: Typing) -> tuple[Expr, Typing]:
+    """The expression with the type of each part, over columns; UnknownName or Mismatch where it has none."""
+    if expr.op == "col":
+        if expr.value not in schema:
+            raise UnknownName(expr.value)
+        return Expr("col", value=expr.value, type=schema[str(expr.value)]), typing
+    if expr.op == "lit":
+        return Expr("lit", value=expr.value, type=expr.type or _literal_type(expr.value)), typing
+    args = []
+    for it in expr.args:
+        bound, typing = bind(it, schema, typing)
+        args.append(bound)
+    made: Type = BOOLEAN
+    if expr.op in ("add", "sub", "mul"):
+        made, typing = _arithmetic(expr.op, args, typing)
+    elif expr.op in ("and", "or", "not"):
+        for it in args:
+            typing = typing.unify(it.type or BOOLEAN, BOOLEAN)
+    elif expr.op not in SINGLE:
+        typing = typing.unify(args[0].type or BOOLEAN, args[1].type or BOOLEAN)
+    return Expr(expr.op, args, type=made), typing
+
+
+# ---- spelling
+
+
+def _paired(op: str, parts: list[Any]) -> Any:
+    if len(parts) == 1:
+        return parts[0]
+    half = len(parts) // 2
+    return {op: [_paired(op, parts[:half]), _paired(op, parts[half:])]}
+
+
+def spelled(expr: Expr, typing: Typing) -> Any:
+    """A bound expression as the job spells it."""
+    if expr.op == "col":
+        return {"col": expr.value}
+    if expr.op == "lit":
+        dtype = typing.resolve(expr.type or INT64)
+        return {"lit": {"type": dtype.base, "value": dtype.cell(expr.value)}}
+    parts = [spelled(it, typing) for it in expr.args]
+    return {expr.op: parts[0]} if expr.op in SINGLE else _paired(expr.op, parts)
+
+
+def read(value: Any) -> Expr:
+    """An expression as a job spells it; ValueError where it spells none."""
+    if not isinstance(value, dict) or len(value) != 1:
+        raise ValueError(f"{value!r} is no expression")
+    ((op, part),) = value.items()
+    if op == "col" and isinstance(part, str):
+        return col(part)
+    if op == "lit" and isinstance(part, dict) and set(part) == {"type", "value"}:
+        dtype = dtype_of(part["type"])
+        return Expr("lit", value=dtype.value(part["value"]), type=dtype)
+    if op in SINGLE:
+        return Expr(op, (read(part),))
+    if op in INFIX and isinstance(part, list) and len(part) == 2:
+        return read(part[0])._with(op, read(part[1]))
+    raise ValueError(f"{op!r} is no expression")
+
+
+def written(expr: Expr) -> str:
+    """An expression as people write it."""
+    if expr.op == "col":
+        return str(expr.value)
+    if expr.op == "lit":
+        return "null" if expr.value is None else str(expr.value).lower() if expr.value in (True, False) else repr(expr.value)
+    if expr.op in INFIX:
+        return f"({f' {INFIX[expr.op]} '.join(map(written, expr.args))})"
+    return f"not {written(expr.args[0])}" if expr.op == "not" else f"{written(expr.args[0])} {expr.op.replace('_', ' ')}"

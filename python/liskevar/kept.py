@@ -1,0 +1,114 @@
+"""A join that is kept while its tables change, by the program's `replay-edits`."""
+
+from __future__ import annotations
+
+import json
+from collections.abc import Sequence
+from dataclasses import dataclass
+from typing import Any
+
+from . import nodes as plan
+from .errors import JobTooLong, Refused
+from .frame import LazyFrame, _keys
+from .job import Settings, _spelled, compact, types_of
+from .limits import BYTES_OF_A_JOB, too_long
+from .nodes import Joining, Node
+from .plan_json import read_json
+from .program import ask, want
+from .recon import _scanned, two_tables
+from .rows import Rows, rows_of_lines
+
+
+@dataclass(frozen=True)
+class Edit:
+    """What an edit changed: how many rows came and went, or that the row to remove wasn't there."""
+
+    came: int
+    went: int
+    is_absent: bool = False
+
+
+class KeptJoin:
+    """A join of two tables, and rows put into them and taken out. The program replays all edits when asked."""
+
+    def __init__(
+        self, left: LazyFrame, right: LazyFrame, on: Any = None, how: str = "inner", *, left_on: Any = None,
+        right_on: Any = None, suffix: str = "_right", nulls_equal: bool = False, coalesce: bool | None = None, **numbers: int,
+    ) -> None:  # fmt: skip
+        if how not in ("inner", "left", "full"):
+            raise plan.fail("BadJoin", f"a join that is kept is inner, left or full, and not {how}")
+        words = {None: "JoinSpecific", True: "CoalesceColumns", False: "KeepColumns"}[coalesce]
+        self._sides = [_scanned(left), _scanned(right)]
+        keys = [_keys(on if on is not None else it) for it in (left_on, right_on)]
+        joining = Joining(how, nulls_equal, words, suffix)
+        self._join: Node = plan.joined(self._sides[0]._node, self._sides[1]._node, keys[0], keys[1], joining)
+        self._settings = Settings(**numbers)
+        self._edits: list[str] = []
+
+    def _edit(self, side: int, word: str, row: Sequence[Any] | dict[str, Any]) -> None:
+        schema = self._sides[side]._node.schema
+        values = [row.get(it) for it in schema] if isinstance(row, dict) else list(row)
+        if len(values) != len(schema) or (isinstance(row, dict) and not set(row) <= set(schema)):
+            raise Refused(f"{row!r} is no row of the columns {', '.join(schema)}")
+        cells = []
+        for name, value in zip(schema, values):
+            dtype = self._join.typing.resolve(schema[name])
+            try:
+                cells.append(dtype.cell(value))
+            except (ValueError, ArithmeticError):
+                raise Refused(f"column {name!r}: {value!r} is no {dtype}") from None
+        self._edits.append(compact([("left", "right")[side], word, cells]))
+
+    def add_line(self, where: str, line: str) -> None:
+        """One edit as the program spells it: `["left","insert",[1,"a"]]`."""
+        edit = read_json(where, line)
+        is_edit = isinstance(edit, list) and len(edit) == 3 and isinstance(edit[2], list)
+        if not is_edit or edit[0] not in ("left", "right") or edit[1] not in ("insert", "remove"):
+            raise Refused(f'{where}: {line} is no edit as ["left","insert",[1,"a"]]')
+        try:
+            self._edit(("left", "right").index(edit[0]), edit[1], edit[2])
+        except Refused as error:
+            raise Refused(f"{where}: {error}") from None
+
+    def insert_left(self, row: Any) -> None:
+        """Puts a row into the left table."""
+        self._edit(0, "insert", row)
+
+    def insert_right(self, row: Any) -> None:
+        """Puts a row into the right table."""
+        self._edit(1, "insert", row)
+
+    def remove_left(self, row: Any) -> None:
+        """Takes a row out of the left table, if it is there."""
+        self._edit(0, "remove", row)
+
+    def remove_right(self, row: Any) -> None:
+        """Takes a row out of the right table, if it is there."""
+        self._edit(1, "remove", row)
+
+    def text(self) -> bytes:
+        """What `replay-edits` reads."""
+        names = [list(it._node.schema) for it in self._sides]
+        resolve = self._join.typing.resolve
+        said = two_tables(self._sides[0]._node, self._sides[1]._node, names, resolve, self._settings)
+        node = {"node": "Join", "left": 0, "right": 1, **_spelled(self._join.said, self._join)}
+        text = f'{{{said},"join":{compact(node)},"edits":[{",".join(self._edits)}]}}\n'.encode()
+        if len(text) > BYTES_OF_A_JOB:
+            raise JobTooLong(too_long("the tables and their edits", len(text)))
+        return text
+
+    def replay(self) -> tuple[list[Edit], Rows]:
+        """What each edit changed, and the rows after all of them."""
+        want("replay-edits")
+        nodes = [*(it._node for it in self._sides), self._join]
+        lines = ask("replay-edits", self.text(), nodes, self._settings.row_limit).splitlines()
+        told = [json.loads(it) for it in lines[1 : 1 + len(self._edits)]]
+        edits = [Edit(it[2], it[3]) if it[0] == "edit" else Edit(0, 0, True) for it in told]
+        rest = b"\n".join([lines[0], *lines[1 + len(self._edits) :]])
+        return edits, rows_of_lines(rest, types_of(self._join))
+
+    def rows(self) -> Rows:
+        """The rows of the join as the tables are now."""
+        return self.replay()[1]
+
+

@@ -1,0 +1,91 @@
+"""Finding the proved program, building it where that is needed, and calling it."""
+
+from __future__ import annotations
+
+import functools
+import os
+import re
+import shutil
+import subprocess
+from collections.abc import Sequence
+
+from .errors import BY_STATUS, LiskevarError, NotOffered
+from .nodes import Node
+from .places import PACKAGE
+
+LINE = re.compile(r"error (?P<status>\d+): (?P<fault>[^:\n]*?)(?: at node (?P<node>\d+))?(?:: (?P<name>\".*\"))?\n?", re.DOTALL)
+MEANINGS = {
+    "BadNode": "a node reads what it can't",
+    "UnknownColumn": "there is no such column",
+    "DuplicateName": "a column's name would stand twice",
+    "TypeMismatch": "types don't fit",
+    "BadJoin": "the keys of a join don't fit",
+    "BadSort": "the keys or the slice of a sort don't fit",
+    "BadConfig": "workers, chunk_rows or row_limit is out of its range",
+}
+
+
+def find_program() -> list[str]:
+    """The words that call the program.
+
+    Looked for in this order: the variable LISKEVAR_PROGRAM; `./liskevar` of the repository that this package lies in,
+    which builds the program where it isn't there; `bin/liskevar` beside the package's folder; `liskevar` on PATH.
+    """
+    told = os.environ.get("LISKEVAR_PROGRAM")
+    if told:
+        return [told]
+    above = os.path.dirname(os.path.dirname(PACKAGE))
+    for path in (os.path.join(above, "liskevar"), os.path.join(above, "bin", "liskevar")):
+        if os.path.isfile(path) and os.access(path, os.X_OK):
+            return [path]
+    found = shutil.which("liskevar")
+    if found is None:
+        raise NotOffered("the program liskevar isn't found: install it, or set LISKEVAR_PROGRAM to its path")
+    return [found]
+
+
+def ask(command: str, text: bytes, nodes: Sequence[Node] = (), row_limit: int = 0) -> bytes:
+    """What a command prints; an exception for each status but 0, with the place of the node that it names."""
+    words = [*find_program(), *command.split()]
+    environment = {"MALLOC_ARENA_MAX": "1", **os.environ}
+    try:
+        done = subprocess.run(words, input=text, stdout=subprocess.PIPE, stderr=subprocess.PIPE, env=environment, check=False)
+    except OSError as error:
+        raise NotOffered(f"{words[0]}: {error.strerror}") from error
+    if done.returncode != 0:
+        raise refusal(done.returncode, done.stderr.decode(errors="replace"), nodes, row_limit)
+    return done.stdout
+
+
+def refusal(status: int, told: str, nodes: Sequence[Node], row_limit: int) -> LiskevarError:
+    """The exception of a status and of the line that came with it."""
+    line = next((it for it in told.splitlines() if it.startswith("error ")), told.strip().splitlines()[-1:] or [""])
+    found = LINE.fullmatch(line) if isinstance(line, str) else None
+    kind = BY_STATUS.get(status, LiskevarError)
+    if found is None:
+        return kind(f"the program ended with status {status}: {told.strip()}")
+    number = int(found["node"]) if found["node"] else None
+    node = nodes[number] if number is not None and number < len(nodes) else None
+    words = line if isinstance(line, str) else ""
+    if found["fault"] == "TooMany" and row_limit:
+        what = f"the {node.kind}" if node else "a node"
+        words += f": {what} has more than {row_limit:,} rows; set row_limit (--row-limit) higher if that is meant"
+    elif found["fault"] in MEANINGS:
+        words += f" ({MEANINGS[found['fault']]})"
+    return kind(words, fault=found["fault"], node=number, name=found["name"], place=node.place if node else None)
+
+
+@functools.lru_cache(maxsize=8)
+def _help(words: tuple[str, ...]) -> str:
+    return subprocess.run([*words, "--help"], stdout=subprocess.PIPE, check=False).stdout.decode(errors="replace")
+
+
+def offers(command: str) -> bool:
+    """Whether the program that is found has a command, by its `--help`."""
+    return re.search(rf"^liskevar {re.escape(command)}\b", _help(tuple(find_program())), re.MULTILINE) is not None
+
+
+def want(command: str) -> None:
+    """NotOffered where the program hasn't the command."""
+    if not offers(command):
+        raise NotOffered(f"{find_program()[0]} has no command {command!r}: a newer build is wanted")

@@ -1,0 +1,185 @@
+"""A query's text: its tree, the places of its parts, and its expressions."""
+
+from __future__ import annotations
+
+import contextlib
+from collections.abc import Callable, Iterator, Sequence
+from decimal import Decimal
+from typing import Any
+
+from .errors import PlanError, Refused, SqlError
+from .expr import Expr, all_of, any_of, conjuncts, lit
+from .places import Place, told_as
+
+BINARY = {
+    "eq": "eq", "neq": "not_eq", "lt": "lt", "lte": "lt_eq", "gt": "gt", "gte": "gt_eq", "add": "add", "sub": "sub",
+    "mul": "mul", "and": "and", "or": "or",
+}  # fmt: skip
+Find = Callable[[Any, "Text"], Expr]
+
+
+def bare(node: Any) -> Any:
+    """A node without the brackets round it."""
+    while node.key == "paren":
+        node = node.this
+    return node
+
+
+class Text:
+    """A query that was read. Each part of its tree knows the token at which it ended being read."""
+
+    def __init__(self, query: str) -> None:
+        try:
+            from sqlglot import errors, parser, tokens
+        except ImportError as error:
+            raise Refused("sqlglot isn't there: SQL wants it (Debian's python3-sqlglot)") from error
+        self.query = query
+        self.marks: dict[int, tuple[Any, int]] = {}
+        marks = self.marks
+
+        class Marking(parser.Parser):  # type: ignore[misc]
+            """sqlglot's parser, which also notes where each part stands."""
+
+            def expression(self, exp_class: Any, comments: Any = None, **kwargs: Any) -> Any:
+                made = super().expression(exp_class, comments, **kwargs)
+                marks[id(made)] = (made, self._index - 1)
+                return made
+
+        try:
+            self.tokens = tokens.Tokenizer().tokenize(query)
+            trees = Marking(null_ordering="nulls_are_small").parse(self.tokens, query)
+        except errors.ParseError as error:
+            told = (error.errors or [{}])[0]
+            words = str(told.get("description") or error).strip().rstrip(".")
+            raise SqlError(words, query, told.get("line") or 1, told.get("col") or 1) from None
+        except (errors.SqlglotError, ValueError, RuntimeError, IndexError) as error:
+            raise SqlError(f"no SQL: {error}", query, 1, 1) from None
+        if len(trees) != 1 or trees[0] is None:
+            raise SqlError("one query is wanted", query, 1, 1)
+        self.tree = trees[0]
+
+    # ---- places
+
+    def _index(self, node: Any) -> int:
+        """The first token of a part, as far as it is known."""
+        marked = [(it, self.marks[id(it)][1]) for it, *_ in node.walk() if id(it) in self.marks]
+        first = min((index - (2 if it.key == "column" and it.table else 0) for it, index in marked), default=0)
+        is_call = type(node).__mro__[1].__name__ in ("Func", "AggFunc") and id(node) not in self.marks
+        return max(first - 2, 0) if is_call else first
+
+    def where(self, node: Any, *words: str) -> tuple[int, int]:
+        """The line and column of a part, or of the last of some words before its end."""
+        index = self._index(node)
+        for back in range(index, -1, -1) if words else ():
+            if self.tokens[back].text.upper().split(" ")[0] in words:
+                index = back
+                break
+        token = self.tokens[index]
+        kind = token.token_type.name
+        quotes = 2 + token.text.count("'") if kind == "STRING" else 2 if kind == "IDENTIFIER" else 0
+        return token.line, max(1, token.col - quotes)
+
+    def refuse(self, node: Any, words: str, *near: str) -> SqlError:
+        """The error of a part that can't be taken."""
+        line, column = self.where(node, *near)
+        return SqlError(words, self.query, line, column)
+
+    def place(self, node: Any) -> Place:
+        """The place of a part."""
+        return Place("line {}, column {} of the query".format(*self.where(node)))
+
+    @contextlib.contextmanager
+    def at(self, node: Any) -> Iterator[None]:
+        """What is made inside stands at a part of the query, and so do its errors."""
+        with told_as(str(self.place(node))):
+            try:
+                yield
+            except PlanError as error:
+                raise self.refuse(node, error.words) from None
+
+    # ---- parts
+
+    def match(self, node: Any, names: Sequence[str], written: str | None = None) -> str | None:
+        """The name that is meant: the same one, or the only one that differs in capitals alone."""
+        text = node.name if written is None else written
+        alike = [it for it in names if it.lower() == text.lower()]
+        return text if text in names else alike[0] if len(alike) == 1 else None
+
+    def column(self, name: str) -> Any:
+        """A column of that name, at no place."""
+        from sqlglot import exp
+
+        return exp.column(name)
+
+    def columns(self, node: Any) -> list[Any]:
+        """The columns in a part, from left to right."""
+        from sqlglot import exp
+
+        return sorted(node.find_all(exp.Column), key=self._index)
+
+    def has_query(self, node: Any) -> bool:
+        """Whether a part has a query in it."""
+        from sqlglot import exp
+
+        return node.find(exp.Subqueryable) is not None
+
+    def with_of(self, node: Any) -> list[Any]:
+        """The queries that WITH names before a query."""
+        found = node.args.get("with")
+        if found is not None and found.args.get("recursive"):
+            raise self.refuse(found, "WITH RECURSIVE can't be taken", "RECURSIVE", "WITH")
+        return list(found.expressions) if found is not None else []
+
+    def conjuncts(self, node: Any) -> list[Any]:
+        """The parts of a chain of AND."""
+        node = bare(node)
+        return [part for it in (node.this, node.expression) for part in self.conjuncts(it)] if node.key == "and" else [node]
+
+    def expression(self, node: Any, find: Find) -> Expr:
+        """An expression over the columns that `find` finds; SqlError where it has none."""
+        node = bare(node)
+        made = self._leaf(node, find)
+        made = self._test(node, find) if made is None else made
+        if made is not None:
+            return made
+        if node.key in BINARY:
+            left, right = (self.expression(it, find) for it in (node.this, node.expression))
+            return left._with(BINARY[node.key], right)
+        if node.key == "not":
+            return ~self.expression(node.this, find)
+        if node.key == "neg":
+            inner = self.expression(node.this, find)
+            return lit(-inner.value) if inner.op == "lit" and inner.value is not None else -inner
+        if self.has_query(node):
+            raise self.refuse(node, "a subquery stands in FROM, or in WHERE as EXISTS or IN, and nowhere else")
+        raise self.refuse(node, f"{node.sql()} can't be taken: expressions have columns, values, + - *, comparisons, AND, OR, NOT")
+
+    def _leaf(self, node: Any, find: Find) -> Expr | None:
+        """A column or a value."""
+        if node.key == "column" and node.this.key == "identifier":
+            return find(node, self)
+        if node.key == "literal":
+            if node.is_string:
+                return lit(node.name)
+            if not node.name.replace(".", "", 1).isdigit():
+                raise self.refuse(node, f"{node.name} is no number of exact digits")
+            return lit(Decimal(node.name) if "." in node.name else int(node.name))
+        if node.key == "boolean":
+            return lit(bool(node.this))
+        return lit(None) if node.key == "null" else None
+
+    def _test(self, node: Any, find: Find) -> Expr | None:
+        """BETWEEN, IN of values, IS."""
+        if node.key == "between":
+            value, low, high = (self.expression(node.args[it], find) for it in ("this", "low", "high"))
+            return all_of([*conjuncts(value >= low), value <= high])
+        if node.key == "in" and node.expressions and not self.has_query(node):
+            value = self.expression(node.this, find)
+            return any_of([value == self.expression(it, find) for it in node.expressions])
+        if node.key not in ("is", "nullsafeeq", "nullsafeneq"):
+            return None
+        left, right = (self.expression(it, find) for it in (node.this, node.expression))
+        if right.op == "lit" and right.value is None:
+            return left.is_null() if node.key != "nullsafeneq" else left.is_not_null()
+        same = ((left == right) & left.is_not_null() & right.is_not_null()) | (left.is_null() & right.is_null())
+        return ~same if node.key == "nullsafeneq" else same
