@@ -1,20 +1,20 @@
--- commands
-pub mod Words
--- texts that are written as they stand
-pub mod Texts
 -- statuses and their lines
 pub mod Status
--- the answer to a job
-pub mod Answer
--- why bytes have no answer
-pub mod Causes
--- the answer to a reconciliation, and why there is none
-pub mod Reconciled
--- what a run says of its input and its output
-pub mod Headline
--- why a self-test ends with a refusal
-pub mod Tested
--- why a run ends with a refusal
+-- where an input stands, and how it is read
+pub mod Sources
+-- what a command promises, and what that says by one rule for all commands
+pub mod Contract
+-- jobs
+pub mod Jobs
+-- reconciliations
+pub mod Recons
+-- commands that read nothing
+pub mod NoInputs
+-- the commands, each with its contract in a file of its own
+pub mod Commands
+-- what a refusal says of reading and writing
 pub mod Refused
--- lines that are noted
-pub mod Noted
+-- what a run says of its input, its output and its notes
+pub mod Outcome
+-- the text of an answer
+pub mod Answers

@@ -1,23 +1,22 @@
 //! The outside and the top call.
 //!
-//! The one contract of this crate is the headline, on `run_program`: where it answers 0, the input was read to
-//! its end, and what was written is the answer to it. Every other status has its cause as a clause.
+//! The one contract of this crate is that of `run_program`: where it answers 0, the input was read to its end, and
+//! what was written is the answer to it; every other status has its cause as a clause. What a command adds to that
+//! is one record, in a file of its own.
 #![tactic(auto)]
 
 mod answer;
-mod branch_lines;
-mod check_command;
-mod explain_command;
-mod help;
+mod commands;
+mod jobs;
+mod laws;
 mod program;
-mod recon_command;
-mod run_command;
-mod selftest_command;
+mod recons;
+mod refused;
 mod status;
 mod streams;
-mod version;
-mod words;
 
+pub use commands::{Command, command_of};
+pub use laws::commands_are_lawful;
 pub use pipe_job::{Job, JobError, head_line, job_of, read_job, row_line};
 pub use pipe_outside::{
     JobReader, LIMIT, MemReader, MemWriter, NamedBytes, ReadFailed, RowWriter, StreamWriter,
@@ -25,4 +24,3 @@ pub use pipe_outside::{
 };
 pub use program::run_program;
 pub use status::Refusal;
-pub use words::{Command, command_of};

@@ -1,13 +1,11 @@
-//! What each command does with the input and the output: a job is read to its end, and a text is written whole.
+//! The input is read to its end, and a text is written whole.
 
 ghost use Rattle.std.specs.Prelude.{◌≡◌, ◌≤◌, ◌∷◌, [], length, IfOk, IfErr, OnOk, OnErr};
 ghost use Rattle.std.specs.Option.{option_copied};
 ghost use Rattle.pipe_outside.specs.Outside.{ReadFails, WriteFails, Writes, WritesFront};
-ghost use Rattle.pipe_outside.specs.Whole.{IsAll};
-ghost use Rattle.pipe_cli.specs.Headline.{IsWhole, limit};
-ghost use Rattle.pipe_cli.specs.Refused.{ReadingLeft};
+ghost use Rattle.pipe_cli.specs.Refused.{OfReading};
+ghost use Rattle.pipe_cli.specs.Sources.{HasAll, IsWhole, Opened, WasRead, bytes_at, limit, standard_or};
 ghost use Rattle.pipe_cli.specs.Status.{OneOf, status_of};
-ghost use Rattle.pipe_cli.specs.Words.{Opened};
 
 use crate::status::Refusal;
 use pipe_frame::Text;
@@ -15,13 +13,14 @@ use pipe_outside::{JobReader, RowWriter, WholeError, read_whole, write_whole};
 use std::alloc::Global;
 
 /// All bytes that are left.
-#[tactic(auto, using(crate::proofs::ProgramLemmas::whole_read))]
+#[tactic(auto, using(crate::proofs::StreamLemmas::whole_read))]
 pub(crate) fn bytes_left<R: JobReader>(alloc: Global, input: &mut R) -> Result<Vec<u8>, Refusal>
-    ensures all { IfOk result (λ bytes. IsAll bytes.items (R.seen input.old)) }
+    ensures all { IfOk result (λ bytes. HasAll bytes.items (R.seen input.old).left) }
     ensures short { IfOk result (λ bytes. length bytes.items ≤ limit) }
     ensures read { OnOk result (IsWhole (R.seen input.old).left (R.seen input.new)) }
-    ensures reading { IfErr result (λ r. ReadingLeft r (R.seen input.old) (R.seen input.new)) }
-    ensures only { IfErr result (λ r. OneOf (2 ∷ 3 ∷ 10 ∷ []) (status_of r)) }
+    ensures reading { IfErr result (λ r.
+        OfReading r (R.seen input.old).left (R.seen input.old) (R.seen input.new)) }
+    ensures early { IfErr result (λ r. OneOf (2 ∷ 3 ∷ 10 ∷ []) (status_of r)) }
 {
     match read_whole(alloc, input) {
         Ok(bytes) => Ok(bytes),
@@ -32,9 +31,9 @@ pub(crate) fn bytes_left<R: JobReader>(alloc: Global, input: &mut R) -> Result<V
 }
 
 /// Makes what stands under a name, where there is one, what is left to read.
-pub(crate) fn open<R: JobReader>(name: Option<&Text>, input: &mut R) -> Result<(), Refusal>
+fn open<R: JobReader>(name: Option<&Text>, input: &mut R) -> Result<(), Refusal>
     ensures opened { OnOk result
-        (Opened (option_copied name.entry) (R.seen input.old) (R.seen input.new)) }
+        (Opened (standard_or (option_copied name.entry)) (R.seen input.old) (R.seen input.new)) }
     ensures err { IfErr result (λ refusal. refusal ≡ Refusal.ReadFault) }
     ensures cause { OnErr result (ReadFails (R.seen input.old) (R.seen input.new)) }
     ensures taken { (R.seen input.old).taken ≤ (R.seen input.new).taken }
@@ -47,6 +46,27 @@ pub(crate) fn open<R: JobReader>(name: Option<&Text>, input: &mut R) -> Result<(
         },
         None => Ok(()),
     }
+}
+
+/// All bytes that stand under a name, or that are left where there is none.
+#[tactic(auto, using(crate::proofs::StreamLemmas::all_named, crate::proofs::StreamLemmas::whole_named, crate::proofs::StreamLemmas::reading_named))]
+pub(crate) fn bytes_at<R: JobReader>(
+    alloc: Global,
+    name: Option<&Text>,
+    input: &mut R,
+) -> Result<Vec<u8>, Refusal>
+    ensures all { IfOk result (λ bytes.
+        HasAll bytes.items (bytes_at (standard_or (option_copied name.entry)) (R.seen input.old))) }
+    ensures short { IfOk result (λ bytes. length bytes.items ≤ limit) }
+    ensures read { OnOk result
+        (WasRead (standard_or (option_copied name.entry)) (R.seen input.old) (R.seen input.new)) }
+    ensures reading { IfErr result (λ r.
+        OfReading r (bytes_at (standard_or (option_copied name.entry)) (R.seen input.old))
+        (R.seen input.old) (R.seen input.new)) }
+    ensures early { IfErr result (λ r. OneOf (2 ∷ 3 ∷ 10 ∷ []) (status_of r)) }
+{
+    open(name, input)?;
+    bytes_left(alloc, input)
 }
 
 /// Writes all of a text.

@@ -1,4 +1,4 @@
-use Rattle.pipe_cli.proofs.ProgramLemmas.{noted}
+use Rattle.pipe_cli.proofs.StreamLemmas.{noted}
 use Rattle.pipe_cli.proofs.program.note.Goals as goal
 
 pub returns : goal.returns

@@ -1,5 +1,5 @@
 use Rattle.std.proofs.Common.{ℕ, subst, sym}
-use Rattle.pipe_cli.specs.Noted.{Noted, NotedFault}
+use Rattle.pipe_cli.specs.Outcome.{Noted, NotedFault}
 use Rattle.pipe_cli.specs.Status.{IsFixed, status_line}
 use Rattle.pipe_cli.proofs.StatusLemmas.{noted_fault, noted_fixed}
 use Rattle.pipe_cli.proofs.program.run_program.Goals as goal
@@ -12,4 +12,4 @@ returns-in-Err-clause-noted g c =
 pub returns-in-Err-clause-told : goal.returns-in-Err-clause-told
 returns-in-Err-clause-told g c =
     subst (λ (n : ℕ). NotedFault n c.args.words.now (g.R.JobReader.seen c.args.input.now) (g.N.RowWriter.seen c.args.notes.now) (g.N.RowWriter.seen c.note.new.notes)) (sym c.status.ensures)
-    (noted_fault c.in-Err.refusal c.args.words.now (g.R.JobReader.seen c.args.input.now) (g.N.RowWriter.seen c.args.notes.now) (g.N.RowWriter.seen c.note.new.notes) c.in-Err.ensures.text c.in-Err.ensures.test c.in-Err.ensures.recon c.note.ensures)
+    (noted_fault c.in-Err.refusal c.args.words.now (g.R.JobReader.seen c.args.input.now) (g.N.RowWriter.seen c.args.notes.now) (g.N.RowWriter.seen c.note.new.notes) c.in-Err.ensures.input c.note.ensures)

@@ -1,7 +1,0 @@
-use Rattle.std.proofs.Common.{◌≡◌, take}
-use Rattle.std.specs.List.{flat_map}
-use Rattle.pipe_cli.specs.Answer.{ended}
-use Rattle.pipe_cli.proofs.branch_lines.lines_of.Given as goal
-
-abbrev pub invariant-loop-text : goal.invariant-loop-text
-invariant-loop-text l = l.lines.items ≡ flat_map ended (take l.text-index l.texts)
