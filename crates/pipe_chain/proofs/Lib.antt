@@ -1,0 +1,4 @@
+pub mod Weighing
+pub mod FlowLemmas
+pub mod PlainLemmas
+pub mod PlainPays

@@ -1,0 +1,161 @@
+-- Numbers that were claimed, and the chunks of these numbers.
+use Rattle.std.proofs.Common.{◌≡◌, ℕ, zero, suc, ◌+◌, ◌-◌, ◌<◌, ◌≤◌, List, [], ◌∷◌, ◌++◌, length, map, take, drop, cond, ltb, true, false, refl, ap, sym, ◌∙◌, subst, arith, lt-ltb, le-ltb}
+use Rattle.std.proofs.lemmas.Bool.{ltb-true, ltb-false}
+use Rattle.std.specs.List.{flat_map, range_with_len}
+use Rattle.std.proofs.lemmas.List.Concat.{flat_map-append}
+use Rattle.std.proofs.lemmas.List.{take-append-drop}
+use Rattle.pipe_frame.specs.Rows.{Row, Same, Within}
+use Rattle.pipe_frame.proofs.Weights.{total-flat_map, Same-from_bag, total as rows_total, total-append as total-rows}
+use Rattle.pipe_ops.specs.declared.source.Morsel.{Morsel}
+use Rattle.pipe_words.specs.Sums.{total, SameItems}
+use Rattle.pipe_words.proofs.SumLemmas.{total-append}
+use Rattle.pipe_run.specs.Claimed.{rows_in, rows_at, entries_at, past}
+use Rattle.pipe_run.specs.Dealt.{in_all, rows_of_all}
+use Rattle.pipe_chain.proofs.Weighing.{rows-refl, rows-sym, rows-append, within-by, weighs}
+use Rattle.pipe_run.proofs.ClaimSteps.{rows-past, entries-past}
+
+-- the numbers below an end
+abbrev pub below : ℕ → List ℕ → List ℕ
+below end [] = []
+below end (n ∷ ns) = cond (ltb n end) (n ∷ below end ns) (below end ns)
+
+abbrev capped : (ℕ → ℕ) → ℕ → ℕ → ℕ
+capped w end n = cond (ltb n end) (w n) 0
+
+total-below : (w : ℕ → ℕ) (end : ℕ) (ns : List ℕ) → total w (below end ns) ≡ total (capped w end) ns
+total-below w end [] = refl
+total-below w end (n ∷ ns) =
+    elim (ltb n end) as (λ b. total w (cond b (n ∷ below end ns) (below end ns)) ≡ cond b (w n) 0 + total (capped w end) ns) [ true ↦ omega (arith, total-below w end ns) | false ↦ omega (arith, total-below w end ns) ]
+
+total-in-all : (w : ℕ → ℕ) (end : ℕ) (nss : List (List ℕ)) → total w (in_all (map (below end) nss)) ≡ total (capped w end) (in_all nss)
+total-in-all w end [] = refl
+total-in-all w end (ns ∷ nss) = omega (arith, total-append w (below end ns) (in_all (map (below end) nss)), total-append (capped w end) ns (in_all nss), total-below w end ns, total-in-all w end nss)
+
+-- a range in two parts
+total-range : (w : ℕ → ℕ) (k j a : ℕ) → total w (range_with_len a (k + j)) ≡ total w (range_with_len a k) + total w (range_with_len (a + k) j)
+total-range w zero j a =
+    let e : a + 0 ≡ a = omega arith in
+    let f : 0 + j ≡ j = omega arith in
+    rw (e, f) (omega arith)
+total-range w (suc k) j a =
+    let e : suc k + j ≡ suc (k + j) = omega arith in
+    let f : a + suc k ≡ a + 1 + k = omega arith in
+    rw (e, f) (omega (arith, total-range w k j (a + 1)))
+
+capped-below : (w : ℕ → ℕ) (end k a : ℕ) → a + k ≤ end → total (capped w end) (range_with_len a k) ≡ total w (range_with_len a k)
+capped-below w end zero a h = refl
+capped-below w end (suc k) a h =
+    let e : capped w end a ≡ w a = ap (λ b. cond b (w a) 0) (lt-ltb a end (omega arith)) in
+    omega (arith, e, capped-below w end k (a + 1) (omega arith))
+
+capped-past : (w : ℕ → ℕ) (end k a : ℕ) → end ≤ a → total (capped w end) (range_with_len a k) ≡ 0
+capped-past w end zero a h = refl
+capped-past w end (suc k) a h =
+    let e : capped w end a ≡ 0 = ap (λ b. cond b (w a) 0) (le-ltb a end h) in
+    omega (arith, e, capped-past w end k (a + 1) (omega arith))
+
+-- of numbers claimed once each those below an end are all below it
+pub each-below : (nss : List (List ℕ)) (claimed end : ℕ) → SameItems (in_all nss) (range_with_len 0 claimed) → end ≤ claimed → SameItems (in_all (map (below end) nss)) (range_with_len 0 end)
+each-below nss claimed end items h = λ w.
+    let k : end + (claimed - end) ≡ claimed = omega arith in
+    let parts = total-range (capped w end) end (claimed - end) 0 in
+    omega (
+      arith,
+      total-in-all w end nss,
+      items (capped w end),
+      ap (λ n. total (capped w end) (range_with_len 0 n)) k,
+      parts,
+      capped-below w end end 0 (omega arith),
+      capped-past w end (claimed - end) (0 + end) (omega arith),
+    )
+
+past-none : (end k a : ℕ) → a + k ≤ end → total (past end) (range_with_len a k) ≡ 0
+past-none end zero a h = refl
+past-none end (suc k) a h =
+    let e : past end a ≡ 0 = ap (λ b. cond b 0 1) (lt-ltb a end (omega arith)) in
+    omega (arith, e, past-none end k (a + 1) (omega arith))
+
+-- where a number past the end was claimed, all below it were
+pub all-claimed : (xs : List ℕ) (claimed end : ℕ) → SameItems xs (range_with_len 0 claimed) → 0 < total (past end) xs → end ≤ claimed
+all-claimed xs claimed end items some =
+    elim (ltb claimed end) as (λ b. ltb claimed end ≡ b → end ≤ claimed) [
+      | true ↦ λ e. absurd (let less = ltb-true claimed end e in omega (arith, some, items (past end), past-none end claimed 0 (omega (arith, less))))
+      | false ↦ λ e. ltb-false claimed end e
+    ] refl
+
+-- ---- the chunks of these numbers
+
+take-all : {A : Type 0} (n : ℕ) (xs : List A) → length xs ≤ n → take n xs ≡ xs
+take-all zero [] h = refl
+take-all zero (x ∷ xs) h = absurd (omega arith)
+take-all (suc n) [] h = refl
+take-all (suc n) (x ∷ xs) h = ap (λ l. x ∷ l) (take-all n xs (omega arith))
+
+module _ {A : Type 0} (f g : ℕ → List A) (step : (n : ℕ) → f (n + 1) ≡ g n) where
+  flat-shift : (k a : ℕ) → flat_map f (range_with_len (a + 1) k) ≡ flat_map g (range_with_len a k)
+  flat-shift zero a = refl
+  flat-shift (suc k) a = rw (step a, flat-shift k (a + 1)) refl
+
+rows-next : (m : Morsel) (ms : List Morsel) (n : ℕ) → rows_at (m ∷ ms) (n + 1) ≡ rows_at ms n
+rows-next m ms n = let e : n + 1 ≡ suc n = omega arith in rw e refl
+
+rows-none : (ns : List ℕ) → flat_map (rows_at []) ns ≡ []
+rows-none [] = refl
+rows-none (n ∷ ns) = rows-none ns
+
+-- those of the first so many chunks
+pub rows-first : (ms : List Morsel) (n : ℕ) → flat_map (rows_at ms) (range_with_len 0 n) ≡ rows_of_all (take n ms)
+rows-first ms zero = refl
+rows-first [] (suc n) = rows-none (range_with_len 0 (suc n))
+rows-first (m ∷ ms) (suc n) = rw (flat-shift (rows_at (m ∷ ms)) (rows_at ms) (rows-next m ms) n 0, rows-first ms n) refl
+
+pub rows-split : (ms : List Morsel) (n : ℕ) → rows_of_all ms ≡ rows_of_all (take n ms) ++ rows_of_all (drop n ms)
+rows-split ms n = ap rows_of_all (sym (take-append-drop n ms)) ∙ flat_map-append rows_in (take n ms) (drop n ms)
+
+one-total : (w : ℕ → ℕ) (xs : List ℕ) → total w xs ≡ rows_total w xs
+one-total w [] = refl
+one-total w (x ∷ xs) = omega (arith, one-total w xs)
+
+-- the same numbers give the same rows
+pub same-numbers : (f : ℕ → List Row) (xs ys : List ℕ) → SameItems xs ys → Same (flat_map f xs) (flat_map f ys)
+same-numbers f xs ys items = Same-from_bag (record {
+  sums = λ w.
+      let v = λ (n : ℕ). rows_total w (f n) in
+      total-flat_map f w xs ∙ sym (one-total v xs) ∙ items v ∙ one-total v ys ∙ sym (total-flat_map f w ys);
+})
+
+-- numbers past the chunks stand for nothing
+module _ {A : Type 0} (f : ℕ → List A) (end : ℕ) (none : (n : ℕ) → end ≤ n → f n ≡ []) where
+  flat-below : (ns : List ℕ) → flat_map f (below end ns) ≡ flat_map f ns
+  flat-below [] = refl
+  flat-below (n ∷ ns) =
+      elim (ltb n end) as (λ b. ltb n end ≡ b → flat_map f (cond b (n ∷ below end ns) (below end ns)) ≡ f n ++ flat_map f ns) [
+        | true ↦ λ e. ap (λ l. f n ++ l) (flat-below ns)
+        | false ↦ λ e. flat-below ns ∙ ap (λ l. l ++ flat_map f ns) (sym (none n (ltb-false n end e)))
+      ] refl
+
+pub rows-below : (ms : List Morsel) (ns : List ℕ) → flat_map (rows_at ms) (below (length ms) ns) ≡ flat_map (rows_at ms) ns
+rows-below ms ns = flat-below (rows_at ms) (length ms) (rows-past ms) ns
+
+pub entries-below : (ms : List Morsel) (ns : List ℕ) → flat_map (entries_at ms) (below (length ms) ns) ≡ flat_map (entries_at ms) ns
+entries-below ms ns = flat-below (entries_at ms) (length ms) (entries-past ms) ns
+
+pub rows-in-all : (f : ℕ → List Row) (ns : List ℕ) (nss : List (List ℕ)) → flat_map f (in_all (ns ∷ nss)) ≡ flat_map f ns ++ flat_map f (in_all nss)
+rows-in-all f ns nss = flat_map-append f ns (in_all nss)
+
+module _ (ms : List Morsel) (xs : List ℕ) (claimed : ℕ) (items : SameItems xs (range_with_len 0 claimed)) where
+  -- the rows of what was claimed
+  pub rows-claimed : Same (flat_map (rows_at ms) xs) (rows_of_all (take claimed ms))
+  rows-claimed = subst (λ (l : List Row). Same (flat_map (rows_at ms) xs) l) (rows-first ms claimed) (same-numbers (rows_at ms) xs (range_with_len 0 claimed) items)
+
+  -- and those of the other chunks
+  pub rows-unclaimed : Same (rows_of_all ms) (flat_map (rows_at ms) xs ++ rows_of_all (drop claimed ms))
+  rows-unclaimed = subst (λ (l : List Row). Same l (flat_map (rows_at ms) xs ++ rows_of_all (drop claimed ms))) (sym (rows-split ms claimed)) (rows-append (rows-sym rows-claimed) (rows-refl (rows_of_all (drop claimed ms))))
+
+  -- all of them, where none is left
+  pub rows-all : length ms ≤ claimed → Same (flat_map (rows_at ms) xs) (rows_of_all ms)
+  rows-all h = subst (λ (l : List Morsel). Same (flat_map (rows_at ms) xs) (rows_of_all l)) (take-all claimed ms h) rows-claimed
+
+  -- no more than all of them
+  pub claimed-within : Within (flat_map (rows_at ms) xs) (rows_of_all ms)
+  claimed-within = within-by (λ w. omega (arith, weighs rows-unclaimed w, total-rows w (flat_map (rows_at ms) xs) (rows_of_all (drop claimed ms))))

@@ -1,0 +1,12 @@
+pub mod Work
+pub mod Limits
+pub mod Debts
+pub mod Stages
+pub mod Sums
+pub mod LaneSteps
+pub mod ClaimSteps
+pub mod Dealing
+pub mod RoundSteps
+pub mod Asked
+pub mod SeatSteps
+pub mod Splits

@@ -1,0 +1,75 @@
+-- Chunks that lanes claim by their numbers.
+use Rattle.std.specs.Prelude.{◌≡◌, ℕ, zero, suc, ◌<◌, List, [], ◌∷◌, ◌++◌, length, Option, Some, None, cond, ltb}
+use Rattle.std.specs.List.{flat_map}
+use Rattle.atomic_table.specs.Seated.{TableId}
+use Rattle.pipe_frame.specs.Rows.{Row}
+use Rattle.pipe_frame.specs.declared.field.Field.{Field}
+use Rattle.pipe_chain.specs.declared.operator.Operator.{Ghosts as OperatorWords}
+use Rattle.pipe_ops.specs.declared.sink.Sink.{Ghosts as SinkWords}
+use Rattle.pipe_ops.specs.declared.source.Morsel.{Morsel}
+use Rattle.pipe_words.specs.Claims.{SeatClaims}
+use Rattle.pipe_words.specs.Sums.{total}
+use Rattle.pipe_run.specs.declared.lane.Lane.{Lane}
+use Rattle.pipe_run.specs.declared.entry.Entry.{Entry}
+use Rattle.pipe_run.specs.declared.entry.Entry.TheVariants.{Take, Done}
+use Rattle.pipe_run.specs.Lanes.{IsCalm, Ran}
+
+-- the rows of a chunk, and those of the chunk of a number, none past the last
+abbrev pub rows_in : Morsel → List Row
+rows_in morsel = morsel.chunk.frame.rows
+
+abbrev pub rows_at : List Morsel → ℕ → List Row
+rows_at [] n = []
+rows_at (m ∷ ms) zero = rows_in m
+rows_at (m ∷ ms) (suc n) = rows_at ms n
+
+-- what a lane notes of a chunk, and of that of a number, nothing past the last
+abbrev pub entries_for : Morsel → List Entry
+entries_for m = Take m.part m.from (length m.chunk.frame.rows) ∷ Done ∷ []
+
+abbrev pub entries_at : List Morsel → ℕ → List Entry
+entries_at [] n = []
+entries_at (m ∷ ms) zero = entries_for m
+entries_at (m ∷ ms) (suc n) = entries_at ms n
+
+-- the schema of the first chunk, and that a chunk has a schema
+abbrev pub schema_in : List Morsel → List Field
+schema_in [] = []
+schema_in (m ∷ ms) = m.chunk.frame.schema
+
+abbrev pub IsOfSchema : List Field → Morsel → Type 0
+IsOfSchema schema m = m.chunk.frame.schema ≡ schema
+
+-- the numbers that a seat drew, none where there is no seat
+abbrev pub drawn_at : Option SeatClaims → List ℕ
+drawn_at None = []
+drawn_at (Some seat) = seat.drawn
+
+abbrev pub drawn_in : {O K : Type 0} → Lane O K → List ℕ
+drawn_in lane = drawn_at lane.seat
+
+-- a lane that drew nothing
+abbrev pub IsFresh : {O K : Type 0} → Lane O K → Type 0
+IsFresh lane = drawn_in lane ≡ []
+
+-- a lane worked on the chunks of these numbers, and noted them in this order
+pub record Took {O S K B C : Type 0} (op : OperatorWords O S) (sink : SinkWords K B C) (ss : List S)
+    (limit : ℕ) (ms : List Morsel) (ns : List ℕ) (old new : Lane O K) : Type 0 where
+  pub ran : Ran op sink ss limit (schema_in ms) (flat_map (rows_at ms) ns) old new
+  pub entries : new.entries.items ≡ old.entries.items ++ flat_map (entries_at ms) ns
+
+-- a seat is there, and of these claims
+abbrev pub IsSeatOf : TableId → Option SeatClaims → Type 0
+IsSeatOf table None = ⊥
+IsSeatOf table (Some seat) = seat.table ≡ table
+
+abbrev pub IsSeated : {O K : Type 0} → TableId → Lane O K → Type 0
+IsSeated table lane = IsSeatOf table lane.seat
+
+-- 1 from an end on
+abbrev pub past : ℕ → ℕ → ℕ
+past end n = cond (ltb n end) 0 1
+
+-- a lane that was refused nothing drew a number past the chunks
+abbrev pub IsAtEnd : {O K : Type 0} → List Morsel → Lane O K → Type 0
+IsAtEnd morsels lane = IsCalm lane → 0 < total (past (length morsels)) (drawn_in lane)

@@ -1,0 +1,53 @@
+//! A lane: operators and a sink of its own.
+
+ghost use Rattle.std.specs.Prelude.{◌≡◌};
+ghost use Rattle.pipe_run.specs.Lanes.{IsFit, Ran, IsCalm};
+
+use crate::entry::Entry;
+use crate::pushing::push_shared;
+use crate::stage::{Basin, Refusal, Stage};
+use pipe_chain::Operator;
+use pipe_frame::DataChunk;
+use pipe_ops::{PExecutionContext, Sink};
+use pipe_words::ClaimSeat;
+use std::alloc::Global;
+
+/// A lane.
+#[derive(Drop)]
+pub struct Lane<O, K> {
+    /// Its operators, in order.
+    pub stages: Vec<Stage<O>>,
+    /// Its sink.
+    pub basin: Basin<K>,
+    /// Its seat at the claims of a round, during the round.
+    pub seat: Option<ClaimSeat>,
+    /// What it took, in order, each followed by its end.
+    pub entries: Vec<Entry>,
+    /// Why it stopped, if it did.
+    pub refused: Option<Refusal>,
+}
+
+/// Pushes a chunk through a lane, which keeps what is refused.
+pub(crate) fn run_chunk<O: Operator, K: Sink>(
+    alloc: Global,
+    context: &PExecutionContext,
+    shared: &[O::Shared],
+    lane: &mut Lane<O, K>,
+    chunk: &DataChunk,
+)
+    requires calm { IsCalm lane.old }
+    requires fit { IsFit O.Operator K.Sink shared.now context.now.row_limit chunk.now.frame.schema
+        lane.old }
+    ensures fit { IsFit O.Operator K.Sink shared.now context.now.row_limit chunk.now.frame.schema
+        lane.new }
+    ensures ran { Ran O.Operator K.Sink shared.now context.now.row_limit chunk.now.frame.schema
+        chunk.now.frame.rows lane.old lane.new }
+    ensures seat { lane.new.seat ≡ lane.old.seat }
+    ensures entries { lane.new.entries ≡ lane.old.entries }
+{
+    let stages = lane.stages.as_mut_slice();
+    match push_shared(alloc, context, shared, stages, chunk, &mut lane.basin) {
+        Ok(()) => {}
+        Err(refusal) => lane.refused = Some(refusal),
+    }
+}
