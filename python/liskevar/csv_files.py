@@ -22,12 +22,8 @@ from .tables import Column, Table, told_types
 
 WHOLE = re.compile(r"0|-?[1-9][0-9]*")
 SCALED = re.compile(r"-?(?:0|[1-9][0-9]*)(?:\.[0-9]+)?")
-HEXADECIMAL = re.compile(r"(?:[0-9a-f]{2})*")
 DECIMAL = re.compile(r"-?[0-9]*\.[0-9]+|-?[0-9]+\.")
-HEXASCALED = re.compile(r"-?(?:0|[1-9][0-9]*)(?:\.[0-9]+)?")
 HEXADECIMAL = re.compile(r"(?:[0-9a-f]{2})*")
-DECIMAL = re.compile(r"(?:[0-9a-f]{2})*")
-ISO_DATE = re.compile(r"[0-9]{4}-[0-9]{2}-[0-9]{2}(?:[T ][0-9:.]+(?:Z|[+-][0-9:]+)?)?")
 OTHER_DATE = re.compile(r"[0-9]{1,2}[./-][0-9]{1,2}[./-](?:[0-9]{4}|[0-9]{2})|[0-9]{4}[./][0-9]{1,2}[./][0-9]{1,2}")
 # Stands for a field that is written as two quotes, until it is read; no file that is UTF-8 has it.
 EMPTY = "\udc00"

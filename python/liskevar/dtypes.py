@@ -68,6 +68,14 @@ class DType:
             raise ValueError(f"{value!r} is no {self}")
         return str(int(scaled)) if self.base == "Int128" else int(scaled)
 
+    def holds(self, value: Any) -> bool:
+        """Whether a value of Python is one of the type."""
+        try:
+            self.cell(value)
+        except (ValueError, ArithmeticError):
+            return False
+        return True
+
     def value(self, cell: Cell) -> Any:
         """A cell of the program's lines as a value of Python."""
         if cell is None or self.base in ("Boolean", "String"):
@@ -120,66 +128,86 @@ class Mismatch(Exception):
 
 
 class Group(NamedTuple):
-    """Guesses that have one type; the type where something told it."""
+    """Guesses that have one type; the type where something told it, and the ends of whole numbers that it must hold."""
 
     members: tuple[Guess, ...]
     told: DType | None = None
+    ends: tuple[int, int] | None = None
+
+    def _fits(self, dtype: DType) -> bool:
+        return all(it.fits(dtype) for it in self.members) and all(dtype.holds(it) for it in self.ends or ())
+
+    def is_empty(self) -> bool:
+        """Whether nothing is known of the type."""
+        return self.told is None and self.ends is None and all(it.is_empty for it in self.members)
 
     def found(self) -> DType | None:
         """The type: what was told, or the first that is tried and fits all."""
         if self.told is not None:
-            return self.told if all(it.fits(self.told) for it in self.members) else None
-        if all(it.is_empty for it in self.members):
+            return self.told if self._fits(self.told) else None
+        if self.is_empty():
             return STRING
         tried = dict.fromkeys(dtype for it in self.members if not it.is_empty for dtype in it.tried)
-        return next((dtype for dtype in tried if all(it.fits(dtype) for it in self.members)), None)
+        return next((dtype for dtype in (*tried, *GUESSED[:3]) if self._fits(dtype)), None)
 
 
 class Typing:
-    """Which guesses have one type. It is never changed: each call gives another."""
+    """Which guesses have one type. It is never changed: each call gives another, or itself."""
 
     def __init__(self, groups: dict[Guess, Group] | None = None) -> None:
         self.groups = groups or {}
 
-    def _group(self, guess: Guess) -> Group:
-        return self.groups.get(guess) or Group((guess,))
+    def _group(self, it: Type) -> Group:
+        return Group((), it) if isinstance(it, DType) else self.groups.get(it) or Group((it,))
 
     def resolve(self, it: Type) -> DType:
         """The type as it is known so far."""
-        if isinstance(it, DType):
-            return it
-        found = self._group(it).found()
+        found = it if isinstance(it, DType) else self._group(it).found()
         assert found is not None, "groups without a type are never made"
         return found
 
     def is_empty(self, it: Type) -> bool:
         """Whether nothing is known of the type yet."""
-        return isinstance(it, Guess) and self._group(it).told is None and all(m.is_empty for m in self._group(it).members)
+        return self._group(it).is_empty()
 
-    def _joined(self, group: Group) -> Typing:
+    def _with(self, group: Group) -> Typing:
         return Typing({**self.groups, **dict.fromkeys(group.members, group)})
+
+    def holding(self, it: Type, number: int) -> Typing:
+        """Makes a type hold a whole number."""
+        group, dtype = self._group(it), self.resolve(it)
+        least, greatest = group.ends or (number, number)
+        if group.ends and least <= number <= greatest:
+            return self
+        wider = group._replace(ends=(min(least, number), max(greatest, number)))
+        if (dtype.kind != "number" and not group.is_empty()) or wider.found() is None:
+            raise Mismatch(dtype, INT64, it.hint if isinstance(it, Guess) else "")
+        return self._with(wider)
 
     def unify(self, left: Type, right: Type, broad: bool = False) -> Typing:
         """Makes two types one. Numbers become texts only where `broad`: for keys, unions and unpivots."""
-        a, b = self.resolve(left), self.resolve(right)
-        hint = "".join(it.hint for it in (left, right) if isinstance(it, Guess))
-        mixed = a.kind != b.kind and not self.is_empty(left) and not self.is_empty(right)
-        if (mixed and not broad) or (isinstance(left, DType) and isinstance(right, DType) and left != right):
-            raise Mismatch(a, b, hint)
-        groups = [self._group(it) if isinstance(it, Guess) else Group((), it) for it in (left, right)]
-        told = [it.told for it in groups if it.told is not None]
-        merged = Group(tuple(dict.fromkeys(groups[0].members + groups[1].members)), told[0] if told else None)
-        if len(set(told)) > 1 or merged.found() is None:
-            raise Mismatch(a, b, hint)
-        return self._joined(merged)
+        if left == right:
+            return self
+        a, b = self._group(left), self._group(right)
+        one = Mismatch(self.resolve(left), self.resolve(right), "".join(it.hint for it in (left, right) if isinstance(it, Guess)))
+        mixed = one.left.kind != one.right.kind and not a.is_empty() and not b.is_empty()
+        if (mixed and not broad) or (a.told and b.told and a.told != b.told):
+            raise one
+        ends = [end for it in (a, b) for end in it.ends or ()]
+        members = tuple(dict.fromkeys(a.members + b.members))
+        merged = Group(members, a.told or b.told, (min(ends), max(ends)) if ends else None)
+        if merged.found() is None:
+            raise one
+        return self if merged in (a, b) and a.members == b.members else self._with(merged)
 
     def merge(self, others: Iterable[Typing]) -> Typing:
         """All that several of them know; Mismatch where they can't all stand."""
         found = self
         for other in others:
             for group in {id(it): it for it in other.groups.values()}.values():
-                first: Type = group.told or group.members[0]
                 for member in group.members:
                     if found.groups.get(member) is not group:
-                        found = found.unify(first, member, broad=True)
+                        found = found.unify(group.told or group.members[0], member, broad=True)
+                        for end in group.ends or ():
+                            found = found.holding(member, end)
         return found

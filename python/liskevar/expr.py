@@ -7,7 +7,7 @@ from collections.abc import Iterable, Sequence
 from decimal import Decimal
 from typing import Any
 
-from .dtypes import BINARY, BOOLEAN, GUESSED, INT64, RANGES, STRING, DType, Guess, Mismatch, Type, Typing, dtype_of
+from .dtypes import BINARY, BOOLEAN, GUESSED, INT64, STRING, DType, Guess, Mismatch, Type, Typing, dtype_of
 
 Schema = dict[str, Type]
 INFIX = {
@@ -188,36 +188,36 @@ def _literal_type(value: Any) -> Type:
         if not isinstance(exponent, int) or exponent < -18:
             raise ValueError(f"{value!r} has no exact type here")
         tried = (DType("Int64", max(-exponent, 0)), DType("Int128", max(-exponent, 0)))
-    if not any(can_be(value, it) for it in tried):
+    if not any(it.holds(value) for it in tried):
         raise ValueError(f"{value!r} doesn't fit 128 bits")
-    return Guess(lambda dtype: can_be(value, dtype), tried)
+    return Guess(lambda dtype: dtype.holds(value), tried)
 
 
-def can_be(value: Any, dtype: DType) -> bool:
-    """Whether a value of Python is one of the type."""
-    try:
-        dtype.cell(value)
-    except (ValueError, ArithmeticError):
-        return False
-    return True
+def _one_type(args: Sequence[Expr], typing: Typing) -> tuple[Type, Typing]:
+    """One type for all of them. Whole numbers that are written out take that of the others."""
+    free = [it for it in args if isinstance(it.type, Guess) and it.op == "lit" and type(it.value) is int]
+    fixed = [it for it in args if not any(it is other for other in free)] or free[:1]
+    first = fixed[0].type or INT64
+    for it in fixed[1:]:
+        typing = typing.unify(first, it.type or INT64)
+    for it in free:
+        typing = typing.holding(first, it.value)
+        it.type = first
+    return first, typing
 
 
 def _arithmetic(op: str, args: list[Expr], typing: Typing) -> tuple[Type, Typing]:
     """The type of whole numbers or decimals that all have; a product of decimals has the digits of both."""
-    number = Guess(lambda it: it.base in RANGES, (*GUESSED[:3],), is_empty=False)
-    first = typing.resolve(args[0].type or INT64)
-    scales = [typing.resolve(it.type or INT64).scale for it in args]
-    if op == "mul" and any(scales):
-        bases = [DType(typing.resolve(it.type or INT64).base) for it in args]
-        if bases != [bases[0]] * len(bases) or sum(scales) > 18 or first.kind != "number":
-            raise Mismatch(first, typing.resolve(args[1].type or INT64))
-        for it, scale in zip(args, scales):
-            typing = typing.unify(it.type or INT64, DType(bases[0].base, scale))
-        return DType(bases[0].base, sum(scales)), typing
-    for it in args:
-        typing = typing.unify(number, it.type or INT64)
-        typing = typing.unify(args[0].type or INT64, it.type or INT64)
-    return args[0].type or INT64, typing
+    types = [typing.resolve(it.type or INT64) for it in args]
+    if op != "mul" or not any(it.scale for it in types):
+        made, typing = _one_type(args, typing)
+        return made, typing.holding(made, 0)
+    bases, scale = {it.base for it in types}, sum(it.scale for it in types)
+    if len(bases) > 1 or scale > 18:
+        raise Mismatch(types[0], types[1])
+    for it, dtype in zip(args, types):
+        typing = typing.unify(it.type or INT64, dtype)
+    return DType(types[0].base, scale), typing
 
 
 def bind(expr: Expr, schema: Schema, typing: Typing) -> tuple[Expr, Typing]:
@@ -239,7 +239,7 @@ def bind(expr: Expr, schema: Schema, typing: Typing) -> tuple[Expr, Typing]:
         for it in args:
             typing = typing.unify(it.type or BOOLEAN, BOOLEAN)
     elif expr.op not in SINGLE:
-        typing = typing.unify(args[0].type or BOOLEAN, args[1].type or BOOLEAN)
+        _, typing = _one_type(args, typing)
     return Expr(expr.op, args, type=made), typing
 
 

@@ -41,7 +41,7 @@ def place_of_caller() -> Place | None:
     if told is not None:
         return told
     frame = sys._getframe(1)
-    while frame is not None and os.path.dirname(os.path.abspath(frame.f_code.co_filename)) == PACKAGE:
+    while frame is not None and str(frame.f_globals.get("__name__")).split(".")[0] == __package__:
         frame = frame.f_back  # type: ignore[assignment]
     if frame is None or frame.f_code.co_filename.startswith("<frozen"):
         return None

@@ -44,7 +44,7 @@ def _value_type(values: Sequence[Any]) -> Type:
     if kinds <= {int}:
         numbers = [it for it in values if it is not None]
         ends = (min(numbers), max(numbers)) if numbers else ()
-        return Guess(lambda dtype: not ends or all(_fits(it, dtype) for it in ends), GUESSED[:3], not numbers)
+        return Guess(lambda dtype: not ends or all(dtype.holds(it) for it in ends), GUESSED[:3], not numbers)
     if kinds == {bool}:
         return BOOLEAN
     if kinds == {bytes}:
@@ -59,14 +59,6 @@ def _value_type(values: Sequence[Any]) -> Type:
 def _digits(value: int | Decimal) -> int:
     exponent = Decimal(value).as_tuple().exponent
     return max(0, -exponent) if isinstance(exponent, int) else 99
-
-
-def _fits(value: Any, dtype: DType) -> bool:
-    try:
-        dtype.cell(value)
-    except (ValueError, ArithmeticError):
-        return False
-    return True
 
 
 def value_column(table: str, name: str, values: Sequence[Any], told: DType | None) -> Column:
