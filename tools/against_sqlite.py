@@ -6,7 +6,7 @@
 The files are made from a seed: fields with separators, quotes and line breaks in them, a mark of byte order, lines that
 end in carriage return and newline, last columns that are empty, names that aren't ASCII, a header in which a name stands
 twice (other names are given in its place), numbers past 64 bits, and 200,000 rows. SQLite reads their fields as texts by
-Python's `csv`, an empty one as null, so that nothing but the files is shared with `csv_to_job.py`.
+Python's `csv`, an empty one as null, so that nothing but the files is shared with the Python package.
 """
 
 import argparse
@@ -66,7 +66,7 @@ def quoted(name):
     return '"' + name.replace('"', '""') + '"'
 
 
-# What is joined: the files, further words for csv_to_job.py, and the same for SQLite.
+# What is joined: the files, further words for `python3 -m liskevar join`, and the same for SQLite.
 BOTH = "o.Nummer = p.Nummer and o.part = p.part"
 NULLS = "o.Nummer is p.Nummer and o.part is p.part"
 LEFT = 'o.Nummer, o.part, o."Größe", o.wide, o.leer'
@@ -76,27 +76,27 @@ SMALL = ("orders.csv", "payments.csv")
 LARGE = ("many.csv", "few.csv")
 LARGE_ON = ["--left-on", "schlüssel", "--right-on", "id"]
 JOINS = [
-    (SMALL, ["--join", "inner", "--on", "Nummer"],
+    (SMALL, ["--how", "inner", "--on", "Nummer"],
      f"select {LEFT}, p.part, p.text, p.wide from orders o join payments p on o.Nummer = p.Nummer"),
-    (SMALL, ["--join", "inner", "--on", "Nummer,part", "--join-nulls"],
+    (SMALL, ["--how", "inner", "--on", "Nummer,part", "--nulls-equal"],
      f"select {PAIR} from orders o join payments p on {NULLS}"),
-    (SMALL, ["--join", "left", "--on", "Nummer,part"],
+    (SMALL, ["--how", "left", "--on", "Nummer,part"],
      f"select {PAIR} from orders o left join payments p on {BOTH}"),
-    (SMALL, ["--join", "full", "--on", "Nummer,part"],
+    (SMALL, ["--how", "full", "--on", "Nummer,part"],
      f"select {FULL} from orders o full join payments p on {BOTH}"),
-    (SMALL, ["--join", "full", "--on", "Nummer,part", "--join-nulls"],
+    (SMALL, ["--how", "full", "--on", "Nummer,part", "--nulls-equal"],
      f"select {FULL} from orders o full join payments p on {NULLS}"),
-    (SMALL, ["--join", "semi", "--on", "Nummer,part"],
+    (SMALL, ["--how", "semi", "--on", "Nummer,part"],
      f"select {LEFT} from orders o where exists (select 1 from payments p where {BOTH})"),
-    (SMALL, ["--join", "anti", "--left-on", "Größe", "--right-on", "text"],
+    (SMALL, ["--how", "anti", "--left-on", "Größe", "--right-on", "text"],
      f'select {LEFT} from orders o where not exists (select 1 from payments p where o."Größe" = p.text)'),
-    (SMALL, ["--join", "inner", "--on", "wide", "--columns", "Nummer,Nummer_right,wide", "--sort", "wide:desc",
+    (SMALL, ["--how", "inner", "--on", "wide", "--columns", "Nummer,Nummer_right,wide", "--sort", "wide:desc",
              "--sort", "Nummer:nulls_last"],
      "select o.Nummer, p.Nummer, o.wide from orders o join payments p on o.wide = p.wide"),
-    (LARGE, ["--join", "inner", *LARGE_ON, "--sort", "number"],
+    (LARGE, ["--how", "inner", *LARGE_ON, "--sort", "number"],
      'select m."schlüssel", m.text, m.number, f.text from many m join few f on m."schlüssel" = f.id'
      " order by cast(m.number as integer)"),
-    (LARGE, ["--join", "full", *LARGE_ON],
+    (LARGE, ["--how", "full", *LARGE_ON],
      'select m."schlüssel", m.text, m.number, f.id, f.text from many m full join few f on m."schlüssel" = f.id'),
 ]  # fmt: skip
 
@@ -108,10 +108,11 @@ def cell(value):
 
 def rows_of(program, folder, files, words, names):
     """The rows that the program gives."""
-    words = [sys.executable, os.path.join(TOP, "tools", "csv_to_job.py"), *files, *words]
+    words = [sys.executable, "-m", "liskevar", "join", *files, *words, "--job"]
     for name in files:
         words += ["--names", texts_of([names[name]], "")]
-    job = subprocess.run(words, cwd=folder, capture_output=True, check=True)
+    environment = {**os.environ, "PYTHONPATH": os.path.join(TOP, "python"), "PYTHONDONTWRITEBYTECODE": "1"}
+    job = subprocess.run(words, cwd=folder, capture_output=True, check=True, env=environment)
     done = subprocess.run([program, "run"], input=job.stdout, capture_output=True)
     if done.returncode != 0:
         raise SystemExit(f"{' '.join(words)}: status {done.returncode}: {done.stderr.decode()}")
