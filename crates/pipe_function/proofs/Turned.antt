@@ -22,6 +22,8 @@ use Rattle.pipe_ops.specs.Pieces.{is_more, Pays, AnswersUnder}
 use Rattle.pipe_ops.proofs.Covered.{split-covers, joined-covers}
 use Rattle.pipe_function.specs.Applied.{applied, Applies}
 use Rattle.pipe_function.specs.Cutting.{begun_pieces, IsFirst, is_none_left, should_grow, next_size, next_pieces}
+use Rattle.pipe_function.specs.Operators.{pieces_of, turn_for, IsPiece, AnswersFor, Turns}
+use Rattle.pipe_function.specs.declared.function.FunctionOperator.{FunctionOperator}
 use Rattle.pipe_function.specs.Turns.{start_of, owed_of, FitsHeight, Fits, begun_of, Turn, is_unpivot, answer_with, applied_chunk, part_of_piece, made_by, aim_of, left_after, size_after, turn_of}
 use Rattle.pipe_ops.specs.ChunkSizes.{chunk_size}
 use Rattle.pipe_ops.specs.declared.operator.OperatorResult.{OperatorResult}
@@ -264,3 +266,19 @@ pub turned-fits : (f g : FunctionIR) (workers size : ℕ) (pieces left : List (�
 turned-fits f g workers size pieces left chunk applies fits same l =
     subst (λ (h : FunctionIR). Fits h left (length chunk.frame.rows)) (sym same)
     (subst (λ (ps : List (ℕ × ℕ)). Fits f ps (length chunk.frame.rows)) (sym l) (turn-fits f workers size pieces chunk applies fits))
+
+-- ---- what it answers is a piece
+
+with-piece : (left : List (ℕ × ℕ)) (piece : DataChunk) → IsPiece (answer_with left piece)
+with-piece [] piece = tt
+with-piece (p ∷ ps) piece = tt
+
+turn-piece : (f : FunctionIR) (workers size : ℕ) (chunk : DataChunk) (begun : List (ℕ × ℕ)) → IsPiece (turn_of f workers size chunk begun).answer
+turn-piece f workers size chunk [] = tt
+turn-piece f workers size chunk (p ∷ ps) = with-piece (left_after f workers chunk p ps) (applied_chunk f chunk (part_of_piece chunk p))
+
+pub turned-answers : (op new : FunctionOperator) (chunk : DataChunk) (answer : OperatorResult) → Turns (turn_for op chunk) new answer → AnswersFor op chunk answer
+turned-answers op new chunk answer turns = record {
+  some = subst IsPiece (sym turns.answer_is) (turn-piece op.function op.workers op.cutting.size chunk (begun_of op.function op.cutting.size (length chunk.frame.rows) (pieces_of op)));
+  turn = turns.answer_is;
+}

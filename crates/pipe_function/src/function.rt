@@ -103,7 +103,7 @@ impl Operator for FunctionOperator {
     ghost use Rattle.pipe_frame.specs.declared.field.Field.{Field};
     ghost use Rattle.pipe_function.specs.Applied.{Applies};
     ghost use Rattle.pipe_function.specs.Turns.{owed_of, Fits};
-    ghost use Rattle.pipe_function.specs.Operators.{pieces_of, turn_for, Turns};
+    ghost use Rattle.pipe_function.specs.Operators.{pieces_of, turn_for, Turns, AnswersFor};
     ghost use Rattle.pipe_function.specs.Laws.{starts_none, owes_none};
 
     type Shared = ();
@@ -127,6 +127,8 @@ impl Operator for FunctionOperator {
     ghost ready = { λ op s frame. Fits op.function (pieces_of op) (length frame.rows) };
 
     ghost idle = { λ op. pieces_of op ≡ [] };
+
+    ghost answers = { λ op rows s chunk answer. AnswersFor op chunk answer };
 
     ghost flushing = { λ op. false };
 
@@ -156,6 +158,7 @@ impl Operator for FunctionOperator {
             (λ r. is_more r ≡ true →
             Fits self.new.function (pieces_of self.new) (length chunk.now.frame.rows)) }
         ensures done { IfOk result (λ r. is_more r ≡ false → pieces_of self.new ≡ []) }
+        ensures answers { IfOk result (AnswersFor self.old chunk.now) }
         ensures turns { IfOk result (Turns (turn_for self.old chunk.now) self.new) }
     {
         self.turn(alloc, chunk)

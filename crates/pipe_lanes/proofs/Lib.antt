@@ -9,3 +9,4 @@ pub mod RoundSteps
 pub mod Asked
 pub mod SeatSteps
 pub mod Splits
+pub mod Combining

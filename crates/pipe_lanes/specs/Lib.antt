@@ -14,3 +14,5 @@ pub mod Dealt
 pub mod Halts
 -- lanes at their start
 pub mod Opens
+-- how far sinks were combined
+pub mod Gathered

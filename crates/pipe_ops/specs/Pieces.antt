@@ -39,6 +39,12 @@ Pays owed left NeedsNewData = owed ≡ []
 Pays owed left (HaveMoreOutPut piece) = IsFirstOf owed piece.frame.rows left
 Pays owed left (Finished piece) = Same owed piece.frame.rows
 
+-- a chunk is answered by one piece, which is all that is made of it
+abbrev pub IsWhole : OperatorResult → Type 0
+IsWhole NeedsNewData = ⊥
+IsWhole (HaveMoreOutPut piece) = ⊥
+IsWhole (Finished piece) = Unit {0}
+
 -- the rows of an answer for a chunk
 abbrev pub Gives : {S : Type 0} → (before after : S → Table → List Row) → S → DataChunk →
     OperatorResult → Type 0

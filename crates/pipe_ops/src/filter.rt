@@ -27,7 +27,7 @@ impl<P> FilterOperator<P> {
 
 impl<P: PhysicalPipedExpr + Drop> Operator for FilterOperator<P> {
     ghost use Rattle.std.specs.Prelude.{false, [], codes};
-    ghost use Rattle.pipe_ops.specs.Pieces.{all_of};
+    ghost use Rattle.pipe_ops.specs.Pieces.{all_of, IsWhole};
     ghost use Rattle.pipe_ops.specs.Each.{IsPredicate, filtered_row};
     ghost use Rattle.pipe_ops.specs.Laws.{never_due, same-equal};
     ghost use Rattle.std.proofs.Common.{refl};
@@ -53,6 +53,8 @@ impl<P: PhysicalPipedExpr + Drop> Operator for FilterOperator<P> {
     ghost ready = { λ op s frame. Unit {0} };
 
     ghost idle = { λ op. Unit {0} };
+
+    ghost answers = { λ op rows s chunk answer. IsWhole answer };
 
     ghost flushing = { λ op. false };
 

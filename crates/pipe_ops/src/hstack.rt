@@ -37,7 +37,7 @@ impl<P> HstackOperator<P> {
 impl<P: PhysicalPipedExpr + Drop> Operator for HstackOperator<P> {
     ghost use Rattle.std.specs.Prelude.{false, [], codes};
     ghost use Rattle.pipe_expr.specs.Projections.{hstack_fields};
-    ghost use Rattle.pipe_ops.specs.Pieces.{all_of};
+    ghost use Rattle.pipe_ops.specs.Pieces.{all_of, IsWhole};
     ghost use Rattle.pipe_ops.specs.Exprs.{exprs_in, CanStack, stacked_row};
     ghost use Rattle.pipe_ops.specs.Laws.{never_due, same-equal};
     ghost use Rattle.std.proofs.Common.{refl};
@@ -63,6 +63,8 @@ impl<P: PhysicalPipedExpr + Drop> Operator for HstackOperator<P> {
     ghost ready = { λ op s frame. Unit {0} };
 
     ghost idle = { λ op. Unit {0} };
+
+    ghost answers = { λ op rows s chunk answer. IsWhole answer };
 
     ghost flushing = { λ op. false };
 

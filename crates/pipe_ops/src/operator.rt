@@ -3,8 +3,10 @@
 ghost use Rattle.std.specs.Prelude.{◌≡◌, ℕ, ◌≤◌, List, length, IfOk, Bool, true, false};
 ghost use Rattle.pipe_frame.specs.Frame.{Table};
 ghost use Rattle.pipe_frame.specs.Rows.{Row, Same};
+ghost use Rattle.pipe_frame.specs.declared.chunk.DataChunk as chunk;
 ghost use Rattle.pipe_frame.specs.declared.field.Field.{Field};
 ghost use Rattle.pipe_ops.specs.Pieces.{IsPieceOf, AnswersUnder, Gives, Flushes, is_more, all_of};
+ghost use Rattle.pipe_ops.specs.declared.operator.OperatorResult as answer;
 
 use crate::context::PExecutionContext;
 use pipe_frame::DataChunk;
@@ -56,6 +58,10 @@ pub trait Operator: Send + Sync + Sized {
     /// Nothing was begun.
     ghost idle: { Self → Type 0 };
 
+    /// What an answer for a chunk may be besides, where pieces are to have so many rows: which of the three come,
+    /// and how many rows a piece has.
+    ghost answers: { Self → (rows : ℕ) → Self.Shared → chunk.DataChunk → answer.OperatorResult → Type 0 };
+
     /// Whether a flush is due, and what it still owes of it.
     ghost flushing: { Self → Bool };
 
@@ -82,6 +88,8 @@ pub trait Operator: Send + Sync + Sized {
         ensures each { each self.new ≡ each self.old }
         ensures piece { IfOk result (IsPieceOf (output self.old) chunk.now) }
         ensures gives { IfOk result (Gives (rest self.old) (rest self.new) shared.now chunk.now) }
+        ensures answers { IfOk result
+            (answers self.old context.now.chunk_rows shared.now chunk.now) }
         ensures more { IfOk result
             (λ r. is_more r ≡ true → ready self.new shared.now chunk.now.frame) }
         ensures done { IfOk result (λ r. is_more r ≡ false → idle self.new) };

@@ -24,7 +24,7 @@ impl Pass {
 
 impl Operator for Pass {
     ghost use Rattle.std.specs.Prelude.{false, [], ◌∷◌};
-    ghost use Rattle.pipe_ops.specs.Pieces.{all_of};
+    ghost use Rattle.pipe_ops.specs.Pieces.{all_of, IsWhole};
     ghost use Rattle.pipe_ops.specs.Each.{passed_row};
     ghost use Rattle.pipe_ops.specs.Laws.{never_due, pass_owes};
     ghost use Rattle.std.proofs.Common.{refl};
@@ -50,6 +50,8 @@ impl Operator for Pass {
     ghost ready = { λ op s frame. Unit {0} };
 
     ghost idle = { λ op. Unit {0} };
+
+    ghost answers = { λ op rows s chunk answer. IsWhole answer };
 
     ghost flushing = { λ op. false };
 

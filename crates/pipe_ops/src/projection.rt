@@ -30,7 +30,7 @@ impl<P> ProjectionOperator<P> {
 impl<P: PhysicalPipedExpr + Drop> Operator for ProjectionOperator<P> {
     ghost use Rattle.std.specs.Prelude.{false, [], codes};
     ghost use Rattle.pipe_expr.specs.Projections.{select_fields};
-    ghost use Rattle.pipe_ops.specs.Pieces.{all_of};
+    ghost use Rattle.pipe_ops.specs.Pieces.{all_of, IsWhole};
     ghost use Rattle.pipe_ops.specs.Exprs.{exprs_in, CanProject, projected_row};
     ghost use Rattle.pipe_ops.specs.Laws.{never_due, same-equal};
     ghost use Rattle.std.proofs.Common.{refl};
@@ -56,6 +56,8 @@ impl<P: PhysicalPipedExpr + Drop> Operator for ProjectionOperator<P> {
     ghost ready = { λ op s frame. Unit {0} };
 
     ghost idle = { λ op. Unit {0} };
+
+    ghost answers = { λ op rows s chunk answer. IsWhole answer };
 
     ghost flushing = { λ op. false };
 

@@ -33,7 +33,7 @@ impl SimpleProjectionOperator {
 impl Operator for SimpleProjectionOperator {
     ghost use Rattle.std.specs.Prelude.{false, [], codes};
     ghost use Rattle.pipe_expr.specs.Projections.{fields_named};
-    ghost use Rattle.pipe_ops.specs.Pieces.{all_of};
+    ghost use Rattle.pipe_ops.specs.Pieces.{all_of, IsWhole};
     ghost use Rattle.pipe_ops.specs.Each.{named_row};
     ghost use Rattle.pipe_ops.specs.Laws.{never_due, same-equal};
     ghost use Rattle.std.proofs.Common.{refl};
@@ -59,6 +59,8 @@ impl Operator for SimpleProjectionOperator {
     ghost ready = { λ op s frame. Unit {0} };
 
     ghost idle = { λ op. Unit {0} };
+
+    ghost answers = { λ op rows s chunk answer. IsWhole answer };
 
     ghost flushing = { λ op. false };
 

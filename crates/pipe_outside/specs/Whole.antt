@@ -1,5 +1,5 @@
 -- Texts that are read and written whole.
-use Rattle.std.specs.Prelude.{ℕ, ◌≡◌, ◌<◌, List, length, Option, IfSome}
+use Rattle.std.specs.Prelude.{ℕ, ◌≡◌, ◌<◌, ◌≤◌, List, length, Option, IfSome}
 use Rattle.pipe_outside.specs.Outside.{Appends, Counted, HasRead, InputSeen, OutputSeen}
 
 -- this text is all that was left, where it is told
@@ -18,6 +18,12 @@ Reads text input now = HasRead text input.left now.left
 pub record ReadAndCounted (text : List ℕ) (input now : InputSeen) : Type 0 where
   pub reads : Reads text input now
   pub counts : Counted (length text) input now
+
+-- so many bytes at most were taken from what was left, and counted
+pub record ReadAtMost (most : ℕ) (input now : InputSeen) : Type 0 where
+  pub taken : List ℕ
+  pub few : length taken ≤ most
+  pub read : ReadAndCounted taken input now
 
 -- what was read before, and then more, is what was read
 abbrev pub ReadsOn : List ℕ → List ℕ → InputSeen → InputSeen → Type 0

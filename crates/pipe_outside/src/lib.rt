@@ -19,4 +19,4 @@ pub use outside::{JobReader, ReadFailed, RowWriter, WriteFailed};
 pub use shelf::NamedBytes;
 pub use sure_reader::SureReader;
 pub use sure_writer::SureWriter;
-pub use whole::{LIMIT, WholeError, read_whole, write_whole};
+pub use whole::{LIMIT, PIECE, WholeError, read_whole, write_whole};

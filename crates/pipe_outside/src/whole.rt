@@ -1,7 +1,7 @@
 //! Whole texts: a job is read to its end, and a text is written whole.
 
 ghost use Rattle.std.specs.Prelude.{◌≡◌, ◌≤◌, ◌<◌, ◌+◌, [], ◌++◌, length, take, drop, IfOk, IfErr, IsErrOf, OnOk, OnErr};
-ghost use Rattle.pipe_outside.specs.Whole.{IsAll, IsLong, Reads, ReadsOn, WritesOn};
+ghost use Rattle.pipe_outside.specs.Whole.{IsAll, IsLong, ReadAtMost, Reads, ReadsOn, WritesOn};
 ghost use Rattle.pipe_outside.specs.Outside.{AtEnd, Counted, CountedAbove, ReadFails, WriteFails, Writes, WritesFront};
 
 use crate::outside::{JobReader, ReadFailed, RowWriter, WriteFailed};
@@ -11,7 +11,7 @@ use std::alloc::Global;
 pub const LIMIT: usize = 33_554_432;
 
 /// How many bytes one read takes at most.
-const PIECE: usize = 65_536;
+pub const PIECE: usize = 65_536;
 
 /// Why a job wasn't read.
 #[derive(Clone, Copy, Debug)]
@@ -44,6 +44,7 @@ fn read_piece<R: JobReader>(
 ) -> Result<usize, WholeError>
     requires { 0 < length buffer.old }
     ensures longer { IfOk result (λ n. length text.new.items ≡ length text.old.items + n) }
+    ensures within { IfOk result (λ n. n ≤ length buffer.old) }
     ensures read { IfOk result
         (λ n. ReadsOn text.old.items text.new.items (R.seen input.old) (R.seen input.new)) }
     ensures end { IfOk result (λ n. n ≡ 0 → AtEnd (R.seen input.old) (R.seen input.new)) }
@@ -79,6 +80,8 @@ fn read_pieces<R: JobReader>(
     ensures long { IsErrOf result WholeError.TooLong → IsLong LIMIT (R.seen input.old) }
     ensures many { IsErrOf result WholeError.TooLong →
         CountedAbove LIMIT (R.seen input.old) (R.seen input.new) }
+    ensures most { IsErrOf result WholeError.TooLong →
+        ReadAtMost (LIMIT + length buffer.old) (R.seen input.old) (R.seen input.new) }
     ensures failed { IsErrOf result WholeError.Failed →
         ReadFails (R.seen input.old) (R.seen input.new) }
     ensures faults { (R.seen input.old).faults ≤ (R.seen input.new).faults }
@@ -93,7 +96,8 @@ fn read_pieces<R: JobReader>(
 
 /// Reads all that is left, unless there are more bytes than a job may have.
 ///
-/// Where a reader tells its bytes, too long is said exactly where there are too many.
+/// Where a reader tells its bytes, too long is said exactly where there are too many. Then no more than one read's bytes
+/// are taken past the most that a job may have.
 #[tactic(auto, using(crate::proofs::WholeLemmas::all_read))]
 pub fn read_whole<R: JobReader>(alloc: Global, input: &mut R) -> Result<Vec<u8>, WholeError>
     // What was read.
@@ -109,6 +113,8 @@ pub fn read_whole<R: JobReader>(alloc: Global, input: &mut R) -> Result<Vec<u8>,
     ensures long { IsErrOf result WholeError.TooLong → IsLong LIMIT (R.seen input.old) }
     ensures many { IsErrOf result WholeError.TooLong →
         CountedAbove LIMIT (R.seen input.old) (R.seen input.new) }
+    ensures most { IsErrOf result WholeError.TooLong →
+        ReadAtMost (LIMIT + PIECE) (R.seen input.old) (R.seen input.new) }
     ensures faults { (R.seen input.old).faults ≤ (R.seen input.new).faults }
 {
     let mut buffer = buffer_of(alloc, PIECE)?;

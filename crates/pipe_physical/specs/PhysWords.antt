@@ -2,21 +2,23 @@
 use Rattle.std.specs.Prelude.{◌≡◌, ℕ, List, [], None, length, codes}
 use Rattle.pipe_frame.specs.Frame.{Table}
 use Rattle.pipe_frame.specs.Rows.{Row}
+use Rattle.pipe_frame.specs.declared.chunk.DataChunk.{DataChunk}
 use Rattle.pipe_frame.specs.declared.field.Field.{Field}
 use Rattle.pipe_expr.specs.Formula.{NamedFormula, named_formula_of}
 use Rattle.pipe_expr.specs.Joins.{join_fields}
 use Rattle.pipe_expr.specs.Physical.{Physical}
 use Rattle.pipe_expr.specs.Projections.{fields_named, select_fields, hstack_fields, function_fields, function_rows}
 use Rattle.pipe_function.specs.Applied.{Applies}
-use Rattle.pipe_function.specs.Operators.{pieces_of}
+use Rattle.pipe_function.specs.Operators.{pieces_of, AnswersFor}
 use Rattle.pipe_function.specs.Turns.{owed_of, Fits}
 use Rattle.pipe_ops.specs.Each.{IsPredicate, filtered_row, named_row}
 use Rattle.pipe_ops.specs.Exprs.{exprs_in, CanProject, CanStack, projected_row, stacked_row}
-use Rattle.pipe_ops.specs.Pieces.{all_of}
+use Rattle.pipe_ops.specs.Pieces.{all_of, IsWhole}
+use Rattle.pipe_ops.specs.declared.operator.OperatorResult.{OperatorResult}
 use Rattle.pipe_physical.specs.TableProbing.{ServesTable, share_in, left_in, IsReadyFor}
 use Rattle.pipe_physical.specs.declared.phys_operator.PhysOperator.{PhysOperator}
 use Rattle.pipe_physical.specs.declared.phys_operator.PhysOperator.TheVariants.{Filter, SimpleProjection, Projection, HStack, Function, Probe}
-use Rattle.pipe_probe.specs.Probed.{TakesProbed}
+use Rattle.pipe_probe.specs.Probed.{TakesProbed, HasPieces}
 use Rattle.pipe_table.specs.Spec.{settings_of}
 
 -- the formula of an expression, and the schema that it was made for
@@ -89,3 +91,13 @@ idle_of (Projection p) = Unit {0}
 idle_of (HStack p) = Unit {0}
 idle_of (Function f) = pieces_of f ≡ []
 idle_of (Probe p) = p.begun ≡ None
+
+-- what an answer may be: a filter, a projection and an extension answer with one piece, a function as it cuts
+-- its chunks, and a probe in pieces of so many rows; none asks for another chunk
+abbrev pub answers_of : {H : Type 0} → PhysOperator H → (rows : ℕ) → DataChunk → OperatorResult → Type 0
+answers_of (Filter f) rows chunk answer = IsWhole answer
+answers_of (SimpleProjection p) rows chunk answer = IsWhole answer
+answers_of (Projection p) rows chunk answer = IsWhole answer
+answers_of (HStack p) rows chunk answer = IsWhole answer
+answers_of (Function f) rows chunk answer = AnswersFor f chunk answer
+answers_of (Probe p) rows chunk answer = HasPieces rows answer

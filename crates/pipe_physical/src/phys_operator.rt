@@ -30,7 +30,7 @@ impl<H: KeyHasher> Operator for PhysOperator<H> {
     ghost use Rattle.std.specs.Prelude.{false, []};
     ghost use Rattle.std.proofs.Common.{refl};
     ghost use Rattle.pipe_ops.specs.Laws.{never_due};
-    ghost use Rattle.pipe_physical.specs.PhysWords.{takes_of, output_of, text_of, serves_by, each_of, rest_of, ready_of, idle_of};
+    ghost use Rattle.pipe_physical.specs.PhysWords.{takes_of, output_of, text_of, serves_by, each_of, rest_of, ready_of, idle_of, answers_of};
     ghost use Rattle.pipe_physical.specs.PhysLaws.{idle_is_ready, idle_owes_all};
 
     type Shared = ();
@@ -54,6 +54,8 @@ impl<H: KeyHasher> Operator for PhysOperator<H> {
     ghost ready = { λ op s frame. ready_of op frame };
 
     ghost idle = { idle_of };
+
+    ghost answers = { λ op rows s. answers_of op rows };
 
     ghost flushing = { λ op. false };
 

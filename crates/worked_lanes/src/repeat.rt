@@ -46,6 +46,8 @@ impl Operator for Repeat {
 
     ghost idle = { λ op. op.given ≡ 0 };
 
+    ghost answers = { λ op rows s chunk answer. Unit {0} };
+
     ghost flushing = { λ op. false };
 
     ghost owed = { λ op s. [] };

@@ -1,10 +1,11 @@
-use Rattle.std.proofs.Common.{◌≤◌, ◌-◌, vec_len}
+use Rattle.std.proofs.Common.{◌≤◌, ◌-◌, ◌+◌, length, vec_len}
 use Rattle.pipe_outside.specs.Whole.{ReadAndCounted}
 use Rattle.pipe_outside.proofs.whole.read_pieces.Given as goal
 
 abbrev pub invariant-loop-input : goal.invariant-loop-input
 invariant-loop-input g l = record {
   reading : ReadAndCounted l.text.items (g.R.JobReader.seen l.initial.input) (g.R.JobReader.seen l.input);
+  few : length l.text.items ≤ 33554432 + length l.initial.buffer;
   faults : (g.R.JobReader.seen l.initial.input).faults ≤ (g.R.JobReader.seen l.input).faults;
 }
 
