@@ -18,3 +18,5 @@ mod Filling
 mod Made
 mod Framed
 mod Checked
+-- the order of codes
+mod CodeOrder

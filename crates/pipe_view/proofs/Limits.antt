@@ -13,7 +13,7 @@ use Rattle.pipe_plan.specs.Schemas.{join_over}
 use Rattle.pipe_plan.specs.declared.ir.JoinOptions.{JoinOptions}
 use Rattle.pipe_view.specs.Kept.{Kept, view_rows, with_row, IsOver}
 use Rattle.pipe_view.specs.Changes.{rows_that_come, rows_that_go}
-use Rattle.pipe_view.specs.Codes.{GroupRows, GroupList, group_rows, group_at, side_rows, row_code, AreSorted}
+use Rattle.pipe_view.specs.Codes.{GroupRows, GroupList, group_rows, group_at, side_rows, row_code, AreSorted, Code}
 use Rattle.pipe_view.specs.Joined.{group_join}
 use Rattle.pipe_view.specs.Held.{kept_in, IsHeld}
 use Rattle.pipe_view.specs.declared.counts.Counts.{Counts}
@@ -33,17 +33,17 @@ module _ (left right : List Field) (left_on right_on : List Expr) (options : Joi
   abbrev pub before : Kept
   before = kept_in left right left_on right_on options limit groups
 
-  abbrev pub beside : (right_built : Bool) → ℕ → Bool
+  abbrev pub beside : (right_built : Bool) → Code → Bool
   beside right_built c = uncovers_beside whole right_built row (group_rows right_built (group_at c groups) ++ [])
 
-  abbrev pub come : (right_built : Bool) → ℕ → List Row
+  abbrev pub come : (right_built : Bool) → Code → List Row
   come right_built c = rows_that_come whole right_built (beside right_built c) row (group_rows (not right_built) (group_at c groups))
 
-  abbrev pub go : (right_built : Bool) → ℕ → List Row
+  abbrev pub go : (right_built : Bool) → Code → List Row
   go right_built c = rows_that_go whole right_built (beside right_built c) row (group_rows (not right_built) (group_at c groups))
 
   -- what goes is there, or comes
-  pub gone-within : (right_built : Bool) (c : ℕ) → length (go right_built c) ≤ counts.rows + length (come right_built c)
+  pub gone-within : (right_built : Bool) (c : Code) → length (go right_built c) ≤ counts.rows + length (come right_built c)
   gone-within right_built c =
       let law = group-more whole held.kind right_built row (group_at c groups) (λ r. 1) in
       let in_view = group-within left right left_on right_on options limit schema groups counts held sorted c in

@@ -4,7 +4,6 @@ use Rattle.std.specs.Prelude.{filter, not, ◌&&◌, ◌||◌, unwrap_or, option
 use Rattle.std.specs.List.{flat_map, list_any, AllByRecursion}
 use Rattle.std.specs.Map.{keys_of, values_of, lookup, remove_entry}
 use Rattle.std.specs.BTreeMap.{is_at}
-use Rattle.std.specs.Ordering.{nat_cmp}
 use Rattle.std.proofs.lemmas.Map.Keys.{sorted_head, sorted_tail}
 use Rattle.std.proofs.lemmas.Map.Entries.{sum_by-remove_entry}
 use Rattle.pipe_frame.specs.Rows.{Row, eq_row, times}
@@ -15,13 +14,13 @@ use Rattle.pipe_expr.specs.Shares.{all_shares}
 use Rattle.pipe_expr.proofs.ShareLaw.{shares-right_built, shares-left_built}
 use Rattle.pipe_view.specs.Sides.{probed_key, has_probed_key, has_built_key, partners, is_view_kind, keeps_built}
 use Rattle.pipe_view.specs.Changes.{comes, goes, pairs_that_come, paddings_that_go, own_padding, met_by_row, rows_that_come, rows_that_go}
-use Rattle.pipe_view.specs.Codes.{code_of, row_code, GroupRows, GroupList, no_rows, group_rows, group_at, rows_in, side_rows, HaveCode, IsPlaced, AreSorted, ArePlaced}
+use Rattle.pipe_view.specs.Codes.{code_of, row_code, GroupRows, GroupList, no_rows, group_rows, group_at, rows_in, side_rows, HaveCode, IsPlaced, AreSorted, ArePlaced, Code, code_cmp}
 use Rattle.pipe_view.proofs.Tests.{filter-first, filter-last, any-first, any-last, all-map}
 use Rattle.pipe_view.proofs.Changing.{uncovers_beside, is_covered, row-more}
 use Rattle.pipe_view.proofs.Placing.{HaveOther, others-in, at-code, not-at}
 use Rattle.pipe_view.proofs.Weighing.{total-side, length-total}
 
-side-code : (j : Join) (of_left : Bool) (k : ℕ) (g : GroupRows) → IsPlaced j (k, g) → HaveCode j of_left k (group_rows of_left g)
+side-code : (j : Join) (of_left : Bool) (k : Code) (g : GroupRows) → IsPlaced j (k, g) → HaveCode j of_left k (group_rows of_left g)
 side-code j true k g h = h.left
 side-code j false k g h = h.right
 
@@ -33,35 +32,35 @@ none-in : (of_left : Bool) → group_rows of_left no_rows ≡ []
 none-in true = refl
 none-in false = refl
 
-module _ (j : Join) (of_left : Bool) (c : ℕ) (q : Row → Bool) (coded : (row : Row) → q row ≡ true → row_code j of_left row ≡ c) where
+module _ (j : Join) (of_left : Bool) (c : Code) (q : Row → Bool) (coded : (row : Row) → q row ≡ true → row_code j of_left row ≡ c) where
   fails-other : (rows : List Row) → HaveOther j of_left c rows → AllByRecursion (λ row. q row ≡ false) rows
   fails-other rows h = all-map _ _ rows (λ row ne. not-true (q row) (λ e. ne (coded row e))) h
 
-  fails-of : (k : ℕ) (rows : List Row) → (c ≡ k → ⊥) → HaveCode j of_left k rows → AllByRecursion (λ row. q row ≡ false) rows
+  fails-of : (k : Code) (rows : List Row) → (c ≡ k → ⊥) → HaveCode j of_left k rows → AllByRecursion (λ row. q row ≡ false) rows
   fails-of k rows ne h = all-map _ _ rows (λ row at. not-true (q row) (λ e. ne (sym (coded row e) ∙ at))) h
 
-  later-other : (e : ℕ × GroupRows) (groups : GroupList) → AreSorted (e ∷ groups) → ArePlaced j (e ∷ groups) → c ≡ e.0 → HaveOther j of_left c (side_rows of_left groups)
-  later-other e groups sorted placed at = subst (λ k. HaveOther j of_left k (side_rows of_left groups)) (sym at) (others-in j of_left e.0 groups (sorted_head nat_cmp e.0 (keys_of groups) sorted) placed.1)
+  later-other : (e : Code × GroupRows) (groups : GroupList) → AreSorted (e ∷ groups) → ArePlaced j (e ∷ groups) → c ≡ e.0 → HaveOther j of_left c (side_rows of_left groups)
+  later-other e groups sorted placed at = subst (λ k. HaveOther j of_left k (side_rows of_left groups)) (sym at) (others-in j of_left e.0 groups (sorted_head code_cmp e.0 (keys_of groups) sorted) placed.1)
 
   pub filter-local : (groups : GroupList) → AreSorted groups → ArePlaced j groups → filter q (side_rows of_left groups) ≡ filter q (group_rows of_left (group_at c groups))
   filter-local [] sorted placed = ap (filter q) (sym (none-in of_left))
   filter-local (e ∷ groups) sorted placed =
-      let split : (t : Bool) → is_at (nat_cmp c) e.0 ≡ t → filter q (group_rows of_left e.1 ++ side_rows of_left groups) ≡ filter q (group_rows of_left (unwrap_or (cond t (Some e.1) (lookup (is_at (nat_cmp c)) groups)) no_rows)) =
+      let split : (t : Bool) → is_at (code_cmp c) e.0 ≡ t → filter q (group_rows of_left e.1 ++ side_rows of_left groups) ≡ filter q (group_rows of_left (unwrap_or (cond t (Some e.1) (lookup (is_at (code_cmp c)) groups)) no_rows)) =
       elim [
         | true ↦ λ h. filter-first q (group_rows of_left e.1) (side_rows of_left groups) (fails-other (side_rows of_left groups) (later-other e groups sorted placed (at-code j c e.0 h)))
-        | false ↦ λ h. filter-last q (group_rows of_left e.1) (side_rows of_left groups) (fails-of e.0 (group_rows of_left e.1) (not-at j c e.0 h) (side-code j of_left e.0 e.1 placed.0)) ∙ filter-local groups (sorted_tail nat_cmp e.0 (keys_of groups) sorted) placed.1
+        | false ↦ λ h. filter-last q (group_rows of_left e.1) (side_rows of_left groups) (fails-of e.0 (group_rows of_left e.1) (not-at j c e.0 h) (side-code j of_left e.0 e.1 placed.0)) ∙ filter-local groups (sorted_tail code_cmp e.0 (keys_of groups) sorted) placed.1
       ]
-      in split (is_at (nat_cmp c) e.0) refl
+      in split (is_at (code_cmp c) e.0) refl
 
   pub any-local : (groups : GroupList) → AreSorted groups → ArePlaced j groups → list_any q (side_rows of_left groups) ≡ list_any q (group_rows of_left (group_at c groups))
   any-local [] sorted placed = ap (list_any q) (sym (none-in of_left))
   any-local (e ∷ groups) sorted placed =
-      let split : (t : Bool) → is_at (nat_cmp c) e.0 ≡ t → list_any q (group_rows of_left e.1 ++ side_rows of_left groups) ≡ list_any q (group_rows of_left (unwrap_or (cond t (Some e.1) (lookup (is_at (nat_cmp c)) groups)) no_rows)) =
+      let split : (t : Bool) → is_at (code_cmp c) e.0 ≡ t → list_any q (group_rows of_left e.1 ++ side_rows of_left groups) ≡ list_any q (group_rows of_left (unwrap_or (cond t (Some e.1) (lookup (is_at (code_cmp c)) groups)) no_rows)) =
       elim [
         | true ↦ λ h. any-first q (group_rows of_left e.1) (side_rows of_left groups) (fails-other (side_rows of_left groups) (later-other e groups sorted placed (at-code j c e.0 h)))
-        | false ↦ λ h. any-last q (group_rows of_left e.1) (side_rows of_left groups) (fails-of e.0 (group_rows of_left e.1) (not-at j c e.0 h) (side-code j of_left e.0 e.1 placed.0)) ∙ any-local groups (sorted_tail nat_cmp e.0 (keys_of groups) sorted) placed.1
+        | false ↦ λ h. any-last q (group_rows of_left e.1) (side_rows of_left groups) (fails-of e.0 (group_rows of_left e.1) (not-at j c e.0 h) (side-code j of_left e.0 e.1 placed.0)) ∙ any-local groups (sorted_tail code_cmp e.0 (keys_of groups) sorted) placed.1
       ]
-      in split (is_at (nat_cmp c) e.0) refl
+      in split (is_at (code_cmp c) e.0) refl
 
 times-filter : (z : Row) (rows : List Row) → times eq_row z rows ≡ length (filter (eq_row z) rows)
 times-filter z [] = refl
@@ -75,11 +74,11 @@ times-local j of_left z groups sorted placed =
     ∙ sym (times-filter z (group_rows of_left (group_at (row_code j of_left z) groups)))
 
 -- a weight of one group is at most that of all
-pub weight-in : (f : GroupRows → ℕ) → f no_rows ≡ 0 → (c : ℕ) (groups : GroupList) → f (group_at c groups) ≤ sum_by f (values_of groups)
+pub weight-in : (f : GroupRows → ℕ) → f no_rows ≡ 0 → (c : Code) (groups : GroupList) → f (group_at c groups) ≤ sum_by f (values_of groups)
 weight-in f z c groups =
-    let gone = sum_by-remove_entry f (is_at (nat_cmp c)) groups in
+    let gone = sum_by-remove_entry f (is_at (code_cmp c)) groups in
     let by_look : (o : Option GroupRows) → f (unwrap_or o no_rows) ≡ unwrap_or (option_map f o) 0 = elim [ None ↦ z | Some g ↦ refl ] in
-    let one = by_look (lookup (is_at (nat_cmp c)) groups) in
+    let one = by_look (lookup (is_at (code_cmp c)) groups) in
     omega (arith, gone, one)
 
 both-hold : (a b : Bool) → (a && b) ≡ true → (a ≡ true) × (b ≡ true)
@@ -89,7 +88,7 @@ both-hold false b h = cc
 -- ---- what comes and goes, told by the whole tables
 
 module _ (j : Join) (right_built : Bool) (row : Row) (groups : GroupList) (sorted : AreSorted groups) (placed : ArePlaced j groups) where
-  abbrev pub own_code : ℕ
+  abbrev pub own_code : Code
   own_code = row_code j right_built row
 
   met-local : met_by_row j right_built row (side_rows (not right_built) groups) ≡ met_by_row j right_built row (group_rows (not right_built) (group_at own_code groups))

@@ -5,10 +5,10 @@ use Rattle.std.specs.List.{flat_map, list_any, AllByRecursion}
 use Rattle.std.specs.List.Sorted.{IsStrictlySortedBy}
 use Rattle.std.specs.Map.{keys_of, values_of, lookup}
 use Rattle.std.specs.BTreeMap.{is_at}
-use Rattle.std.specs.Ordering.{nat_cmp, is_eq}
+use Rattle.std.specs.Ordering.{is_eq}
 use Rattle.std.specs.declared.cmp.Ordering.{Ordering}
 use Rattle.std.specs.declared.cmp.Ordering.TheVariants.{Less, Equal, Greater}
-use Rattle.std.proofs.lemmas.Cmp.{ranked}
+use Rattle.pipe_view.proofs.CodeOrder.{code_itself, same_code}
 use Rattle.std.proofs.lemmas.Map.Keys.{sorted_head, sorted_tail}
 use Rattle.pipe_frame.specs.Rows.{Row, eq_row, times}
 use Rattle.pipe_frame.proofs.Weights.{total, SameBag, SameBag-refl, SameBag-trans, SameBag-sym, SameBag-from_equal, SameBag-append, SameBag-from_rows, total-append, total-same, eq_row-sound, eq_row-refl}
@@ -18,7 +18,7 @@ use Rattle.pipe_expr.specs.declared.join_words.JoinType.{JoinType}
 use Rattle.pipe_expr.specs.declared.join_words.JoinType.TheVariants as how
 use Rattle.pipe_expr.proofs.ShareLaw.{shares-right_built, shares-left_built}
 use Rattle.pipe_view.specs.Sides.{probed_key, built_key, has_probed_key, is_view_kind}
-use Rattle.pipe_view.specs.Codes.{code_of, row_code, GroupRows, GroupList, no_rows, group_rows, group_at, rows_in, side_rows, HaveCode, IsPlaced, AreSorted, ArePlaced}
+use Rattle.pipe_view.specs.Codes.{code_of, row_code, GroupRows, GroupList, no_rows, group_rows, group_at, rows_in, side_rows, HaveCode, IsPlaced, AreSorted, ArePlaced, Code, code_cmp}
 use Rattle.pipe_view.specs.Joined.{group_join}
 use Rattle.pipe_view.proofs.Tests.{filter-first, filter-last, any-first, any-last, pieces-alike_in, filter-alike_in, all-map, all-append}
 use Rattle.pipe_view.proofs.Meeting.{meets-by_built, group-shares}
@@ -39,25 +39,25 @@ not-true true h = absurd (h refl)
 not-true false h = refl
 
 -- rows of different codes don't meet
-apart : (j : Join) (p b : Row) (c d : ℕ) → row_code j true p ≡ c → row_code j false b ≡ d → (c ≡ d → ⊥) → meets j true p b ≡ false
+apart : (j : Join) (p b : Row) (c d : Code) → row_code j true p ≡ c → row_code j false b ≡ d → (c ≡ d → ⊥) → meets j true p b ≡ false
 apart j p b c d hp hb ne = not-true (meets j true p b) (λ e. ne (sym hp ∙ code-of_match j p b e ∙ hb))
 
 -- rows of other codes than one
-abbrev pub HaveOther : Join → (right_built : Bool) → ℕ → List Row → Type 0
+abbrev pub HaveOther : Join → (right_built : Bool) → Code → List Row → Type 0
 HaveOther j right_built c rows = AllByRecursion (λ row. row_code j right_built row ≡ c → ⊥) rows
 
 module _ (j : Join) where
   -- a probed row beside built rows of other codes, behind or before those that it may meet
-  misses-built : (p : Row) (c : ℕ) (rows : List Row) → row_code j true p ≡ c → HaveOther j false c rows → AllByRecursion (λ b. meets j true p b ≡ false) rows
+  misses-built : (p : Row) (c : Code) (rows : List Row) → row_code j true p ≡ c → HaveOther j false c rows → AllByRecursion (λ b. meets j true p b ≡ false) rows
   misses-built p c rows hp h = all-map _ _ rows (λ b ne. apart j p b c (row_code j false b) hp refl (λ e. ne (sym e))) h
 
-  misses-built_of : (p : Row) (c : ℕ) (rows : List Row) → (row_code j true p ≡ c → ⊥) → HaveCode j false c rows → AllByRecursion (λ b. meets j true p b ≡ false) rows
+  misses-built_of : (p : Row) (c : Code) (rows : List Row) → (row_code j true p ≡ c → ⊥) → HaveCode j false c rows → AllByRecursion (λ b. meets j true p b ≡ false) rows
   misses-built_of p c rows ne h = all-map _ _ rows (λ b hb. apart j p b (row_code j true p) c refl hb ne) h
 
-  misses-probed : (b : Row) (c : ℕ) (rows : List Row) → row_code j false b ≡ c → HaveOther j true c rows → AllByRecursion (λ p. met_by j true b p ≡ false) rows
+  misses-probed : (b : Row) (c : Code) (rows : List Row) → row_code j false b ≡ c → HaveOther j true c rows → AllByRecursion (λ p. met_by j true b p ≡ false) rows
   misses-probed b c rows hb h = all-map _ _ rows (λ p ne. apart j p b (row_code j true p) c refl hb ne) h
 
-  misses-probed_of : (b : Row) (c : ℕ) (rows : List Row) → (row_code j false b ≡ c → ⊥) → HaveCode j true c rows → AllByRecursion (λ p. met_by j true b p ≡ false) rows
+  misses-probed_of : (b : Row) (c : Code) (rows : List Row) → (row_code j false b ≡ c → ⊥) → HaveCode j true c rows → AllByRecursion (λ p. met_by j true b p ≡ false) rows
   misses-probed_of b c rows ne h = all-map _ _ rows (λ p hp. apart j p b c (row_code j false b) hp refl (λ e. ne (sym e))) h
 
   -- the share of a row rests on what it meets alone
@@ -69,23 +69,23 @@ module _ (j : Join) where
   share-alike how.Semi p a b f g = ap (λ t. row_where t p) g
   share-alike how.Anti p a b f g = ap (λ t. row_where (not t) p) g
 
-  first-shares : (c : ℕ) (a b rest : List Row) → HaveCode j true c a → HaveOther j false c rest → flat_map (probe_share j true (b ++ rest)) a ≡ flat_map (probe_share j true b) a
+  first-shares : (c : Code) (a b rest : List Row) → HaveCode j true c a → HaveOther j false c rest → flat_map (probe_share j true (b ++ rest)) a ≡ flat_map (probe_share j true b) a
   first-shares c a b rest ha hr =
       pieces-alike_in _ _ a (all-map _ _ a (λ p hp.
       let misses = misses-built p c rest hp hr in
       share-alike j.how p (b ++ rest) b (filter-first (meets j true p) b rest misses) (any-first (meets j true p) b rest misses)) ha)
 
-  last-shares : (c : ℕ) (rest b more : List Row) → HaveOther j true c rest → HaveCode j false c b → flat_map (probe_share j true (b ++ more)) rest ≡ flat_map (probe_share j true more) rest
+  last-shares : (c : Code) (rest b more : List Row) → HaveOther j true c rest → HaveCode j false c b → flat_map (probe_share j true (b ++ more)) rest ≡ flat_map (probe_share j true more) rest
   last-shares c rest b more hr hb =
       pieces-alike_in _ _ rest (all-map _ _ rest (λ p ne.
       let misses = misses-built_of p c b ne hb in
       share-alike j.how p (b ++ more) more (filter-last (meets j true p) b more misses) (any-last (meets j true p) b more misses)) hr)
 
-  first-paddings : (c : ℕ) (a rest b : List Row) → HaveOther j true c rest → HaveCode j false c b → padded_built j true (a ++ rest) b ≡ padded_built j true a b
+  first-paddings : (c : Code) (a rest b : List Row) → HaveOther j true c rest → HaveCode j false c b → padded_built j true (a ++ rest) b ≡ padded_built j true a b
   first-paddings c a rest b hr hb =
       ap (map (pad_built j true)) (filter-alike_in _ _ b (all-map _ _ b (λ r hc. ap not (any-first (met_by j true r) a rest (misses-probed r c rest hc hr))) hb))
 
-  last-paddings : (c : ℕ) (a more rest : List Row) → HaveCode j true c a → HaveOther j false c rest → padded_built j true (a ++ more) rest ≡ padded_built j true more rest
+  last-paddings : (c : Code) (a more rest : List Row) → HaveCode j true c a → HaveOther j false c rest → padded_built j true (a ++ more) rest ≡ padded_built j true more rest
   last-paddings c a more rest ha hr =
       ap (map (pad_built j true)) (filter-alike_in _ _ rest (all-map _ _ rest (λ r ne. ap not (any-last (met_by j true r) a more (misses-probed_of r c a ne ha))) hr))
 
@@ -102,7 +102,7 @@ module _ (j : Join) where
   pieces-append f (x ∷ xs) ys = ap (λ l. f x ++ l) (pieces-append f xs ys) ∙ sym (append_assoc (f x) (flat_map f xs) (flat_map f ys))
 
   -- one group and the rows of others
-  module _ (c : ℕ) (a b left right : List Row) (ha : HaveCode j true c a) (hb : HaveCode j false c b) (hl : HaveOther j true c left) (hr : HaveOther j false c right) where
+  module _ (c : Code) (a b left right : List Row) (ha : HaveCode j true c a) (hb : HaveCode j false c b) (hl : HaveOther j true c left) (hr : HaveOther j false c right) where
     shares-apart : flat_map (probe_share j true (b ++ right)) (a ++ left) ≡ flat_map (probe_share j true b) a ++ flat_map (probe_share j true right) left
     shares-apart =
         pieces-append (probe_share j true (b ++ right)) a left
@@ -143,10 +143,10 @@ module _ (j : Join) where
   no-shares how.Semi w = refl
   no-shares how.Anti w = refl
 
-  less-apart : (c d : ℕ) → nat_cmp c d ≡ Less → d ≡ c → ⊥
-  less-apart c d h e = let below : c < d = ranked c d Less (sym h) in absurd (omega (arith, below, e))
+  less-apart : (c d : Code) → code_cmp c d ≡ Less → d ≡ c → ⊥
+  less-apart c d h e = let clash : Less ≡ Equal = sym h ∙ ap (code_cmp c) e ∙ code_itself c in cc
 
-  pub others-in : (right_built : Bool) (c : ℕ) (groups : GroupList) → AllByRecursion (λ k. nat_cmp c k ≡ Less) (keys_of groups) → ArePlaced j groups → HaveOther j right_built c (side_rows right_built groups)
+  pub others-in : (right_built : Bool) (c : Code) (groups : GroupList) → AllByRecursion (λ k. code_cmp c k ≡ Less) (keys_of groups) → ArePlaced j groups → HaveOther j right_built c (side_rows right_built groups)
   others-in right_built c [] h placed = tt
   others-in true c (e ∷ groups) h placed =
       all-append _ (e.1).left (side_rows true groups) (all-map _ _ (e.1).left (λ row at here. less-apart c e.0 h.0 (sym at ∙ here)) (placed.0).left) (others-in true c groups h.1 placed.1)
@@ -157,8 +157,8 @@ module _ (j : Join) where
       total w (all_shares j true (side_rows true groups) (side_rows false groups)) ≡ total (λ e. total w (all_shares j true (e.1).left (e.1).right)) groups
   shares-by_group w [] sorted placed = no-shares j.how w
   shares-by_group w (e ∷ groups) sorted placed =
-      let head = sorted_head nat_cmp e.0 (keys_of groups) sorted in
-      let tail = sorted_tail nat_cmp e.0 (keys_of groups) sorted in
+      let head = sorted_head code_cmp e.0 (keys_of groups) sorted in
+      let tail = sorted_tail code_cmp e.0 (keys_of groups) sorted in
       apart-shares e.0 (e.1).left (e.1).right (side_rows true groups) (side_rows false groups) (placed.0).left (placed.0).right (others-in true e.0 groups head placed.1) (others-in false e.0 groups head placed.1) w
       ∙ ap (λ n. total w (all_shares j true (e.1).left (e.1).right) + n) (shares-by_group w groups tail placed.1)
 
@@ -182,29 +182,26 @@ module _ (j : Join) where
 
   -- ---- what is known of one group
 
-  self-at : (c : ℕ) → is_at (nat_cmp c) c ≡ true
-  self-at c =
-      let split : (o : Ordering) → o ≡ nat_cmp c c → is_eq o ≡ true =
-      elim [ Less ↦ λ e. (let below : c < c = ranked c c Less e in absurd (omega (arith, below))) | Equal ↦ λ e. refl | Greater ↦ λ e. (let below : c < c = ranked c c Greater e in absurd (omega (arith, below))) ]
-      in split (nat_cmp c c) refl
+  self-at : (c : Code) → is_at (code_cmp c) c ≡ true
+  self-at c = ap is_eq (code_itself c)
 
-  pub at-code : (c : ℕ) (k : ℕ) → is_at (nat_cmp c) k ≡ true → c ≡ k
+  pub at-code : (c : Code) (k : Code) → is_at (code_cmp c) k ≡ true → c ≡ k
   at-code c k h =
-      let split : (o : Ordering) → o ≡ nat_cmp c k → is_eq o ≡ true → c ≡ k =
-      elim [ Less ↦ λ e t. cc | Equal ↦ λ e t. ranked c k Equal e | Greater ↦ λ e t. cc ]
-      in split (nat_cmp c k) refl h
+      let split : (o : Ordering) → o ≡ code_cmp c k → is_eq o ≡ true → c ≡ k =
+      elim [ Less ↦ λ e t. cc | Equal ↦ λ e t. same_code c k (sym e) | Greater ↦ λ e t. cc ]
+      in split (code_cmp c k) refl h
 
-  pub not-at : (c : ℕ) (k : ℕ) → is_at (nat_cmp c) k ≡ false → c ≡ k → ⊥
+  pub not-at : (c : Code) (k : Code) → is_at (code_cmp c) k ≡ false → c ≡ k → ⊥
   not-at c k h e =
-      let same : is_at (nat_cmp c) k ≡ true = ap (λ n. is_at (nat_cmp c) n) (sym e) ∙ self-at c in
+      let same : is_at (code_cmp c) k ≡ true = ap (λ n. is_at (code_cmp c) n) (sym e) ∙ self-at c in
       let clash : true ≡ false = sym same ∙ h in cc
 
-  pub placed-at : (c : ℕ) (groups : GroupList) → ArePlaced j groups → IsPlaced j (c, group_at c groups)
+  pub placed-at : (c : Code) (groups : GroupList) → ArePlaced j groups → IsPlaced j (c, group_at c groups)
   placed-at c [] placed = record { left = tt; right = tt }
   placed-at c (e ∷ groups) placed =
-      let split : (t : Bool) → is_at (nat_cmp c) e.0 ≡ t → IsPlaced j (c, unwrap_or (cond t (Some e.1) (lookup (is_at (nat_cmp c)) groups)) no_rows) =
+      let split : (t : Bool) → is_at (code_cmp c) e.0 ≡ t → IsPlaced j (c, unwrap_or (cond t (Some e.1) (lookup (is_at (code_cmp c)) groups)) no_rows) =
       elim [
         | true ↦ λ h. (let at = at-code c e.0 h in record { left = subst (λ k. HaveCode j true k (e.1).left) (sym at) (placed.0).left; right = subst (λ k. HaveCode j false k (e.1).right) (sym at) (placed.0).right })
         | false ↦ λ h. placed-at c groups placed.1
       ]
-      in split (is_at (nat_cmp c) e.0) refl
+      in split (is_at (code_cmp c) e.0) refl

@@ -17,7 +17,7 @@ use Rattle.pipe_plan.specs.declared.ir.JoinOptions.{JoinOptions}
 use Rattle.pipe_view.specs.Kept.{Kept, kept_join, view_rows, view_fields, rows_on, fields_on, with_row, IsSameView, IsDelta, IsWithin, StandApart}
 use Rattle.pipe_view.specs.Sides.{right_is_built, is_view_kind, keeps_built, probed_key, has_probed_key}
 use Rattle.pipe_view.specs.Changes.{rows_that_come, rows_that_go}
-use Rattle.pipe_view.specs.Codes.{GroupRows, GroupList, no_rows, group_rows, group_at, side_rows, group_with, group_without, row_code, HaveCode, IsPlaced, AreSorted, ArePlaced, HasGroup}
+use Rattle.pipe_view.specs.Codes.{GroupRows, GroupList, no_rows, group_rows, group_at, side_rows, group_with, group_without, row_code, HaveCode, IsPlaced, AreSorted, ArePlaced, HasGroup, Code}
 use Rattle.pipe_view.specs.Joined.{group_join}
 use Rattle.pipe_view.specs.Held.{kept_in, HaveWidth, AreCounted, IsHeld, count_on, counts_with}
 use Rattle.pipe_view.specs.declared.counts.Counts.{Counts}
@@ -40,7 +40,7 @@ module _ (j : Join) (kind : is_view_kind j.how ≡ true) where
   join-sums w groups sorted placed = rows-by_group j kind w groups sorted placed ∙ total-values (λ g. total w (group_join j g)) groups
 
   -- the rows of the join have changed by those of the group
-  pub join-changed : (c : ℕ) (g : GroupRows) (before after : GroupList) → AreSorted before → AreSorted after → ArePlaced j before → ArePlaced j after → HasGroup c g before after → (w : Row → ℕ) →
+  pub join-changed : (c : Code) (g : GroupRows) (before after : GroupList) → AreSorted before → AreSorted after → ArePlaced j before → ArePlaced j after → HasGroup c g before after → (w : Row → ℕ) →
       total w (join_rows j (side_rows true after) (side_rows false after)) + total w (group_join j (group_at c before)) ≡ total w (join_rows j (side_rows true before) (side_rows false before)) + total w (group_join j g)
   join-changed c g before after sb sa pb pa h w =
       let sums = h.sums (λ x. total w (group_join j x)) (no-join j w) in
@@ -70,15 +70,15 @@ module _ (j : Join) (kind : is_view_kind j.how ≡ true) where
       let law = row-more j right_built row kind own [] built w in
       omega (arith, after, before, left, right, same, law)
 
-  code-with : (right_built : Bool) (c : ℕ) (row : Row) (g : GroupRows) → IsPlaced j (c, g) → row_code j right_built row ≡ c → IsPlaced j (c, group_with right_built row g)
+  code-with : (right_built : Bool) (c : Code) (row : Row) (g : GroupRows) → IsPlaced j (c, g) → row_code j right_built row ≡ c → IsPlaced j (c, group_with right_built row g)
   code-with true c row g h e = record { left = all-append _ g.left (row ∷ []) h.left (e, tt); right = h.right }
   code-with false c row g h e = record { left = h.left; right = all-append _ g.right (row ∷ []) h.right (e, tt) }
 
-  pub placed-with : (right_built : Bool) (c : ℕ) (row : Row) (before after : GroupList) → ArePlaced j before → row_code j right_built row ≡ c → HasGroup c (group_with right_built row (group_at c before)) before after → ArePlaced j after
+  pub placed-with : (right_built : Bool) (c : Code) (row : Row) (before after : GroupList) → ArePlaced j before → row_code j right_built row ≡ c → HasGroup c (group_with right_built row (group_at c before)) before after → ArePlaced j after
   placed-with right_built c row before after p e h = h.placed j p (code-with right_built c row (group_at c before) (placed-at j c before p) e)
 
   -- what comes and goes tells the rows of the join after it
-  pub join-more : (right_built : Bool) (c : ℕ) (row : Row) (before after : GroupList) → AreSorted before → AreSorted after → ArePlaced j before → row_code j right_built row ≡ c →
+  pub join-more : (right_built : Bool) (c : Code) (row : Row) (before after : GroupList) → AreSorted before → AreSorted after → ArePlaced j before → row_code j right_built row ≡ c →
       HasGroup c (group_with right_built row (group_at c before)) before after → (w : Row → ℕ) →
       let own = group_rows right_built (group_at c before) in let built = group_rows (not right_built) (group_at c before) in
       let uncovers = uncovers_beside j right_built row (own ++ []) in
@@ -125,14 +125,14 @@ module _ (left right : List Field) (left_on right_on : List Expr) (options : Joi
   abbrev pub join : Join
   join = join_over left right (formulas_of left_on) (formulas_of right_on) options
 
-  abbrev pub beside : (right_built : Bool) → ℕ → GroupList → Row → Bool
+  abbrev pub beside : (right_built : Bool) → Code → GroupList → Row → Bool
   beside right_built c groups row = uncovers_beside join right_built row (group_rows right_built (group_at c groups) ++ [])
 
-  widths : (right_built : Bool) (c : ℕ) (row : Row) (groups : GroupList) (width : length row ≡ cond right_built (length left) (length right)) → HaveWidth (length left) (side_rows true groups) → FitWidths join right_built row (group_rows (not right_built) (group_at c groups))
+  widths : (right_built : Bool) (c : Code) (row : Row) (groups : GroupList) (width : length row ≡ cond right_built (length left) (length right)) → HaveWidth (length left) (side_rows true groups) → FitWidths join right_built row (group_rows (not right_built) (group_at c groups))
   widths true c row groups e h = e
   widths false c row groups e h = wide-at true (length left) c groups h
 
-  module _ (right_built : Bool) (c : ℕ) (row : Row) (schema : List Field) (before after : GroupList) (counts : Counts) (rows : ℕ) (delta : Delta)
+  module _ (right_built : Bool) (c : Code) (row : Row) (schema : List Field) (before after : GroupList) (counts : Counts) (rows : ℕ) (delta : Delta)
       (held : IsHeld (kept before) schema before counts) (sb : AreSorted before) (sa : AreSorted after) (code : row_code join right_built row ≡ c)
       (width : length row ≡ cond right_built (length left) (length right))
       (has : HasGroup c (group_with right_built row (group_at c before)) before after)
@@ -161,7 +161,7 @@ module _ (left right : List Field) (left_on right_on : List Expr) (options : Joi
         omega (arith, e, length-total (view_rows (kept after)), length-total delta.minus, length-total (view_rows (kept before)), length-total delta.plus)
 
 -- a side's own numbers after one row more
-module _ (left right : List Field) (left_on right_on : List Expr) (options : JoinOptions) (limit c : ℕ) (row : Row) (schema : List Field) (before after : GroupList) (counts : Counts) (own rows : ℕ) (delta : Delta) where
+module _ (left right : List Field) (left_on right_on : List Expr) (options : JoinOptions) (limit : ℕ) (c : Code) (row : Row) (schema : List Field) (before after : GroupList) (counts : Counts) (own rows : ℕ) (delta : Delta) where
   abbrev pub at : GroupList → Kept
   at groups = kept_in left right left_on right_on options limit groups
 

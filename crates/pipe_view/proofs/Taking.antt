@@ -15,7 +15,7 @@ use Rattle.pipe_plan.specs.declared.ir.JoinOptions.{JoinOptions}
 use Rattle.pipe_view.specs.Kept.{Kept, kept_join, view_rows, with_row, IsSameView, IsDelta, IsWithin, StandApart}
 use Rattle.pipe_view.specs.Sides.{is_view_kind}
 use Rattle.pipe_view.specs.Changes.{comes, goes, pairs_that_come, paddings_that_go, own_padding, met_by_row, rows_that_come, rows_that_go}
-use Rattle.pipe_view.specs.Codes.{GroupRows, GroupList, no_rows, group_rows, group_at, side_rows, group_without, row_code, HaveCode, IsPlaced, AreSorted, ArePlaced, HasGroup}
+use Rattle.pipe_view.specs.Codes.{GroupRows, GroupList, no_rows, group_rows, group_at, side_rows, group_without, row_code, HaveCode, IsPlaced, AreSorted, ArePlaced, HasGroup, Code}
 use Rattle.pipe_view.specs.Joined.{group_join}
 use Rattle.pipe_view.specs.Held.{kept_in, HaveWidth, AreCounted, IsHeld, counts_with}
 use Rattle.pipe_view.specs.declared.counts.Counts.{Counts}
@@ -55,7 +55,7 @@ other-without : (right_built : Bool) (i : ℕ) (g : GroupRows) → group_rows (n
 other-without true i g = refl
 other-without false i g = refl
 
-code-without : (j : Join) (right_built : Bool) (c i : ℕ) (row : Row) (g : GroupRows) → group_rows right_built g ≡ first_rows right_built i g ++ row ∷ last_rows right_built i g → IsPlaced j (c, g) → IsPlaced j (c, group_without right_built i g)
+code-without : (j : Join) (right_built : Bool) (c : Code) (i : ℕ) (row : Row) (g : GroupRows) → group_rows right_built g ≡ first_rows right_built i g ++ row ∷ last_rows right_built i g → IsPlaced j (c, g) → IsPlaced j (c, group_without right_built i g)
 code-without j true c i row g e h =
     let P : Row → Type 0 = λ r. row_code j true r ≡ c in
     let all = subst (AllByRecursion P) e h.left in
@@ -100,7 +100,7 @@ fewer-go j right_built u p built =
     let came : length (pairs_that_come j right_built u p met) ≡ length (filter (comes j right_built u p) met) = pairs in
     omega (arith, more, gone, came, both, parts, come)
 
-module _ (j : Join) (kind : is_view_kind j.how ≡ true) (right_built : Bool) (c i : ℕ) (row : Row) where
+module _ (j : Join) (kind : is_view_kind j.how ≡ true) (right_built : Bool) (c : Code) (i : ℕ) (row : Row) where
   -- a group about one of its rows
   abbrev pub IsAround : GroupRows → Type 0
   IsAround g = group_rows right_built g ≡ first_rows right_built i g ++ row ∷ last_rows right_built i g
@@ -182,7 +182,7 @@ pub record IsTaken (which : ViewSide) (row : Row) (schema : List Field) (before 
   pub same : IsSameView before (with_row which row after)
   pub tells : IsDelta (view_rows before) (view_rows after) delta
 
-module _ (left right : List Field) (left_on right_on : List Expr) (options : JoinOptions) (limit c i : ℕ) (row : Row) (schema : List Field) (before after : GroupList) (counts : Counts) (own rows : ℕ) (delta : Delta) where
+module _ (left right : List Field) (left_on right_on : List Expr) (options : JoinOptions) (limit : ℕ) (c : Code) (i : ℕ) (row : Row) (schema : List Field) (before after : GroupList) (counts : Counts) (own rows : ℕ) (delta : Delta) where
   abbrev pub at : GroupList → Kept
   at groups = kept_in left right left_on right_on options limit groups
 
@@ -307,7 +307,7 @@ module _ (left right : List Field) (left_on right_on : List Expr) (options : Joi
   whole = join_over left right (formulas_of left_on) (formulas_of right_on) options
 
   -- the rows of a group are among those of the view
-  pub group-within : (c : ℕ) → total (λ r. 1) (group_join whole (group_at c groups)) ≤ counts.rows
+  pub group-within : (c : Code) → total (λ r. 1) (group_join whole (group_at c groups)) ≤ counts.rows
   group-within c =
       let in_all = weight-in (λ x. total (λ r. 1) (group_join whole x)) (no-join whole (λ r. 1)) c groups in
       let all = join-sums whole held.kind (λ r. 1) groups sorted held.placed in
@@ -315,7 +315,7 @@ module _ (left right : List Field) (left_on right_on : List Expr) (options : Joi
       omega (arith, in_all, all, long, (held.counted).rows)
 
   -- the rows of a side of a group are among those of the side
-  pub side-within : (right_built : Bool) (c : ℕ) → length (group_rows right_built (group_at c groups)) ≤ length (side_rows right_built groups)
+  pub side-within : (right_built : Bool) (c : Code) → length (group_rows right_built (group_at c groups)) ≤ length (side_rows right_built groups)
   side-within right_built c =
       let in_all = weight-in (λ x. total (λ r. 1) (group_rows right_built x)) (none-weighs right_built (λ r. 1)) c groups in
       omega (arith, in_all, total-side right_built (λ r. 1) groups, length-total (group_rows right_built (group_at c groups)), length-total (side_rows right_built groups))

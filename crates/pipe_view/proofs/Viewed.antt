@@ -14,7 +14,7 @@ use Rattle.pipe_plan.specs.declared.ir.JoinOptions.{JoinOptions}
 use Rattle.pipe_view.specs.Kept.{Kept, kept_join, view_rows, fields_on, with_row, times_on, IsSameView, IsDelta, IsWithin, IsOver}
 use Rattle.pipe_view.specs.Sides.{right_is_built}
 use Rattle.pipe_view.specs.Changes.{rows_that_come, rows_that_go}
-use Rattle.pipe_view.specs.Codes.{GroupRows, GroupList, group_rows, group_at, side_rows, group_with, group_without, row_code, AreSorted, HasGroup}
+use Rattle.pipe_view.specs.Codes.{GroupRows, GroupList, group_rows, group_at, side_rows, group_with, group_without, row_code, AreSorted, HasGroup, Code}
 use Rattle.pipe_view.specs.Joined.{group_join}
 use Rattle.pipe_view.specs.Held.{kept_in, IsHeld, count_on, counts_with}
 use Rattle.pipe_view.specs.Edits.{is_first, own_at, built_at, insert_comes, insert_goes, GoesFromThere, IsInsertion, IsFull, NoInsertion, rest_at, remove_comes, remove_goes, StandsAt, GoesFromView, HasGroupRows, IsRemoval, NoRemoval}
@@ -72,16 +72,16 @@ module _ (left right : List Field) (left_on right_on : List Expr) (options : Joi
 
   -- ---- taking a row out
 
-  rest-suc : (right_built : Bool) (code place : ℕ) → rest_at right_built code place groups ≡ take place (own_at right_built code groups) ++ drop (suc place) (own_at right_built code groups)
+  rest-suc : (right_built : Bool) (code : Code) (place : ℕ) → rest_at right_built code place groups ≡ take place (own_at right_built code groups) ++ drop (suc place) (own_at right_built code groups)
   rest-suc right_built code place = (let e : place + 1 ≡ suc place = omega arith in ap (λ k. take place (own_at right_built code groups) ++ drop k (own_at right_built code groups)) e)
 
-  come-suc : (right_built : Bool) (row : Row) (code place : ℕ) → remove_goes whole right_built row code place groups ≡ rows_that_come whole right_built (is_first whole right_built row (take place (own_at right_built code groups) ++ drop (suc place) (own_at right_built code groups))) row (built_at right_built code groups)
+  come-suc : (right_built : Bool) (row : Row) (code : Code) (place : ℕ) → remove_goes whole right_built row code place groups ≡ rows_that_come whole right_built (is_first whole right_built row (take place (own_at right_built code groups) ++ drop (suc place) (own_at right_built code groups))) row (built_at right_built code groups)
   come-suc right_built row code place = ap (λ l. rows_that_come whole right_built (is_first whole right_built row l) row (built_at right_built code groups)) (rest-suc right_built code place)
 
-  go-suc : (right_built : Bool) (row : Row) (code place : ℕ) → remove_comes whole right_built row code place groups ≡ rows_that_go whole right_built (is_first whole right_built row (take place (own_at right_built code groups) ++ drop (suc place) (own_at right_built code groups))) row (built_at right_built code groups)
+  go-suc : (right_built : Bool) (row : Row) (code : Code) (place : ℕ) → remove_comes whole right_built row code place groups ≡ rows_that_go whole right_built (is_first whole right_built row (take place (own_at right_built code groups) ++ drop (suc place) (own_at right_built code groups))) row (built_at right_built code groups)
   go-suc right_built row code place = ap (λ l. rows_that_go whole right_built (is_first whole right_built row l) row (built_at right_built code groups)) (rest-suc right_built code place)
 
-  about : (right_built : Bool) (row : Row) (code place : ℕ) → StandsAt right_built row code place groups → IsAround whole held.kind right_built code place row (group_at code groups)
+  about : (right_built : Bool) (row : Row) (code : Code) (place : ℕ) → StandsAt right_built row code place groups → IsAround whole held.kind right_built code place row (group_at code groups)
   about right_built row code place h = around (own_at right_built code groups) place row [] h.inside h.found
 
   pub goes-from_view : (right_built : Bool) (row : Row) → GoesFromView whole right_built row groups counts.rows

@@ -4,12 +4,11 @@ use Rattle.std.specs.Prelude.{not, ◌&&◌, ◌||◌, unwrap_or, Option, Some, 
 use Rattle.std.specs.List.{flat_map, AllByRecursion, list_any}
 use Rattle.std.specs.Map.{keys_of, values_of, lookup}
 use Rattle.std.specs.BTreeMap.{is_at}
-use Rattle.std.specs.Ordering.{nat_cmp}
 use Rattle.std.proofs.lemmas.List.Sums.{sum_by-cons}
 use Rattle.std.proofs.lemmas.Bool.{eqb-true, eq-eqb}
 use Rattle.pipe_frame.specs.Rows.{Row, eq_row, times, Same}
 use Rattle.pipe_frame.proofs.Weights.{total, total-append, total-flat_map, SameBag, Same-from_bag}
-use Rattle.pipe_view.specs.Codes.{GroupRows, GroupList, no_rows, group_rows, group_at, rows_in, side_rows, with_group_rows, group_with, group_without, HasGroup}
+use Rattle.pipe_view.specs.Codes.{GroupRows, GroupList, no_rows, group_rows, group_at, rows_in, side_rows, with_group_rows, group_with, group_without, HasGroup, Code, code_cmp}
 use Rattle.pipe_view.specs.Held.{HaveWidth}
 use Rattle.pipe_view.proofs.Tests.{all-first, all-last}
 
@@ -39,11 +38,11 @@ wide-from_none width (row ∷ rows) h =
     elim [ true ↦ λ e z. (eqb-true (length row) width e, wide-from_none width rows (omega (arith, z))) | false ↦ λ e z. absurd (omega (arith, z)) ]
     in split (eqb (length row) width) refl h
 
-pub wide-at : (right_built : Bool) (width c : ℕ) (groups : GroupList) → HaveWidth width (side_rows right_built groups) → HaveWidth width (group_rows right_built (group_at c groups))
+pub wide-at : (right_built : Bool) (width : ℕ) (c : Code) (groups : GroupList) → HaveWidth width (side_rows right_built groups) → HaveWidth width (group_rows right_built (group_at c groups))
 wide-at true width c [] h = tt
 wide-at false width c [] h = tt
 wide-at right_built width c (e ∷ groups) h =
-    elim (is_at (nat_cmp c) e.0) as (λ t. HaveWidth width (group_rows right_built (unwrap_or (cond t (Some e.1) (lookup (is_at (nat_cmp c)) groups)) no_rows)))
+    elim (is_at (code_cmp c) e.0) as (λ t. HaveWidth width (group_rows right_built (unwrap_or (cond t (Some e.1) (lookup (is_at (code_cmp c)) groups)) no_rows)))
     [ true ↦ all-first _ (group_rows right_built e.1) (side_rows right_built groups) h | false ↦ wide-at right_built width c groups (all-last _ (group_rows right_built e.1) (side_rows right_built groups) h) ]
 
 pub length-total : {X : Type 0} (xs : List X) → length xs ≡ total (λ x. 1) xs
@@ -65,12 +64,12 @@ no-weight true w = refl
 no-weight false w = refl
 
 -- the edited side has the row more, and the other side is as it was
-pub own-sums : (right_built : Bool) (c : ℕ) (row : Row) (before after : GroupList) → HasGroup c (group_with right_built row (group_at c before)) before after → (w : Row → ℕ) → total w (side_rows right_built after) ≡ total w (side_rows right_built before) + w row
+pub own-sums : (right_built : Bool) (c : Code) (row : Row) (before after : GroupList) → HasGroup c (group_with right_built row (group_at c before)) before after → (w : Row → ℕ) → total w (side_rows right_built after) ≡ total w (side_rows right_built before) + w row
 own-sums right_built c row before after h w =
     let sums = h.sums (λ g. total w (group_rows right_built g)) (no-weight right_built w) in
     omega (arith, sums, total-side right_built w after, total-side right_built w before, weigh-with right_built w row (group_at c before))
 
-pub other-sums : (right_built : Bool) (c : ℕ) (row : Row) (before after : GroupList) → HasGroup c (group_with right_built row (group_at c before)) before after → (w : Row → ℕ) → total w (side_rows (not right_built) after) ≡ total w (side_rows (not right_built) before)
+pub other-sums : (right_built : Bool) (c : Code) (row : Row) (before after : GroupList) → HasGroup c (group_with right_built row (group_at c before)) before after → (w : Row → ℕ) → total w (side_rows (not right_built) after) ≡ total w (side_rows (not right_built) before)
 other-sums right_built c row before after h w =
     let sums = h.sums (λ g. total w (group_rows (not right_built) g)) (no-weight (not right_built) w) in
     omega (arith, sums, total-side (not right_built) w after, total-side (not right_built) w before, weigh-other right_built w row (group_at c before))
