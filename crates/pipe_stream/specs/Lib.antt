@@ -1,0 +1,4 @@
+pub mod Blocks
+pub mod Messages
+pub mod Hands
+pub mod Desk
