@@ -8,22 +8,8 @@ The program is proved; nothing in this package is.
 """
 
 from .csv_files import TypeWarning
-from .errors import (
-    BadWords,
-    JobTooLong,
-    LiskevarError,
-    NotAJob,
-    NotJson,
-    NotOffered,
-    OutOfMemory,
-    PlanError,
-    ReadFault,
-    Refused,
-    SqlError,
-    Stopped,
-    TooMany,
-    WriteFault,
-)
+from .errors import BadWords, JobTooLong, LiskevarError, NotAJob, NotJson, NotOffered, OutOfMemory, PlanError
+from .errors import ReadFault, Refused, SqlError, Stopped, TooMany, WriteFault
 from .expr import Expr, all_of, any_of, col, lit
 from .frame import LazyFrame, concat, from_pandas, from_rows, scan_csv
 from .kept import KeptJoin

@@ -4,8 +4,6 @@
     python3 -m liskevar sql "select .. from orders join payments using (part)" orders=orders.csv payments=payments.csv
 """
 
-from __future__ import annotations
-
 import argparse
 import itertools
 import os
@@ -15,16 +13,15 @@ import warnings
 from collections.abc import Callable, Sequence
 from typing import Any
 
-from . import nodes as plan
 from .csv_files import csv_lines, delimiter_of, read_csv, records
 from .drawing import picture
 from .errors import LiskevarError, Refused
 from .expr import col
 from .frame import LazyFrame, Order, frame_of
-from .job import Job, Settings, in_order, job_of, job_of_json
+from .job import Job, Settings, in_order, inputs_of, job_of, job_of_json
 from .kept import KeptJoin
 from .limits import BYTES_OF_A_JOB, MOST_ROWS, ROW_LIMIT
-from .nodes import Joining, Key, Node
+from .nodes import HOWS, Key, Node
 from .places import place_of_caller, told_as
 from .plan_json import JobText, nodes_under, read_json
 from .program import ask
@@ -54,9 +51,8 @@ def read_files(given: Any, paths: Sequence[str], read: set[str] | None = None) -
         found |= set(own)
         most = 4 * BYTES_OF_A_JOB if read is None else BYTES_OF_A_JOB
         wanted = None if read is None else read | set(own)
-        tables.append(
-            read_csv(path, delimiter=delimiter, names=names, types=own, read=wanted, empty_is_text=given.empty_is_text, most_bytes=most)
-        )
+        form: dict[str, Any] = {"delimiter": delimiter, "names": names, "empty_is_text": given.empty_is_text}
+        tables.append(read_csv(path, types=own, read=wanted, most_bytes=most, **form))
     for name in types:
         if name not in found:
             raise Refused(f"--types names {name!r}, which is no column of any file")
@@ -147,10 +143,11 @@ def do_join(given: Any) -> None:
         read = {*left_on, *right_on, *given.columns, *sorted_by}
         read |= {it.removesuffix(suffix) for it in read}
     tables = read_files(given, given.files, read)
-    joining = Joining(given.how, given.nulls_equal, given.coalesce or "JoinSpecific", suffix)
+    left, right = map(frame_of, tables)
+    coalesce = {None: None, "yes": True, "no": False}[given.coalesce]
     with told_as("--on" if given.on else f"--how {given.how}"):
-        scans = [plan.scan(it) for it in tables]
-        made = LazyFrame(plan.joined(scans[0], scans[1], [*map(col, left_on)], [*map(col, right_on)], joining))
+        keys = {"left_on": left_on, "right_on": right_on}
+        made = left.join(right, how=given.how, suffix=suffix, nulls_equal=given.nulls_equal, coalesce=coalesce, **keys)
     keys = sort_keys(given.sort, made.columns)
     with told_as("--sort"):
         made._check(col(it.name) for it in keys)
@@ -167,8 +164,7 @@ def do_plan(given: Any) -> None:
     root = len(values) - 1 if isinstance(values, list) else 0
     under = nodes_under(values, root, tables)
     job = job_of_json(values, under, tables, settings_of(given))
-    inputs = {n: [m for m, it in under.items() if it in under[n].inputs] for n in under}
-    answer(given, job, list(under[root].schema), under, inputs)
+    answer(given, job, list(under[root].schema), under, inputs_of(under))
 
 
 def do_reconcile(given: Any) -> None:
@@ -191,8 +187,9 @@ def do_edits(given: Any) -> None:
         put(kept.text())
         return
     edits, rows = kept.replay()
-    told = [f"edit {n}: {'no such row' if it.is_absent else f'{it.came} rows came, {it.went} went'}\n" for n, it in enumerate(edits, 1)]
-    put("".join(told) + f"{rows}\n")
+    for number, it in enumerate(edits, start=1):
+        put(f"edit {number}: {'no such row' if it.is_absent else f'{it.came} rows came, {it.went} went'}\n")
+    put(f"{rows}\n")
 
 
 def do_sql(given: Any) -> None:
@@ -219,9 +216,8 @@ def do_csv(given: Any) -> None:
 def do_draw(given: Any) -> None:
     """Draws the plan of a job."""
     job = JobText(given.job_file, read_text(given.job_file))
-    inputs = {n: [m for m, it in job.nodes.items() if it in job.nodes[n].inputs] for n in job.nodes}
     told = read_text(given.explain).splitlines() if given.explain else []
-    put(picture(job.nodes, inputs, told))
+    put(picture(job.nodes, inputs_of(job.nodes), told))
 
 
 def read_text(path: str) -> str:
@@ -291,10 +287,10 @@ def parser_of() -> argparse.ArgumentParser:
 
     made = command("join", do_join)
     made.add_argument("files", nargs=2, metavar="FILE", help="a CSV file, or a TSV file (by its ending .tsv)")
-    made.add_argument("--how", choices=plan.HOWS, default="inner")
+    made.add_argument("--how", choices=HOWS, default="inner")
     _keys(made)
     made.add_argument("--nulls-equal", action="store_true", help="null keys meet each other")
-    made.add_argument("--coalesce", choices=plan.COALESCES, help="whether each pair of keys becomes one column")
+    made.add_argument("--coalesce", choices=("yes", "no"), help="whether each pair of keys becomes one column; if not told, in inner and left joins")
     made.add_argument("--suffix", help="what a right column's name gets where the left side has it; _right if not told")
     made.add_argument("--columns", type=names_of, metavar="NAME,..", help="the columns of the answer, in this order")
     made.add_argument("--sort", action="append", default=[], metavar="NAME[:desc][,nulls_last]", help="a key of the answer's order; given again for the next key")

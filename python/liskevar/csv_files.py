@@ -4,8 +4,6 @@ Files are UTF-8 and as RFC 4180 says: a header, quotes round a field that holds 
 empty field is null, and `""` is the empty text.
 """
 
-from __future__ import annotations
-
 import csv
 import itertools
 import os
@@ -21,7 +19,6 @@ from .limits import BYTES_OF_A_JOB, too_long
 from .tables import Column, Table, told_types
 
 WHOLE = re.compile(r"0|-?[1-9][0-9]*")
-SCALED = re.compile(r"-?(?:0|[1-9][0-9]*)(?:\.[0-9]+)?")
 DECIMAL = re.compile(r"-?[0-9]*\.[0-9]+|-?[0-9]+\.")
 HEXADECIMAL = re.compile(r"(?:[0-9a-f]{2})*")
 OTHER_DATE = re.compile(r"[0-9]{1,2}[./-][0-9]{1,2}[./-](?:[0-9]{4}|[0-9]{2})|[0-9]{4}[./][0-9]{1,2}[./][0-9]{1,2}")
@@ -95,67 +92,71 @@ def records(path: str, delimiter: str, width: int | None = None) -> Iterator[tup
         raise Refused(f"{path}, line {reader.line_num}: {error}") from error
 
 
-def _spells(dtype: DType, field: str) -> bool:
-    """Whether a field spells a value of the type, in its one way; a decimal may have fewer digits than its type."""
-    if dtype.kind == "number":
-        if not (SCALED if dtype.scale else WHOLE).fullmatch(field):
-            return False
-        if len(field.partition(".")[2].rstrip("0")) > dtype.scale:
-            return False
-        least, greatest = RANGES[dtype.base]
-        return least <= int(_cell(DType("Int64", dtype.scale), field) or 0) <= greatest
-    if dtype.base == "Boolean":
-        return field in ("true", "false")
-    return dtype == STRING or HEXADECIMAL.fullmatch(field) is not None
-
-
-def _cell(dtype: DType, field: str) -> Cell:
-    if dtype.kind == "number":
-        whole, _, digits = field.partition(".")
-        number = int(whole + digits[: dtype.scale].ljust(dtype.scale, "0"))
-        return str(number) if dtype.base == "Int128" else number
-    return field == "true" if dtype.base == "Boolean" else field
-
-
 class Field(Column):
     """A column of a file: its fields, empty for null and EMPTY for two quotes."""
 
     def __init__(self, source: tuple[str, str], name: str, place: int, fields: list[str], empty_is_text: bool) -> None:
-        (self.path, self.delimiter), self.place, self.empty_is_text = source, place, empty_is_text
-        self.distinct = {it for it in fields if it and it != EMPTY}
-        has_empty = EMPTY in fields
-        hint = self._hint()
-        fits = lambda dtype: all(_spells(dtype, it) for it in self.distinct)  # noqa: E731
-        super().__init__(name, fields, Guess(fits, GUESSED, not self.distinct and not has_empty, hint), self._cells)
+        (self.path, self.delimiter), self.place, self.empty_is_text, self.name = source, place, empty_is_text, name
+        self.distinct = set(fields) - {"", EMPTY}
+        self._ends: dict[int, tuple[int, int] | None] = {}
+        is_empty = not self.distinct and EMPTY not in fields
+        super().__init__(name, fields, Guess(self.fits, GUESSED, is_empty, self._hint()), self._cells)
+
+    def _all(self, *patterns: re.Pattern[str]) -> bool:
+        """Whether there are fields, and each is of one of some patterns."""
+        return bool(self.distinct) and all(any(it.fullmatch(field) for it in patterns) for field in self.distinct)
+
+    def _number_ends(self, scale: int) -> tuple[int, int] | None:
+        """The least and the greatest number, where all fields spell numbers of so many digits, in their one way."""
+        if scale not in self._ends:
+            pattern = re.compile(rf"-?(?:0|[1-9][0-9]*)(?:\.[0-9]{{1,{scale}}}0*)?") if scale else WHOLE
+            are_numbers = all(map(pattern.fullmatch, self.distinct))
+            numbers = [_number(it, scale) for it in self.distinct] if are_numbers else []
+            self._ends[scale] = (min(numbers, default=0), max(numbers, default=0)) if are_numbers else None
+        return self._ends[scale]
+
+    def fits(self, dtype: DType) -> bool:
+        """Whether all fields spell values of the type."""
+        if dtype.kind == "number":
+            ends, (least, greatest) = self._number_ends(dtype.scale), RANGES[dtype.base]
+            return ends is not None and least <= ends[0] and ends[1] <= greatest
+        if dtype.base == "Boolean":
+            return self.distinct <= {"true", "false"}
+        return dtype == STRING or all(map(HEXADECIMAL.fullmatch, self.distinct))
+
+    def _looks(self) -> str:
+        """What its fields look like, where that is no type here."""
+        if self._all(DECIMAL, WHOLE) and not self._all(WHOLE):
+            return "decimals"
+        return "dates" if self._all(OTHER_DATE) else ""
 
     def _hint(self) -> str:
-        """What is to be told of texts that aren't what they look like."""
-        if not self.distinct or all(WHOLE.fullmatch(it) for it in self.distinct):
-            return ""
-        where = f"; {self.path} gives texts that look like"
-        if all(DECIMAL.fullmatch(it) or WHOLE.fullmatch(it) for it in self.distinct):
-            return f"{where} decimals: tell a type, as Cents"
-        if all(OTHER_DATE.fullmatch(it) for it in self.distinct):
-            return f"{where} dates: tell their form, as %d.%m.%Y"
-        return ""
+        """What a mismatch of types says of it."""
+        words = {"decimals": "tell a type, as Cents", "dates": "tell their form, as %d.%m.%Y"}
+        looks = self._looks()
+        if looks:
+            return f"; {self.path} gives texts that look like {looks}: {words[looks]}"
+        numbers = f"; --types {self.name}:String (types=) reads {self.name!r} of {self.path} as texts"
+        return numbers if self._all(WHOLE) else ""
 
     def warn(self) -> None:
         """Says that texts will sort and join as texts, where they look like something else."""
-        told = isinstance(self.type, Guess) and self.type.hint
-        if told and "decimals" in told:
-            how = f"types={{{self.name!r}: 'Cents'}} (--types {self.name}:Cents) reads them as numbers"
-            _warn(f"{self.path}: {self.name!r} looks like decimals, and is read as texts, which sort and join as texts; {how}")
-        elif told:
-            how = f"types={{{self.name!r}: '%d.%m.%Y'}} (--types {self.name}:%d.%m.%Y) reads them as 2026-11-29, which sort as dates"
-            _warn(f"{self.path}: {self.name!r} looks like dates, and is read as texts, which don't sort as dates; {how}")
+        ways = {"decimals": ("Cents", "as numbers"), "dates": ("%d.%m.%Y", "as 2026-11-29, which sorts as a date")}
+        looks = self._looks()
+        if looks:
+            form, what = ways[looks]
+            how = f"types={{{self.name!r}: {form!r}}} (--types {self.name}:{form}) reads them {what}"
+            words = f"{self.path}: {self.name!r} looks like {looks}, and is read as texts, which sort and join as texts; {how}"
+            warnings.warn(words, TypeWarning, stacklevel=2)
 
     def tell(self, text: str, dtype: DType | None) -> None:
         """The type is told: one of the program's, or the form of its dates, which become texts in the order of ISO."""
         if dtype is None:
             self.values = [it if not it or it == EMPTY else self._iso(it, text, row) for row, it in enumerate(self.values)]
             dtype = STRING
+            self.distinct = set(self.values) - {"", EMPTY}
         self.type = dtype
-        self._cells(dtype)
+        self._check(dtype)
 
     def _iso(self, field: str, form: str, row: int) -> str:
         try:
@@ -169,19 +170,34 @@ class Field(Column):
         line = next(itertools.islice(records(self.path, self.delimiter), row + 1, None))[0]
         return Refused(f"{self.path}, line {line}, column {self.place + 1} ({self.name}): {words}")
 
+    def _check(self, dtype: DType) -> None:
+        """Refused with the place of the first field that is none of the type."""
+        if self.fits(dtype):
+            return
+        source = self.path, self.delimiter
+        row = next(k for k, it in enumerate(self.values) if not Field(source, self.name, self.place, [it], False).fits(dtype))
+        raise self._refused(row, f"{self.values[row]!r} is no {dtype}")
+
     def _cells(self, dtype: DType) -> list[Cell]:
         """The cells; two quotes are the empty text in columns of texts, and else null."""
+        self._check(dtype)
         is_text = dtype.base in ("String", "Binary")
-        empty = "" if is_text else None
-        null = "" if is_text and self.empty_is_text else None
-        if dtype != STRING and not all(_spells(dtype, it) for it in self.distinct):
-            row = next(k for k, it in enumerate(self.values) if it and it != EMPTY and not _spells(dtype, it))
-            raise self._refused(row, f"{self.values[row]!r} is no {dtype}")
-        return [_cell(dtype, it) if it and it != EMPTY else (empty if it else null) for it in self.values]
+        cells: dict[str, Cell] = {it: _cell(dtype, it) for it in self.distinct}
+        cells |= {EMPTY: "" if is_text else None, "": "" if is_text and self.empty_is_text else None}
+        return list(map(cells.__getitem__, self.values))
 
 
-def _warn(words: str) -> None:
-    warnings.warn(words, TypeWarning, stacklevel=2)
+def _number(field: str, scale: int) -> int:
+    if not scale:
+        return int(field)
+    whole, _, digits = field.partition(".")
+    return int(whole + digits[:scale].ljust(scale, "0"))
+
+
+def _cell(dtype: DType, field: str) -> Cell:
+    if dtype.kind == "number":
+        return str(_number(field, dtype.scale)) if dtype.base == "Int128" else _number(field, dtype.scale)
+    return field == "true" if dtype.base == "Boolean" else field
 
 
 def read_csv(
@@ -258,6 +274,7 @@ def csv_lines(
         return
     values = [row[0] for row in rows]
     if None in values and "" in values:
-        raise Refused(f"{names[0]!r} has nulls and empty texts, which a CSV of one column can't tell apart; give --null WORD (null=)")
+        words = "has nulls and empty texts, which a CSV of one column can't tell apart; give --null WORD (null=)"
+        raise Refused(f"{names[0]!r} {words}")
     for value in values:
         yield field_of(value, delimiter, '""') + end

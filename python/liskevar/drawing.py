@@ -1,21 +1,14 @@
-"""Plans as pictures (SVG): nodes with their words, columns and types, and the branches that they are run in."""
-
-from __future__ import annotations
+"""Plans as pictures (SVG): nodes with their words, columns and types, and the pipelines that the program tells."""
 
 import html
 import textwrap
 from collections.abc import Mapping, Sequence
-from dataclasses import dataclass
 
 from .expr import written
 from .nodes import Node
 
 WIDEST = 46
 LINE, GLYPH, FONT = 17, 7.3, 'font-family="monospace" font-size="12"'
-WORDS = {
-    "DataFrameScan": "df", "Filter": "filter", "SimpleProjection": "fast_projection", "Select": "projection",
-    "HStack": "hstack", "Unpivot": "function", "Rename": "function", "Union": "union", "Join": "callback",
-}  # fmt: skip
 FILLS = {"DataFrameScan": "#eef5fb", "Join": "#fdf3e4", "Sort": "#eef7ee", "Union": "#fdf3e4"}
 Inputs = Mapping[int, Sequence[int]]
 Nodes = Mapping[int, Node]
@@ -87,55 +80,15 @@ def detail(node: Node) -> str:
             return ""
 
 
-# ---- branches: docs/BRANCHES.md has the rules
-
-
-@dataclass(frozen=True)
-class Branch:
-    """A branch: its nodes, its words, and whether it goes on."""
-
-    nodes: tuple[int, ...]
-    words: tuple[str, ...]
-    is_open: bool = True
-
-    def step(self, n: int | None, word: str, goes_on: bool) -> Branch:
-        """One more place, where it goes on."""
-        if not self.is_open:
-            return self
-        return Branch(self.nodes + (() if n is None else (n,)), (*self.words, word), goes_on)
-
-
-def branches(nodes: Nodes, inputs: Inputs) -> list[Branch]:
-    """The branches that a plan is run in."""
-    paths: dict[int, list[Branch]] = {}
-    for n in sorted(nodes):
-        node, kind = nodes[n], nodes[n].kind
-        below = [path for i in inputs[n] for path in paths[i]]
-        alone = kind == "Union" and all(nodes[i].kind == "DataFrameScan" for i in inputs[n])
-        if kind == "DataFrameScan" or alone:
-            paths[n] = [Branch((n, *(inputs[n] if alone else ())), (WORDS[kind],))]
-        elif kind == "Join":
-            built, probed = (paths[i] for i in (reversed(inputs[n]) if builds_right(node) else inputs[n]))
-            word = "cross_join_sink" if node.said["how"] == "cross" else "generic_join_build"
-            paths[n] = [it.step(n, word, False) for it in built] + [it.step(n, "callback", True) for it in probed]
-        elif kind == "Sort":
-            first = next((path for path in below if path.is_open), None)
-            paths[n] = [path.step(n, "sort", path is first) for path in below]
-        else:
-            paths[n] = [path.step(n, WORDS[kind], True) for path in below]
-    return [path.step(None, "ordered", False) for path in paths[max(nodes)]]
-
-
 # ---- the picture
 
 
-def _boxes(nodes: Nodes, ways: Sequence[Branch]) -> dict[int, list[str]]:
+def _boxes(nodes: Nodes) -> dict[int, list[str]]:
     """The lines of text of each node's box."""
     texts = {}
     for n, node in nodes.items():
-        on = ", ".join(str(k) for k, branch in enumerate(ways, start=1) if n in branch.nodes)
         columns = ", ".join(f"{name} {dtype}" for name, dtype in node.types().items())
-        texts[n] = [part for line in (f"{n}  {node.kind}", detail(node), columns, f"branch {on}") for part in wrapped(line)]
+        texts[n] = [part for line in (f"{n}  {node.kind}", detail(node), columns) for part in wrapped(line)]
     return texts
 
 
@@ -179,9 +132,8 @@ def _sizes(at: Mapping[int, tuple[int, int]], texts: Mapping[int, list[str]]) ->
 
 
 def picture(nodes: Nodes, inputs: Inputs, told: Sequence[str] = ()) -> str:
-    """The picture of a plan. `told` are the lines of the program's `explain`; else the branches are told by its rules."""
-    ways = branches(nodes, inputs)
-    texts, at = _boxes(nodes, ways), _places(nodes, inputs)
+    """The picture of a plan; below it the lines of the program's `explain`, where these are `told`."""
+    texts, at = _boxes(nodes), _places(nodes, inputs)
     widths, heights = _sizes(at, texts)
     lefts, tops = _offsets(widths, 45), _offsets(heights, 24)
     parts = []
@@ -194,11 +146,12 @@ def picture(nodes: Nodes, inputs: Inputs, told: Sequence[str] = ()) -> str:
         fill = FILLS.get(nodes[n].kind, "white")
         parts.append(f'<rect x="{x}" y="{y}" width="{width}" height="{height}" rx="4" fill="{fill}" stroke="#555"/>')
         parts += [_text_at(x + 9, y + 19 + LINE * k, line) for k, line in enumerate(lines)]
-    lines = [f"branch {k}: {line}" for k, line in enumerate(told or [" -> ".join(it.words) for it in ways], start=1)]
     below = tops[-1] + heights[-1] + 34
-    parts += [_text_at(20, below + 20 * k, printable(line)) for k, line in enumerate(lines)]
-    right = max(lefts[-1] + widths[-1] + 20, 40 + 8 * max(map(len, lines)))
-    arrow = '<defs><marker id="to" markerWidth="9" markerHeight="9" refX="8" refY="4" orient="auto"><path d="M0,0 L8,4 L0,8 z" fill="#555"/></marker></defs>'
-    size = f'width="{right}" height="{below + 20 * len(lines)}"'
+    lines = [printable(f"pipeline {k}: {line}") for k, line in enumerate(told, start=1)]
+    parts += [_text_at(20, below + 20 * k, line) for k, line in enumerate(lines)]
+    right = max(lefts[-1] + widths[-1] + 20, 40 + 8 * max(map(len, lines), default=0))
+    arrow = '<path d="M0,0 L8,4 L0,8 z" fill="#555"/>'
+    arrow = f'<defs><marker id="to" markerWidth="9" markerHeight="9" refX="8" refY="4" orient="auto">{arrow}</marker></defs>'
+    size = f'width="{right}" height="{below + 20 * len(lines) - 14}"'
     head = f'<svg xmlns="http://www.w3.org/2000/svg" {size}><rect width="100%" height="100%" fill="white"/>{arrow}'
     return "\n".join([head, *parts, "</svg>\n"])

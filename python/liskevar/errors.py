@@ -4,8 +4,6 @@ Each status of the program has a class of its own, so that a caller can tell the
 anything runs are the same classes: a plan's fault is a `PlanError` whether this package or the program told it.
 """
 
-from __future__ import annotations
-
 from .places import Place
 
 

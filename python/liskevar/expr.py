@@ -3,7 +3,7 @@
 from __future__ import annotations
 
 import datetime
-from collections.abc import Iterable, Sequence
+from collections.abc import Callable, Iterable, Sequence
 from decimal import Decimal
 from typing import Any
 
@@ -22,6 +22,11 @@ DEEPEST = 58
 
 class UnknownName(Exception):
     """A column that the frame hasn't."""
+
+
+def _operator(op: str, turned: bool = False) -> Callable[[Expr, Any], Expr]:
+    """The method of an operator; `turned` where the expression stands at its right."""
+    return lambda expr, other: expr._with(op, other, turned)
 
 
 class Expr:
@@ -54,26 +59,13 @@ class Expr:
             return Expr(op, sides)
         return Expr(op, [part for it in sides for part in (it.args if it.op == op and it.name is None else (it,))])
 
-    def __add__(self, other: Any) -> Expr:
-        return self._with("add", other)
-
-    def __radd__(self, other: Any) -> Expr:
-        return self._with("add", other, turned=True)
-
-    def __sub__(self, other: Any) -> Expr:
-        return self._with("sub", other)
-
-    def __rsub__(self, other: Any) -> Expr:
-        return self._with("sub", other, turned=True)
-
-    def __mul__(self, other: Any) -> Expr:
-        return self._with("mul", other)
-
-    def __rmul__(self, other: Any) -> Expr:
-        return self._with("mul", other, turned=True)
-
-    def __neg__(self) -> Expr:
-        return self._with("sub", 0, turned=True)
+    __add__, __radd__ = _operator("add"), _operator("add", turned=True)
+    __sub__, __rsub__ = _operator("sub"), _operator("sub", turned=True)
+    __mul__, __rmul__ = _operator("mul"), _operator("mul", turned=True)
+    __and__, __rand__ = _operator("and"), _operator("and", turned=True)
+    __or__, __ror__ = _operator("or"), _operator("or", turned=True)
+    __lt__, __le__ = _operator("lt"), _operator("lt_eq")
+    __gt__, __ge__ = _operator("gt"), _operator("gt_eq")
 
     def __eq__(self, other: object) -> Expr:  # type: ignore[override]
         return self._with("eq", other)
@@ -81,29 +73,8 @@ class Expr:
     def __ne__(self, other: object) -> Expr:  # type: ignore[override]
         return self._with("not_eq", other)
 
-    def __lt__(self, other: Any) -> Expr:
-        return self._with("lt", other)
-
-    def __le__(self, other: Any) -> Expr:
-        return self._with("lt_eq", other)
-
-    def __gt__(self, other: Any) -> Expr:
-        return self._with("gt", other)
-
-    def __ge__(self, other: Any) -> Expr:
-        return self._with("gt_eq", other)
-
-    def __and__(self, other: Any) -> Expr:
-        return self._with("and", other)
-
-    def __rand__(self, other: Any) -> Expr:
-        return self._with("and", other, turned=True)
-
-    def __or__(self, other: Any) -> Expr:
-        return self._with("or", other)
-
-    def __ror__(self, other: Any) -> Expr:
-        return self._with("or", other, turned=True)
+    def __neg__(self) -> Expr:
+        return self._with("sub", 0, turned=True)
 
     def __invert__(self) -> Expr:
         return Expr("not", (self,))
@@ -157,11 +128,6 @@ def any_of(parts: Sequence[Expr]) -> Expr:
 def all_of(parts: Sequence[Expr]) -> Expr:
     """True where all of them are."""
     return parts[0] if len(parts) == 1 else Expr("and", parts) if parts else lit(True)
-
-
-def conjuncts(expr: Expr) -> list[Expr]:
-    """The parts of a chain of `and`."""
-    return [part for it in expr.args for part in conjuncts(it)] if expr.op == "and" else [expr]
 
 
 def names_in(expr: Expr) -> list[str]:

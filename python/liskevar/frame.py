@@ -245,7 +245,7 @@ class LazyFrame:
         return ask("explain", job.text, job.nodes).decode().rstrip("\n")
 
     def show(self, pipelines: bool = False) -> Picture:
-        """A picture of the plan (SVG), with the program's pipelines below it where they are asked for."""
+        """A picture of the plan (SVG), with the pipelines that the program tells below it where they are asked for."""
         told = self.explain().splitlines() if pipelines else []
         nodes, inputs = in_order(self._ended())
         return Picture(picture(dict(enumerate(nodes)), dict(enumerate(inputs)), told))

@@ -71,6 +71,12 @@ def in_order(root: Node) -> tuple[list[Node], list[list[int]]]:
     return nodes, inputs
 
 
+def inputs_of(nodes: Mapping[int, Node]) -> dict[int, list[int]]:
+    """The numbers of each node's inputs, where no node stands twice."""
+    numbers = {id(node): n for n, node in nodes.items()}
+    return {n: [numbers[id(it)] for it in node.inputs] for n, node in nodes.items()}
+
+
 # ---- which columns are read
 
 
@@ -233,8 +239,7 @@ def types_of(node: Node) -> dict[str, DType]:
 def job_of_json(values: list[dict[str, Any]], under: Mapping[int, Node], tables: Sequence[Table], settings: Settings) -> Job:
     """The job of a plan that was written as JSON: its nodes as they stand, over the columns that they read."""
     settings.check()
-    inputs = {n: [m for m, it in under.items() if it in under[n].inputs] for n in under}
-    scans, frames, root = wanted_of_scans(under, inputs), Frames(), under[max(under)]
+    scans, frames, root = wanted_of_scans(under, inputs_of(under)), Frames(), under[max(under)]
     for table in tables:
         frames.names[table] = []
     for n, names in scans.items():

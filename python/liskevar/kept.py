@@ -1,7 +1,5 @@
 """A join that is kept while its tables change, by the program's `replay-edits`."""
 
-from __future__ import annotations
-
 import json
 from collections.abc import Sequence
 from dataclasses import dataclass
@@ -17,6 +15,8 @@ from .plan_json import read_json
 from .program import ask, want
 from .recon import _scanned, two_tables
 from .rows import Rows, rows_of_lines
+
+SIDES = ("left", "right")
 
 
 @dataclass(frozen=True)
@@ -45,8 +45,10 @@ class KeptJoin:
         self._settings = Settings(**numbers)
         self._edits: list[str] = []
 
-    def _edit(self, side: int, word: str, row: Sequence[Any] | dict[str, Any]) -> None:
-        schema = self._sides[side]._node.schema
+    def _edit(self, side: str, word: str, row: Sequence[Any] | dict[str, Any]) -> None:
+        if side not in SIDES:
+            raise Refused(f"{side!r} is neither left nor right")
+        schema = self._sides[SIDES.index(side)]._node.schema
         values = [row.get(it) for it in schema] if isinstance(row, dict) else list(row)
         if len(values) != len(schema) or (isinstance(row, dict) and not set(row) <= set(schema)):
             raise Refused(f"{row!r} is no row of the columns {', '.join(schema)}")
@@ -57,34 +59,26 @@ class KeptJoin:
                 cells.append(dtype.cell(value))
             except (ValueError, ArithmeticError):
                 raise Refused(f"column {name!r}: {value!r} is no {dtype}") from None
-        self._edits.append(compact([("left", "right")[side], word, cells]))
+        self._edits.append(compact([side, word, cells]))
 
     def add_line(self, where: str, line: str) -> None:
         """One edit as the program spells it: `["left","insert",[1,"a"]]`."""
         edit = read_json(where, line)
         is_edit = isinstance(edit, list) and len(edit) == 3 and isinstance(edit[2], list)
-        if not is_edit or edit[0] not in ("left", "right") or edit[1] not in ("insert", "remove"):
+        if not is_edit or edit[0] not in SIDES or edit[1] not in ("insert", "remove"):
             raise Refused(f'{where}: {line} is no edit as ["left","insert",[1,"a"]]')
         try:
-            self._edit(("left", "right").index(edit[0]), edit[1], edit[2])
+            self._edit(edit[0], edit[1], edit[2])
         except Refused as error:
             raise Refused(f"{where}: {error}") from None
 
-    def insert_left(self, row: Any) -> None:
-        """Puts a row into the left table."""
-        self._edit(0, "insert", row)
+    def insert(self, side: str, row: Any) -> None:
+        """Puts a row into the left or the right table."""
+        self._edit(side, "insert", row)
 
-    def insert_right(self, row: Any) -> None:
-        """Puts a row into the right table."""
-        self._edit(1, "insert", row)
-
-    def remove_left(self, row: Any) -> None:
-        """Takes a row out of the left table, if it is there."""
-        self._edit(0, "remove", row)
-
-    def remove_right(self, row: Any) -> None:
-        """Takes a row out of the right table, if it is there."""
-        self._edit(1, "remove", row)
+    def remove(self, side: str, row: Any) -> None:
+        """Takes a row out of the left or the right table, if it is there."""
+        self._edit(side, "remove", row)
 
     def text(self) -> bytes:
         """What `replay-edits` reads."""

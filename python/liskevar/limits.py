@@ -1,7 +1,5 @@
 """The program's limits, and what is said of a job that is past one."""
 
-from __future__ import annotations
-
 BYTES_OF_A_JOB = 33_554_432
 MOST_NODES = 4_096
 MOST_ROWS = 4_294_967_294

@@ -18,7 +18,6 @@ from .places import Place, place_of_caller
 from .tables import Table
 
 HOWS = ("inner", "left", "full", "cross", "semi", "anti")
-COALESCES = ("JoinSpecific", "CoalesceColumns", "KeepColumns")
 
 
 @dataclass(frozen=True, eq=False)

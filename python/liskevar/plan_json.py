@@ -1,7 +1,5 @@
 """Plans as JSON: arrays of nodes as docs/FORMATS.md has them, and whole jobs, read as nodes."""
 
-from __future__ import annotations
-
 import json
 from collections.abc import Sequence
 from typing import Any

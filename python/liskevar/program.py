@@ -1,7 +1,5 @@
 """Finding the proved program, building it where that is needed, and calling it."""
 
-from __future__ import annotations
-
 import functools
 import os
 import re

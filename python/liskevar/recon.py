@@ -1,7 +1,5 @@
 """Which rows of two tables have a partner in the other one."""
 
-from __future__ import annotations
-
 import json
 from collections.abc import Sequence
 from dataclasses import dataclass

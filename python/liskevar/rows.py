@@ -1,7 +1,5 @@
 """The rows that come of a run."""
 
-from __future__ import annotations
-
 import csv
 import io
 import json

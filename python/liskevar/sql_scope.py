@@ -201,6 +201,6 @@ class Sides:
             return self.left.over(node)
         scope = self._scope(node, joining, of_right)
         shared = {self.text.column(name).name: old for name, old in zip(names, of_left)}
-        last = len(self.left.parts)
-        kept = [Part(it.alias, {n: shared.get(n, o) if k >= last else o for n, o in it.columns.items()}) for k, it in enumerate(scope.parts)]
-        return Scope(node, kept, {**scope.shared, **shared})
+        count = len(self.left.parts)
+        right = [Part(it.alias, {n: shared.get(n, old) for n, old in it.columns.items()}) for it in scope.parts[count:]]
+        return Scope(node, scope.parts[:count] + right, {**scope.shared, **shared})

@@ -8,7 +8,7 @@ from decimal import Decimal
 from typing import Any
 
 from .errors import PlanError, Refused, SqlError
-from .expr import Expr, all_of, any_of, conjuncts, lit
+from .expr import Expr, all_of, any_of, lit
 from .places import Place, told_as
 
 BINARY = {
@@ -152,7 +152,8 @@ class Text:
             return lit(-inner.value) if inner.op == "lit" and inner.value is not None else -inner
         if self.has_query(node):
             raise self.refuse(node, "a subquery stands in FROM, or in WHERE as EXISTS or IN, and nowhere else")
-        raise self.refuse(node, f"{node.sql()} can't be taken: expressions have columns, values, + - *, comparisons, AND, OR, NOT")
+        words = "can't be taken: expressions have columns, values, + - *, comparisons, AND, OR, NOT"
+        raise self.refuse(node, f"{node.sql()} {words}")
 
     def _leaf(self, node: Any, find: Find) -> Expr | None:
         """A column or a value."""
@@ -172,7 +173,7 @@ class Text:
         """BETWEEN, IN of values, IS."""
         if node.key == "between":
             value, low, high = (self.expression(node.args[it], find) for it in ("this", "low", "high"))
-            return all_of([*conjuncts(value >= low), value <= high])
+            return all_of([value >= low, value <= high])
         if node.key == "in" and node.expressions and not self.has_query(node):
             value = self.expression(node.this, find)
             return any_of([value == self.expression(it, find) for it in node.expressions])

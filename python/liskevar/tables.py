@@ -1,7 +1,5 @@
 """Tables of values that a plan scans: of rows of Python, of pandas, of CSV files."""
 
-from __future__ import annotations
-
 import datetime
 import math
 from collections.abc import Callable, Iterable, Mapping, Sequence

@@ -206,16 +206,16 @@ def test_sorted_rows_without_their_key(orders):
 
 def test_a_kept_join_says_its_edits(orders):
     kept = lk.KeptJoin(orders, lk.from_rows([(1, "x")], ["order", "note"]), on="order", how="left", row_limit=9)
-    kept.insert_left((3, 4, None))
-    kept.remove_right({"order": 1, "note": "x"})
+    kept.insert("left", (3, 4, None))
+    kept.remove("right", {"order": 1, "note": "x"})
     told = json.loads(kept.text())
     assert told["edits"] == [["left", "insert", [3, 4, None]], ["right", "remove", [1, "x"]]]
     assert set(told) == {"version", "row_limit", "frames", "join", "edits"} and told["row_limit"] == 9
     assert (told["join"]["left"], told["join"]["right"], told["join"]["how"]) == (0, 1, "left")
     with pytest.raises(lk.Refused, match="no row of the columns order, note"):
-        kept.insert_right((1,))
+        kept.insert("right", (1,))
     with pytest.raises(lk.Refused, match="column 'order': 'x' is no Int64"):
-        kept.insert_right(("x", "x"))
+        kept.insert("right", ("x", "x"))
 
 
 @pytest.mark.program
@@ -223,8 +223,8 @@ def test_kept_joins_are_replayed(orders):
     if not lk.offers("replay-edits"):
         pytest.skip("the program has no replay-edits yet")
     kept = lk.KeptJoin(orders, lk.from_rows([(1, "x")], ["order", "note"]), on="order", how="left")
-    kept.insert_right((2, "y"))
-    kept.remove_left((9, 9, None))
+    kept.insert("right", (2, "y"))
+    kept.remove("left", (9, 9, None))
     edits, rows = kept.replay()
     assert [(it.came, it.went, it.is_absent) for it in edits] == [(1, 1, False), (0, 0, True)]
     assert list(rows) == [(1, 500, "Anna", "x"), (2, 250, None, "y")]
@@ -247,6 +247,17 @@ def test_pictures_are_xml_for_any_name():
     drawn = frame.filter(lk.col(names[0]) > 1).sort(names[:2], descending=[True, False], nulls_last=[False, True]).head(3).show()
     xml.dom.minidom.parseString(drawn.encode())
     assert "↓" in drawn and "↑ nulls last" in drawn and "3 rows from row 0" in drawn and "Int64" in drawn
+
+
+def test_the_picture_of_the_readme(examples, monkeypatch):
+    top = os.path.dirname(examples)
+    with open(os.path.join(top, "README.md"), encoding="utf-8") as file:
+        code = file.read().partition("```python\n")[2].partition("print(")[0]
+    monkeypatch.chdir(top)
+    made = {}
+    exec(code, made)
+    with open(os.path.join(top, "docs", "report.svg"), encoding="utf-8") as file:
+        assert made["report"].show() == file.read()
 
 
 # ---- the command line
