@@ -146,8 +146,8 @@ def do_join(given: Any) -> None:
     left, right = map(frame_of, tables)
     coalesce = {None: None, "yes": True, "no": False}[given.coalesce]
     with told_as("--on" if given.on else f"--how {given.how}"):
-        keys = {"left_on": left_on, "right_on": right_on}
-        made = left.join(right, how=given.how, suffix=suffix, nulls_equal=given.nulls_equal, coalesce=coalesce, **keys)
+        on = {"left_on": left_on, "right_on": right_on}
+        made = left.join(right, how=given.how, suffix=suffix, nulls_equal=given.nulls_equal, coalesce=coalesce, **on)
     keys = sort_keys(given.sort, made.columns)
     with told_as("--sort"):
         made._check(col(it.name) for it in keys)

@@ -30,9 +30,11 @@ class Text:
 
     def __init__(self, query: str) -> None:
         try:
-            from sqlglot import errors, parser, tokens
+            from sqlglot import __version__, errors, parser, tokens
         except ImportError as error:
             raise Refused("sqlglot isn't there: SQL wants it (Debian's python3-sqlglot)") from error
+        if not __version__.startswith("10."):
+            raise Refused(f"sqlglot {__version__} is there, and SQL wants version 10 (Debian's python3-sqlglot)")
         self.query = query
         self.marks: dict[int, tuple[Any, int]] = {}
         marks = self.marks
