@@ -15,6 +15,7 @@ from typing import Any
 
 from .csv_files import csv_lines, delimiter_of, read_csv, records
 from .drawing import picture
+from .dtypes import TYPES
 from .errors import LiskevarError, Refused
 from .expr import col
 from .frame import LazyFrame, Order, frame_of
@@ -37,8 +38,11 @@ DIRECTIONS = r"(?:asc|desc|nulls_last|nulls_first)"
 # ---- files
 
 
-def read_files(given: Any, paths: Sequence[str], read: set[str] | None = None) -> list[Table]:
-    """The tables of files, with the types and names that flags tell; Refused where one doesn't apply."""
+def read_files(given: Any, paths: Sequence[str], read: set[str] | None = None, most: int = BYTES_OF_A_JOB) -> list[Table]:
+    """The tables of files, with the types and names that flags tell; Refused where one doesn't apply.
+
+    `read` are the columns that are asked for, or None for all; where they have more than `most` bytes that is told.
+    """
     if len(given.names) > len(paths):
         raise Refused(f"--names is given {len(given.names)} times, for {len(paths)} files")
     types = dict(_type_of(it) for it in given.types)
@@ -49,7 +53,6 @@ def read_files(given: Any, paths: Sequence[str], read: set[str] | None = None) -
         header = names or header_of(path, delimiter)
         own = {name: it for name, it in types.items() if name in header}
         found |= set(own)
-        most = 4 * BYTES_OF_A_JOB if read is None else BYTES_OF_A_JOB
         wanted = None if read is None else read | set(own)
         form: dict[str, Any] = {"delimiter": delimiter, "names": names, "empty_is_text": given.empty_is_text}
         tables.append(read_csv(path, types=own, read=wanted, most_bytes=most, **form))
@@ -160,7 +163,7 @@ def do_join(given: Any) -> None:
 def do_plan(given: Any) -> None:
     """Runs a plan that is written as JSON."""
     values = read_json(given.plan, read_text(given.plan))
-    tables = read_files(given, given.files)
+    tables = read_files(given, given.files, most=4 * BYTES_OF_A_JOB)
     root = len(values) - 1 if isinstance(values, list) else 0
     under = nodes_under(values, root, tables)
     job = job_of_json(values, under, tables, settings_of(given))
@@ -202,7 +205,8 @@ def do_sql(given: Any) -> None:
     read = None if "*" in texts else {*texts, *map(str.lower, texts)}
     headers = {name for _, path in named for name in header_of(path, delimiter_of(path, given.tabs))}
     wanted = None if read is None else {it for it in headers if it in read or it.lower() in {t.lower() for t in read}}
-    tables = read_files(given, [path for _, path in named], None if given.names else wanted)
+    read = None if given.names else wanted
+    tables = read_files(given, [path for _, path in named], read, (4 if read is None else 1) * BYTES_OF_A_JOB)
     answer_frame(given, sql(given.query, {name: frame_of(it) for (name, _), it in zip(named, tables)}))
 
 
@@ -250,7 +254,7 @@ def whole(least: int, greatest: int) -> Callable[[str], int]:
 def _common(parser: argparse.ArgumentParser, outputs: bool) -> None:
     add = parser.add_argument
     add("--types", action="extend", default=[], type=names_of, metavar="NAME:TYPE,..",
-        help="types of columns: Int32, Int64, UInt32, UInt64, Int128, Boolean, String, Binary, Cents, Decimal1 to Decimal18, or the form of dates, as %%d.%%m.%%Y")  # fmt: skip
+        help=f"types of columns: {TYPES}, or the form of dates, as %%d.%%m.%%Y")  # fmt: skip
     add("--names", action="append", default=[], type=names_of, metavar="NAME,..",
         help="names in place of the header's; given again for the second file, and so on")  # fmt: skip
     add("--tabs", action="store_true", help="fields are separated by tabs in every file")
@@ -267,15 +271,28 @@ def _common(parser: argparse.ArgumentParser, outputs: bool) -> None:
         parser.add_argument("--null", default="", metavar="WORD", help="how CSV writes a null; an empty field if not told")
 
 
-def _keys(parser: argparse.ArgumentParser) -> None:
-    parser.add_argument("--on", type=names_of, metavar="NAME,..", help="the key's columns, of one name on both sides")
-    parser.add_argument("--left-on", type=names_of, metavar="NAME,..", help="the left side's key columns")
-    parser.add_argument("--right-on", type=names_of, metavar="NAME,..", help="the right side's key columns")
+def _keys(add: Callable[..., Any], hows: Sequence[str]) -> None:
+    add("files", nargs=2, metavar="FILE", help="a CSV file, or a TSV file (by its ending .tsv)")
+    add("--how", choices=hows, default="inner")
+    add("--on", type=names_of, metavar="NAME,..", help="the key's columns, of one name on both sides")
+    add("--left-on", type=names_of, metavar="NAME,..", help="the left side's key columns")
+    add("--right-on", type=names_of, metavar="NAME,..", help="the right side's key columns")
+
+
+def _join(add: Callable[..., Any]) -> None:
+    _keys(add, HOWS)
+    add("--nulls-equal", action="store_true", help="null keys meet each other")
+    add("--coalesce", choices=("yes", "no"), help="whether keys become one column; not told: in inner and left joins")
+    add("--suffix", help="what a right column's name gets where the left side has it; _right if not told")
+    add("--columns", type=names_of, metavar="NAME,..", help="the columns of the answer, in this order")
+    add("--sort", action="append", default=[], metavar="NAME[:desc][,nulls_last]",
+        help="a key of the answer's order; given again for the next key")  # fmt: skip
 
 
 def parser_of() -> argparse.ArgumentParser:
     """All commands and their flags."""
-    parser = argparse.ArgumentParser(prog="python3 -m liskevar", description=__doc__, formatter_class=argparse.RawDescriptionHelpFormatter)
+    raw = argparse.RawDescriptionHelpFormatter
+    parser = argparse.ArgumentParser(prog="python3 -m liskevar", description=__doc__, formatter_class=raw)
     commands = parser.add_subparsers(dest="command", required=True, metavar="COMMAND")
 
     def command(name: str, work: Callable[[Any], None], outputs: bool | None = True) -> argparse.ArgumentParser:
@@ -285,15 +302,7 @@ def parser_of() -> argparse.ArgumentParser:
             _common(made, outputs)
         return made
 
-    made = command("join", do_join)
-    made.add_argument("files", nargs=2, metavar="FILE", help="a CSV file, or a TSV file (by its ending .tsv)")
-    made.add_argument("--how", choices=HOWS, default="inner")
-    _keys(made)
-    made.add_argument("--nulls-equal", action="store_true", help="null keys meet each other")
-    made.add_argument("--coalesce", choices=("yes", "no"), help="whether each pair of keys becomes one column; if not told, in inner and left joins")
-    made.add_argument("--suffix", help="what a right column's name gets where the left side has it; _right if not told")
-    made.add_argument("--columns", type=names_of, metavar="NAME,..", help="the columns of the answer, in this order")
-    made.add_argument("--sort", action="append", default=[], metavar="NAME[:desc][,nulls_last]", help="a key of the answer's order; given again for the next key")
+    _join(command("join", do_join).add_argument)
     made = command("plan", do_plan)
     made.add_argument("plan", metavar="PLAN", help="a JSON array of nodes; the last is the root")
     made.add_argument("files", nargs="+", metavar="FILE", help="the files that are frame 0, 1, ..")
@@ -305,10 +314,8 @@ def parser_of() -> argparse.ArgumentParser:
     made.add_argument("--on", type=names_of, required=True, metavar="NAME,..", help="the key's columns")
     made.add_argument("--nulls-equal", action="store_true", help="null keys meet each other")
     made = command("edits", do_edits, outputs=False)
-    made.add_argument("files", nargs=2, metavar="FILE")
+    _keys(made.add_argument, ("inner", "left", "full"))
     made.add_argument("edits", metavar="EDITS", help='lines as ["left","insert",[1,"a"]]')
-    made.add_argument("--how", choices=("inner", "left", "full"), default="inner")
-    _keys(made)
     made = command("csv", do_csv, outputs=None)
     made.add_argument("--tabs", action="store_true", help="separate fields by tabs")
     made.add_argument("--crlf", action="store_true", help="end lines by carriage return and newline, as RFC 4180 has it")

@@ -11,6 +11,7 @@ import re
 import warnings
 from collections.abc import Iterable, Iterator, Mapping, Sequence
 from datetime import date, datetime
+from decimal import Decimal
 from typing import Any
 
 from .dtypes import GUESSED, RANGES, STRING, Cell, DType, Guess
@@ -18,7 +19,7 @@ from .errors import JobTooLong, Refused
 from .limits import BYTES_OF_A_JOB, too_long
 from .tables import Column, Table, told_types
 
-WHOLE = re.compile(r"0|-?[1-9][0-9]*")
+WHOLE = re.compile(r"0|-?[1-9][0-9]{0,39}")
 DECIMAL = re.compile(r"-?[0-9]*\.[0-9]+|-?[0-9]+\.")
 HEXADECIMAL = re.compile(r"(?:[0-9a-f]{2})*")
 OTHER_DATE = re.compile(r"[0-9]{1,2}[./-][0-9]{1,2}[./-](?:[0-9]{4}|[0-9]{2})|[0-9]{4}[./][0-9]{1,2}[./][0-9]{1,2}")
@@ -109,7 +110,7 @@ class Field(Column):
     def _number_ends(self, scale: int) -> tuple[int, int] | None:
         """The least and the greatest number, where all fields spell numbers of so many digits, in their one way."""
         if scale not in self._ends:
-            pattern = re.compile(rf"-?(?:0|[1-9][0-9]*)(?:\.[0-9]{{1,{scale}}}0*)?") if scale else WHOLE
+            pattern = re.compile(rf"-?(?:0|[1-9][0-9]{{0,39}})(?:\.[0-9]{{1,{scale}}}0*)?") if scale else WHOLE
             are_numbers = all(map(pattern.fullmatch, self.distinct))
             numbers = [_number(it, scale) for it in self.distinct] if are_numbers else []
             self._ends[scale] = (min(numbers, default=0), max(numbers, default=0)) if are_numbers else None
@@ -253,11 +254,20 @@ def _tell(path: str, columns: Sequence[Field], types: Mapping[str, str] | None) 
 # ---- rows as CSV
 
 
+def text_of(value: Any) -> str:
+    """A value as people write it."""
+    if isinstance(value, bool):
+        return str(value).lower()
+    if isinstance(value, Decimal):
+        return format(value, "f")
+    return value.hex() if isinstance(value, bytes) else str(value)
+
+
 def field_of(value: Any, delimiter: str, null: str) -> str:
     """One field, as RFC 4180 has it: null is an empty field, the empty text two quotes."""
     if value is None:
         return null
-    text = str(value).lower() if isinstance(value, bool) else value.hex() if isinstance(value, bytes) else str(value)
+    text = text_of(value)
     if text in ("", null) or any(it in text for it in (delimiter, '"', "\r", "\n")):
         return '"' + text.replace('"', '""') + '"'
     return text

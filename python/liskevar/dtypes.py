@@ -11,7 +11,7 @@ import datetime
 import re
 from collections.abc import Callable, Iterable
 from dataclasses import dataclass
-from decimal import Decimal
+from decimal import Context, Decimal
 from typing import Any, NamedTuple, Union
 
 # The least and the greatest value of each type of whole numbers.
@@ -25,6 +25,8 @@ RANGES = {
 BASES = (*RANGES, "Boolean", "String", "Binary")
 TYPES = f"{', '.join(BASES)}, Cents, Decimal1 to Decimal18"
 Cell = Union[None, bool, int, str]
+# Wide enough for each number here, so that none is rounded.
+EXACT = Context(prec=90)
 
 
 @dataclass(frozen=True)
@@ -51,20 +53,23 @@ class DType:
             return None
         if self.kind == "number":
             return self._number(value)
+        if self.base == "Boolean" and isinstance(value, bool):
+            return value
         if self.base == "Binary" and isinstance(value, (bytes, bytearray)):
             return bytes(value).hex()
         if self.base == "String" and isinstance(value, (datetime.date, datetime.time)):
             return value.isoformat()
-        if type(value).__name__ == ("bool" if self.base == "Boolean" else "str") and self.base != "Binary":
-            return value if self.base == "String" else bool(value)
+        if self.base == "String" and isinstance(value, str):
+            return value
         raise ValueError(f"{value!r} is no {self}")
 
     def _number(self, value: Any) -> Cell:
         if isinstance(value, bool) or not isinstance(value, (int, Decimal, float)):
             raise ValueError(f"{value!r} is no {self}")
-        scaled = Decimal(repr(value) if isinstance(value, float) else value).scaleb(self.scale) if self.scale else value
+        exact = Decimal(repr(value)) if isinstance(value, float) else value
+        scaled = exact * 10**self.scale if isinstance(exact, int) else EXACT.scaleb(exact, self.scale)
         least, greatest = RANGES[self.base]
-        if isinstance(scaled, float) or scaled != scaled.__floor__() or not least <= scaled <= greatest:
+        if (isinstance(value, float) and not self.scale) or scaled != int(scaled) or not least <= scaled <= greatest:
             raise ValueError(f"{value!r} is no {self}")
         return str(int(scaled)) if self.base == "Int128" else int(scaled)
 
@@ -82,7 +87,7 @@ class DType:
             return cell
         if self.base == "Binary":
             return bytes.fromhex(str(cell))
-        return Decimal(int(cell)).scaleb(-self.scale) if self.scale else int(cell)
+        return EXACT.scaleb(Decimal(int(cell)), -self.scale) if self.scale else int(cell)
 
 
 BOOLEAN, STRING, BINARY, INT64 = DType("Boolean"), DType("String"), DType("Binary"), DType("Int64")

@@ -111,6 +111,8 @@ def lit(value: Any, dtype: str | None = None) -> Expr:
     """A value. A number takes the type of what it is compared with; `dtype` tells another. An expression stays itself."""
     if isinstance(value, Expr):
         return value
+    # what numpy and pandas hand out
+    value = value.item() if hasattr(value, "item") else value
     if dtype is not None:
         told = dtype_of(dtype)
         told.cell(value)

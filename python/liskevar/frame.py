@@ -194,8 +194,6 @@ class LazyFrame:
 
     def slice(self, offset: int, length: int) -> LazyFrame:
         """`length` rows from the row `offset` on, counted from 0; without a sort, in the order of all columns."""
-        if offset < 0 or length < 0:
-            raise fail("BadSort", f"a slice of {length} rows from row {offset}")
         order = self._order or Order(tuple(map(Key, self.columns)), None)
         return LazyFrame(plan.ordered(self._node, order.keys, (offset, length)), self._order, self._hidden)
 

@@ -13,7 +13,7 @@ from typing import Any
 
 from . import expr
 from .dtypes import DType, Type
-from .errors import JobTooLong, TooMany
+from .errors import JobTooLong, Refused, TooMany
 from .expr import Expr, names_in
 from .limits import BYTES_OF_A_JOB, MOST_NODES, MOST_ROWS, ROW_LIMIT, too_long
 from .nodes import Joining, Node, fail, joined_names
@@ -152,6 +152,14 @@ def compact(value: Any) -> str:
     return json.dumps(value, ensure_ascii=False, separators=(",", ":"))
 
 
+def encoded(text: str) -> bytes:
+    """A text as UTF-8; Refused where half a character stands in it."""
+    try:
+        return text.encode()
+    except UnicodeEncodeError as error:
+        raise Refused(f"a text isn't Unicode: {text[max(0, error.start - 20) : error.end]!r}") from None
+
+
 def frame_text(table: Table, names: Sequence[str], resolve: Resolve) -> str:
     """Some columns of a table as the job spells a frame."""
     columns = []
@@ -184,7 +192,7 @@ class Frames:
         texts, size = [], 0
         for table, names in self.names.items():
             texts.append(frame_text(table, names, resolve))
-            size += len(texts[-1].encode())
+            size += len(encoded(texts[-1]))
             if size > BYTES_OF_A_JOB:
                 raise JobTooLong(too_long(f"{table.name}, columns {', '.join(names)}", size))
         return f"[{','.join(texts)}]"
@@ -224,10 +232,10 @@ def joined_text(frames: Frames, plan: list[dict[str, Any]], settings: Settings, 
     version = 2 if frames.is_wide(resolve) or '"type":"Int128"' in plan_text else 1
     numbers = f'"workers":{settings.workers},"chunk_rows":{settings.chunk_rows},"row_limit":{settings.row_limit}'
     text = f'{{"version":{version},{numbers},"frames":{frames.text(resolve)},"plan":{plan_text},"root":{len(plan) - 1}}}\n'
-    encoded = text.encode()
-    if len(encoded) > BYTES_OF_A_JOB:
-        raise JobTooLong(too_long("the job", len(encoded)))
-    return encoded
+    found = encoded(text)
+    if len(found) > BYTES_OF_A_JOB:
+        raise JobTooLong(too_long("the job", len(found)))
+    return found
 
 
 def types_of(node: Node) -> dict[str, DType]:

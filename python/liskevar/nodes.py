@@ -269,6 +269,8 @@ def ordered(below: Node, keys: Sequence[Key], slice: tuple[int, int] | None = No
     _known(names, below.schema)
     if len(set(names)) < len(names):
         raise fail("BadSort", "a key to sort by stands twice")
+    if slice is not None and not (0 <= slice[0] < 2**63 and 0 <= slice[1] < 2**64):
+        raise fail("BadSort", f"a slice of {slice[1]} rows from row {slice[0]}")
     said = {
         "by": names, "descending": [it.descending for it in keys], "nulls_last": [it.nulls_last for it in keys],
         "slice": None if slice is None else list(slice),

@@ -1,6 +1,7 @@
 """Finding the proved program, building it where that is needed, and calling it."""
 
 import functools
+import json
 import os
 import re
 import shutil
@@ -23,20 +24,26 @@ MEANINGS = {
 }
 
 
+@functools.lru_cache(maxsize=8)
+def _built(path: str) -> None:
+    """Calls the repository's script once, so that a build is seen: it tells on standard error how far it is."""
+    if subprocess.run([path, "--version"], stdout=subprocess.DEVNULL, check=False).returncode != 0:
+        raise NotOffered(f"{path} built no program; what it says stands above")
+
+
 def find_program() -> list[str]:
     """The words that call the program.
 
     Looked for in this order: the variable LISKEVAR_PROGRAM; `./liskevar` of the repository that this package lies in,
     which builds the program where it isn't there; `bin/liskevar` beside the package's folder; `liskevar` on PATH.
     """
-    told = os.environ.get("LISKEVAR_PROGRAM")
-    if told:
-        return [told]
     above = os.path.dirname(os.path.dirname(PACKAGE))
-    for path in (os.path.join(above, "liskevar"), os.path.join(above, "bin", "liskevar")):
-        if os.path.isfile(path) and os.access(path, os.X_OK):
-            return [path]
-    found = shutil.which("liskevar")
+    script, beside = os.path.join(above, "liskevar"), os.path.join(above, "bin", "liskevar")
+    told = os.environ.get("LISKEVAR_PROGRAM")
+    if not told and os.path.isfile(script):
+        _built(script)
+        told = script
+    found = told or (beside if os.path.isfile(beside) else shutil.which("liskevar"))
     if found is None:
         raise NotOffered("the program liskevar isn't found: install it, or set LISKEVAR_PROGRAM to its path")
     return [found]
@@ -57,20 +64,20 @@ def ask(command: str, text: bytes, nodes: Sequence[Node] = (), row_limit: int = 
 
 def refusal(status: int, told: str, nodes: Sequence[Node], row_limit: int) -> LiskevarError:
     """The exception of a status and of the line that came with it."""
-    line = next((it for it in told.splitlines() if it.startswith("error ")), told.strip().splitlines()[-1:] or [""])
-    found = LINE.fullmatch(line) if isinstance(line, str) else None
+    words = next((it for it in told.splitlines() if it.startswith("error ")), "")
+    found = LINE.fullmatch(words)
     kind = BY_STATUS.get(status, LiskevarError)
     if found is None:
         return kind(f"the program ended with status {status}: {told.strip()}")
     number = int(found["node"]) if found["node"] else None
     node = nodes[number] if number is not None and number < len(nodes) else None
-    words = line if isinstance(line, str) else ""
     if found["fault"] == "TooMany" and row_limit:
         what = f"the {node.kind}" if node else "a node"
         words += f": {what} has more than {row_limit:,} rows; set row_limit (--row-limit) higher if that is meant"
     elif found["fault"] in MEANINGS:
         words += f" ({MEANINGS[found['fault']]})"
-    return kind(words, fault=found["fault"], node=number, name=found["name"], place=node.place if node else None)
+    name = json.loads(found["name"]) if found["name"] else None
+    return kind(words, fault=found["fault"], node=number, name=name, place=node.place if node else None)
 
 
 @functools.lru_cache(maxsize=8)

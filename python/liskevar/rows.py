@@ -6,7 +6,7 @@ import json
 from collections.abc import Iterator, Mapping, Sequence
 from typing import Any
 
-from .csv_files import csv_lines
+from .csv_files import csv_lines, text_of
 from .dtypes import DType
 from .errors import Refused
 from .tables import Table, value_column
@@ -77,12 +77,7 @@ class Rows(Sequence[tuple[Any, ...]]):
 
 
 def _shown(value: Any) -> str:
-    if value is None:
-        return "null"
-    if isinstance(value, bytes):
-        return value.hex()
-    text = str(value).lower() if isinstance(value, bool) else str(value)
-    return "".join(it if it.isprintable() else repr(it)[1:-1] for it in text)
+    return "null" if value is None else "".join(it if it.isprintable() else repr(it)[1:-1] for it in text_of(value))
 
 
 def text_table(columns: Sequence[str], rows: Sequence[Sequence[Any]], numbers: set[str], most: int = 1_000) -> str:

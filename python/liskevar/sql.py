@@ -115,7 +115,7 @@ class Query:
             return None
         if clause.key not in ("limit", "offset") or not clause.expression or not clause.expression.name.isdigit():
             raise self.text.refuse(clause, "LIMIT and OFFSET take whole numbers")
-        return int(clause.expression.name)
+        return min(int(clause.expression.name[-40:]), MOST)
 
     # ---- selects
 

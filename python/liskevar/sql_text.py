@@ -164,7 +164,7 @@ class Text:
         if node.key == "literal":
             if node.is_string:
                 return lit(node.name)
-            if not node.name.replace(".", "", 1).isdigit():
+            if not node.name.replace(".", "", 1).isdigit() or len(node.name) > 60:
                 raise self.refuse(node, f"{node.name} is no number of exact digits")
             return lit(Decimal(node.name) if "." in node.name else int(node.name))
         if node.key == "boolean":

@@ -50,7 +50,10 @@ def _value_type(values: Sequence[Any]) -> Type:
     if kinds <= {str, datetime.date, datetime.datetime, datetime.time}:
         return STRING
     if kinds <= {int, Decimal}:
-        return DType("Int64", max(_digits(it) for it in values if it is not None))
+        digits = max(_digits(it) for it in values if it is not None)
+        if digits <= 18:
+            return DType("Int64", digits)
+        raise ValueError("more than 18 digits after the point")
     raise ValueError(f"values of {', '.join(sorted(it.__name__ for it in kinds))}; tell a type by types=")
 
 

@@ -27,6 +27,8 @@ def frames(job):
 
 def test_types_that_are_guessed(write):
     frame = lk.scan_csv(write("a.csv", "i,u,w,b,t,z,e\n-1,18446744073709551615,-170141183460469231731687303715884105728,true,007,,x\n2,1,1,false,1,,\n"))
+    long = lk.scan_csv(write("l.csv", f"a,b\n{'9' * 5000},{'1' * 39}\n"))
+    assert long.schema == {"a": "String", "b": "Int128"}
     assert frame.schema == {"i": "Int64", "u": "UInt64", "w": "Int128", "b": "Boolean", "t": "String", "z": "String", "e": "String"}
 
 

@@ -52,6 +52,7 @@ def line_of(text):
     (lambda o: o.sort("order", "order"), "BadSort", "twice"),
     (lambda o: o.sort("order", descending=[True, False]), "BadSort", "2 flags in descending, for 1 keys"),
     (lambda o: o.slice(-1, 2), "BadSort", "from row -1"),
+    (lambda o: o.head(2**64), "BadSort", "a slice of"),
     (lambda o: o.rename({"order": "amount"}), "DuplicateName", "'amount'"),
     (lambda o: o.unpivot([]), "BadNode", "unpivoted"),
     (lambda o: o.unpivot(["order"], index="amount", value_name="amount"), "DuplicateName", "'amount'"),
@@ -96,6 +97,12 @@ def test_the_node_of_a_status_is_told_by_its_line(orders):
     assert "more than 3 rows; set row_limit" in str(told) and "how=" in told.place.source
 
 
+def test_what_a_line_tells():
+    told = program.refusal(6, 'error 6: UnknownColumn at node 1: "x\\"y"\n', (), 0)
+    assert (told.fault, told.node, told.name) == ("UnknownColumn", 1, 'x"y') and "there is no such column" in str(told)
+    assert program.refusal(10, "liskevar: no toolchain\n", (), 0).words.endswith("status 10: liskevar: no toolchain")
+
+
 @pytest.mark.program
 def test_too_many_rows(orders):
     with pytest.raises(lk.TooMany) as told:
@@ -110,7 +117,7 @@ VALUES = {
     "Int32": [2**31 - 1, -(2**31), 0], "Int64": [2**63 - 1, -(2**63), 0], "UInt32": [2**32 - 1, 0], "UInt64": [2**64 - 1, 0],
     "Int128": [2**127 - 1, -(2**127), 0], "Boolean": [True, False], "Binary": [b"", b"\x00\xff"],
     "String": ["", 'said "no"', "two\nlines", "\x00\x1f", "é\U0001f600\u2028", "null"],
-    "Cents": [Decimal("-0.05"), Decimal("92233720368547758.07"), Decimal("1.00")],
+    "Decimal9": [Decimal("0E-9"), Decimal("1.000000001")], "Cents": [Decimal("-0.05"), Decimal("92233720368547758.07"), Decimal("1.00")],
 }  # fmt: skip
 
 
@@ -130,6 +137,7 @@ def test_decimals_are_turned_back():
     made = prices.with_columns(total=lk.col("price") * lk.col("n")).filter(lk.col("price") < 2.6).sort("n")
     assert made.schema == {"price": "Cents", "n": "Int64", "total": "Cents"}
     assert list(made.collect()) == [(Decimal("2.50"), 3, Decimal("7.50")), (Decimal("0.10"), 10, Decimal("1.00"))]
+    assert lk.from_rows([(Decimal("0E-9"), 1)], ["a", "b"]).collect().to_csv() == "a,b\n0.000000000,1\n"
     assert made.collect().to_csv() == "price,n,total\n2.50,3,7.50\n0.10,10,1.00\n"
 
 
@@ -140,6 +148,8 @@ def test_rows_of_python(orders):
     for rows, words in [([(1, "x"), (2,)], "row 1: 1 values for 2"), ([(1, 1.5)], "float"), ([(1, "x"), ("y", 2)], "int, str")]:
         with pytest.raises(lk.Refused, match=words):
             lk.from_rows(rows, ["a", "b"])
+    with pytest.raises(lk.Refused, match="isn't Unicode"):
+        lk.from_rows([("a\ud800",)], ["a"]).job()
     with pytest.raises(lk.Refused, match="types: rows has no column 'z'"):
         lk.from_rows([(1,)], ["a"], types={"z": "Int64"})
 
