@@ -16,7 +16,7 @@ use Rattle.pipe_lanes.specs.Counts.{AllWithin, after}
 use Rattle.pipe_lanes.specs.Lanes.{held_in, IsCalm, IsFit}
 use Rattle.pipe_lanes.specs.Claimed.{schema_in, IsOfSchema}
 use Rattle.pipe_lanes.specs.Dealt.{Dealt, steps_in, nodes_in, AreAlike, counts_in, DoTheSame, rows_of_all, HoldMore, counts_after, IsOverIn}
-use Rattle.pipe_rounds.specs.Rounds.{left_rows, schema_left, IsLeftOf, AllDealt, IsFew, Rounds}
+use Rattle.pipe_rounds.specs.Rounds.{left_rows, schema_left, IsLeftOf, AllDealt, IsFew, Rounds, RoundsBefore}
 use Rattle.pipe_lanes.proofs.Rows.{same-refl, owed-less, owed-empty}
 use Rattle.pipe_lanes.proofs.Tallies.{tally-rest, tally-none, over-rest}
 use Rattle.pipe_lanes.proofs.Asked.{counts-next, counts-none}
@@ -158,6 +158,15 @@ module _ {O S K B C : Type 0} (op : OperatorWords O S) (sink : SinkWords K B C) 
       pub going-rounds : (index' : ℕ) (left' : List Left) → index' ≡ index → left' ≡ left → Rounds op sink s context index₀ index' left₀ left' asked₀ asked lanes₀ lanes
       going-rounds index' left' i l =
           subst (λ (k : ℕ). Rounds op sink s context index₀ k left₀ left' asked₀ asked lanes₀ lanes) (sym i) (subst (λ (ls : List Left). Rounds op sink s context index₀ index left₀ ls asked₀ asked lanes₀ lanes) (sym l) going.rounds)
+
+      pub going-stopped : (asked' : ℕ) → asked' ≡ counted 1 asked → RoundsBefore op sink s context index₀ left₀ asked₀ asked' lanes₀ lanes
+      going-stopped asked' a = record {
+        left = left;
+        batches = going.rounds.batches;
+        gave = going.rounds.gave;
+        dealt = going.rounds.dealt;
+        asked = counts-next (length going.rounds.batches) 1 asked₀ asked asked' going.rounds.asked a;
+      }
 
       -- the source is out
       module _ (spent : batch (4 * context.workers) context.chunk_rows index 0 left ≡ []) (some : 0 < context.workers) where

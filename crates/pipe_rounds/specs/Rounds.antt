@@ -66,6 +66,17 @@ pub record Rounds {O S K B C : Type 0} (op : OperatorWords O S) (sink : SinkWord
   pub asked : Counts (length batches) asked_old asked_new
   pub few : AllByRecursion (IsFew (4 * context.workers * context.chunk_rows)) batches
 
+-- what a source gave before the stop check said yes went to the lanes round by round, one question before each, and
+-- one question more was asked
+pub record RoundsBefore {O S K B C : Type 0} (op : OperatorWords O S) (sink : SinkWords K B C) (s : S)
+    (context : PExecutionContext) (index_old : ℕ) (left_old : List Left)
+    (asked_old asked_new : ℕ) (old new : List (Lane O K)) : Type 0 where
+  pub left : List Left
+  pub batches : List (List Morsel)
+  pub gave : Gave (4 * context.workers) context.chunk_rows index_old batches left_old left
+  pub dealt : AllDealt op sink s context.row_limit batches old new
+  pub asked : Counts (length batches + 1) asked_old asked_new
+
 -- what a refusal says, where there is one
 abbrev pub TellsHalt : {O K : Type 0} → List (Lane O K) → Halt → Type 0
 TellsHalt lanes Stopped = Unit {0}

@@ -7,7 +7,7 @@ ghost use Rattle.pipe_lanes.specs.Counts.{AllWithin};
 ghost use Rattle.pipe_lanes.specs.Dealt.{AreAlike, DoTheSame, HoldMore, counts_in, counts_after};
 ghost use Rattle.pipe_lanes.specs.Halts.{stops};
 ghost use Rattle.pipe_lanes.specs.Lanes.{IsFit, IsCalm, held_in};
-ghost use Rattle.pipe_rounds.specs.Rounds.{left_rows, schema_left, IsLeftOf, Rounds};
+ghost use Rattle.pipe_rounds.specs.Rounds.{left_rows, schema_left, IsLeftOf, Rounds, RoundsBefore};
 ghost use Rattle.pipe_rounds.specs.Rounds.{TellsHalt, IsHaltOver};
 
 use pipe_frame::{Gate, StopCheck};
@@ -63,6 +63,9 @@ pub fn run_rounds<R: Threads + Sync, O: Operator, K: Sink, I: Source, C: StopChe
         (schema_left (I.left source.old)) (left_rows (I.left source.old)) lanes.old) }
     ensures yes { Counts (stops result) (C.yes stop.old) (C.yes stop.new) }
     ensures last { result ≡ Err Halt.Stopped → C.last_answer stop.new ≡ true }
+    ensures stopped { result ≡ Err Halt.Stopped → RoundsBefore O.Operator K.Sink shared.now
+        context.now next_index.old (I.left source.old) (C.asked stop.old) (C.asked stop.new)
+        lanes.old lanes.new }
 {
     loop {
         let Ok(answer) = source.get_batches(alloc, context, next_index) else {

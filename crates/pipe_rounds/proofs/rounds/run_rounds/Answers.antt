@@ -3,7 +3,7 @@ use Rattle.pipe_lanes.specs.declared.stage.Refusal.TheVariants.{Memory}
 use Rattle.pipe_lanes.proofs.Asked.{counts-next}
 use Rattle.pipe_lanes.proofs.RoundSteps.{tells-none}
 use Rattle.pipe_rounds.proofs.Batches.{got, index-got, got-none, index-same}
-use Rattle.pipe_rounds.proofs.Going.{going-init, ready-schema, ready-alike, ready-fit, left-alike, left-fit, given-few, given-smaller, going-over, going-same, going-next, going-rounds, going-room, none-left-after, going-held, going-tally}
+use Rattle.pipe_rounds.proofs.Going.{going-init, ready-schema, ready-alike, ready-fit, left-alike, left-fit, given-few, given-smaller, going-over, going-same, going-next, going-rounds, going-room, going-stopped, none-left-after, going-held, going-tally}
 use Rattle.pipe_rounds.proofs.rounds.run_rounds.Goals as goal
 
 pub loop-answer-init : goal.loop-answer-init
@@ -97,6 +97,10 @@ returns-then-should_stop-clause-yes g c =
 pub returns-then-should_stop-clause-last : goal.returns-then-should_stop-clause-last
 returns-then-should_stop-clause-last g c =
     λ e. c.should_stop.ensures.last ∙ c.if-should_stop.true
+
+pub returns-then-should_stop-clause-stopped : goal.returns-then-should_stop-clause-stopped
+returns-then-should_stop-clause-stopped g c =
+    λ e. going-stopped _ _ _ _ _ _ _ _ _ _ _ _ _ _ c.loop-answer.invariant _ c.should_stop.ensures.asked
 
 pub round-requires-clause-some : goal.round-requires-clause-some
 round-requires-clause-some g c = λ κs lives.
