@@ -139,12 +139,13 @@ def wanted_of_scans(nodes: Mapping[int, Node], inputs: Mapping[int, Sequence[int
 # ---- the text
 
 
-def _spelled(value: Any, root: Node) -> Any:
+def said_by(value: Any, root: Node) -> Any:
+    """What a node is told, with its expressions as the job spells them."""
     if isinstance(value, Expr):
         return expr.spelled(value, root.typing)
     if isinstance(value, list):
-        return [_spelled(it, root) for it in value]
-    return {name: _spelled(it, root) for name, it in value.items()} if isinstance(value, dict) else value
+        return [said_by(it, root) for it in value]
+    return {name: said_by(it, root) for name, it in value.items()} if isinstance(value, dict) else value
 
 
 def compact(value: Any) -> str:
@@ -158,6 +159,14 @@ def encoded(text: str) -> bytes:
         return text.encode()
     except UnicodeEncodeError as error:
         raise Refused(f"a text isn't Unicode: {text[max(0, error.start - 20) : error.end]!r}") from None
+
+
+def sized(text: str, what: str) -> bytes:
+    """What the program is to read; JobTooLong where it is too much."""
+    found = encoded(text)
+    if len(found) > BYTES_OF_A_JOB:
+        raise JobTooLong(too_long(what, len(found)))
+    return found
 
 
 def frame_text(table: Table, names: Sequence[str], resolve: Resolve) -> str:
@@ -212,7 +221,7 @@ def _node_text(node: Node, inputs: Sequence[int], frames: Frames, columns: list[
         named: dict[str, Any] = {"left": inputs[0], "right": inputs[1]}
     else:
         named = {"inputs": list(inputs)} if node.kind == "Union" else {"input": inputs[0]}
-    return {"node": node.kind, **named, **_spelled(node.said, root)}
+    return {"node": node.kind, **named, **said_by(node.said, root)}
 
 
 def job_of(root: Node, settings: Settings) -> Job:
@@ -232,10 +241,7 @@ def joined_text(frames: Frames, plan: list[dict[str, Any]], settings: Settings, 
     version = 2 if frames.is_wide(resolve) or '"type":"Int128"' in plan_text else 1
     numbers = f'"workers":{settings.workers},"chunk_rows":{settings.chunk_rows},"row_limit":{settings.row_limit}'
     text = f'{{"version":{version},{numbers},"frames":{frames.text(resolve)},"plan":{plan_text},"root":{len(plan) - 1}}}\n'
-    found = encoded(text)
-    if len(found) > BYTES_OF_A_JOB:
-        raise JobTooLong(too_long("the job", len(found)))
-    return found
+    return sized(text, "the job")
 
 
 def types_of(node: Node) -> dict[str, DType]:

@@ -6,11 +6,9 @@ from dataclasses import dataclass
 from typing import Any
 
 from . import nodes as plan
-from .errors import JobTooLong, Refused
-from .frame import LazyFrame, _keys
-from .job import Settings, _spelled, compact, types_of
-from .limits import BYTES_OF_A_JOB, too_long
-from .nodes import Joining, Node
+from .errors import Refused
+from .frame import LazyFrame
+from .job import Settings, compact, said_by, sized, types_of
 from .plan_json import read_json
 from .program import ask, want
 from .recon import _scanned, two_tables
@@ -37,11 +35,9 @@ class KeptJoin:
     ) -> None:  # fmt: skip
         if how not in ("inner", "left", "full"):
             raise plan.fail("BadJoin", f"a join that is kept is inner, left or full, and not {how}")
-        words = {None: "JoinSpecific", True: "CoalesceColumns", False: "KeepColumns"}[coalesce]
         self._sides = [_scanned(left), _scanned(right)]
-        keys = [_keys(on if on is not None else it) for it in (left_on, right_on)]
-        joining = Joining(how, nulls_equal, words, suffix)
-        self._join: Node = plan.joined(self._sides[0]._node, self._sides[1]._node, keys[0], keys[1], joining)
+        told: Any = {"suffix": suffix, "nulls_equal": nulls_equal, "coalesce": coalesce}
+        self._join = self._sides[0].join(self._sides[1], on, how, left_on=left_on, right_on=right_on, **told)._node
         self._settings = Settings(**numbers)
         self._edits: list[str] = []
 
@@ -85,11 +81,9 @@ class KeptJoin:
         names = [list(it._node.schema) for it in self._sides]
         resolve = self._join.typing.resolve
         said = two_tables(self._sides[0]._node, self._sides[1]._node, names, resolve, self._settings)
-        node = {"node": "Join", "left": 0, "right": 1, **_spelled(self._join.said, self._join)}
-        text = f'{{{said},"join":{compact(node)},"edits":[{",".join(self._edits)}]}}\n'.encode()
-        if len(text) > BYTES_OF_A_JOB:
-            raise JobTooLong(too_long("the tables and their edits", len(text)))
-        return text
+        node = {"node": "Join", "left": 0, "right": 1, **said_by(self._join.said, self._join)}
+        text = f'{{{said},"join":{compact(node)},"edits":[{",".join(self._edits)}]}}\n'
+        return sized(text, "the tables and their edits")
 
     def replay(self) -> tuple[list[Edit], Rows]:
         """What each edit changed, and the rows after all of them."""

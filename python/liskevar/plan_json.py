@@ -5,7 +5,7 @@ from collections.abc import Sequence
 from typing import Any
 
 from . import nodes as plan
-from .dtypes import INT64, DType, dtype_of
+from .dtypes import dtype_of
 from .errors import LiskevarError, PlanError, Refused
 from .expr import read
 from .nodes import Joining, Key, Node
@@ -23,13 +23,9 @@ def read_json(path: str, text: str) -> Any:
         raise Refused(f"{path}: nested too deep") from error
 
 
-def _flags(flags: Sequence[bool], count: int) -> list[bool]:
-    return list(flags) * count if len(flags) == 1 else list(flags)
-
-
 def _sort(value: dict[str, Any], below: Node) -> Node:
     by, count = value["by"], len(value["by"])
-    flags = [_flags(value[it], count) for it in ("descending", "nulls_last")]
+    flags = [value[it] * count if len(value[it]) == 1 else value[it] for it in ("descending", "nulls_last")]
     if any(len(it) != count for it in flags):
         raise plan.fail("BadSort", "as many flags as keys are wanted, or one")
     keys = [Key(*it) for it in zip(by, *flags)]
@@ -130,9 +126,5 @@ class JobText:
 
 
 def _table(name: str, frame: Any) -> Table:
-    columns = [Column(it["name"], it["values"], _plain_type(it["type"]), lambda dtype: []) for it in frame["columns"]]
+    columns = [Column(it["name"], it["values"], dtype_of(it["type"]), lambda dtype: []) for it in frame["columns"]]
     return Table(name, columns, len(columns[0].values))
-
-
-def _plain_type(text: str) -> DType:
-    return dtype_of(text) if isinstance(text, str) else INT64

@@ -13,15 +13,6 @@ from .nodes import Node
 from .places import PACKAGE
 
 LINE = re.compile(r"error (?P<status>\d+): (?P<fault>[^:\n]*?)(?: at node (?P<node>\d+))?(?:: (?P<name>\".*\"))?\n?", re.DOTALL)
-MEANINGS = {
-    "BadNode": "a node reads what it can't",
-    "UnknownColumn": "there is no such column",
-    "DuplicateName": "a column's name would stand twice",
-    "TypeMismatch": "types don't fit",
-    "BadJoin": "the keys of a join don't fit",
-    "BadSort": "the keys or the slice of a sort don't fit",
-    "BadConfig": "workers, chunk_rows or row_limit is out of its range",
-}
 
 
 @functools.lru_cache(maxsize=8)
@@ -74,8 +65,6 @@ def refusal(status: int, told: str, nodes: Sequence[Node], row_limit: int) -> Li
     if found["fault"] == "TooMany" and row_limit:
         what = f"the {node.kind}" if node else "a node"
         words += f": {what} has more than {row_limit:,} rows; set row_limit (--row-limit) higher if that is meant"
-    elif found["fault"] in MEANINGS:
-        words += f" ({MEANINGS[found['fault']]})"
     name = json.loads(found["name"]) if found["name"] else None
     return kind(words, fault=found["fault"], node=number, name=name, place=node.place if node else None)
 

@@ -5,11 +5,9 @@ from collections.abc import Sequence
 from dataclasses import dataclass
 
 from . import nodes as plan
-from .errors import JobTooLong
 from .expr import col
 from .frame import LazyFrame, frame_of, output_types
-from .job import Frames, Resolve, Settings, compact
-from .limits import BYTES_OF_A_JOB, too_long
+from .job import Frames, Resolve, Settings, compact, sized
 from .nodes import Joining, Node
 from .program import ask
 from .rows import Rows
@@ -77,10 +75,8 @@ def reconciliation_text(
     joint = plan.joined(left._node, right._node, keys, keys, Joining("full", nulls_equal, "KeepColumns", " of the right"))
     said = two_tables(left._node, right._node, (on, on), joint.typing.resolve, settings)
     numbers = f'"workers":{settings.workers},"chunk_rows":{settings.chunk_rows}'
-    text = f'{{{numbers},{said},"on":{compact(list(on))},"join_nulls":{compact(nulls_equal)}}}\n'.encode()
-    if len(text) > BYTES_OF_A_JOB:
-        raise JobTooLong(too_long("the two tables", len(text)))
-    return text
+    text = f'{{{numbers},{said},"on":{compact(list(on))},"join_nulls":{compact(nulls_equal)}}}\n'
+    return sized(text, "the two tables")
 
 
 def reconcile(

@@ -30,12 +30,12 @@ class Text:
 
     def __init__(self, query: str) -> None:
         try:
-            from sqlglot import __version__, errors, parser, tokens
+            from sqlglot import __version__, errors, exp, parser, tokens
         except ImportError as error:
             raise Refused("sqlglot isn't there: SQL wants it (Debian's python3-sqlglot)") from error
         if not __version__.startswith("10."):
             raise Refused(f"sqlglot {__version__} is there, and SQL wants version 10 (Debian's python3-sqlglot)")
-        self.query = query
+        self.query, self.exp = query, exp
         self.marks: dict[int, tuple[Any, int]] = {}
         marks = self.marks
 
@@ -109,21 +109,15 @@ class Text:
 
     def column(self, name: str) -> Any:
         """A column of that name, at no place."""
-        from sqlglot import exp
-
-        return exp.column(name)
+        return self.exp.column(name)
 
     def columns(self, node: Any) -> list[Any]:
         """The columns in a part, from left to right."""
-        from sqlglot import exp
-
-        return sorted(node.find_all(exp.Column), key=self._index)
+        return sorted(node.find_all(self.exp.Column), key=self._index)
 
     def has_query(self, node: Any) -> bool:
         """Whether a part has a query in it."""
-        from sqlglot import exp
-
-        return node.find(exp.Subqueryable) is not None
+        return node.find(self.exp.Subqueryable) is not None
 
     def with_of(self, node: Any) -> list[Any]:
         """The queries that WITH names before a query."""
