@@ -12,7 +12,7 @@ from . import nodes as plan
 from .expr import Expr, all_of, col, lit
 from .frame import HIDDEN, LazyFrame, Order, concat
 from .nodes import Key
-from .sql_scope import Part, Scope, Sides
+from .sql_scope import BLURRED, Part, Scope, Sides
 from .sql_text import Text, bare
 
 MOST = 2**63 - 1
@@ -36,8 +36,7 @@ class Query:
     def query(self, node: Any) -> LazyFrame:
         """A select, or selects that UNION ALL puts together."""
         node = bare(node)
-        for cte in self.text.with_of(node):
-            self.tables = {**self.tables, cte.alias: self.query(cte.this)}
+        self._name_ctes(node)
         if node.key == "union":
             return self._union(node)
         if node.key == "subquery":
@@ -45,6 +44,15 @@ class Query:
         if node.key != "select":
             raise self.text.refuse(node, f"{node.key.upper()} can't be taken; a query is a SELECT", node.key.upper())
         return self._select(node)
+
+    def _name_ctes(self, node: Any) -> None:
+        """The queries of WITH become tables."""
+        for cte in self.text.with_of(node):
+            self.tables = {**self.tables, cte.alias: self._inside().query(cte.this)}
+
+    def _inside(self) -> Query:
+        """A query inside this one, which sees its tables."""
+        return Query(self.text, self.tables)
 
     def _refuse_rest(self, node: Any) -> None:
         for name, value in node.args.items():
@@ -161,10 +169,12 @@ class Query:
             if not parts:
                 raise self.text.refuse(it, f"no table {it.table}; there are {', '.join(part.alias for part in scope.parts)}")
             shared = scope.shared if it.key == "star" else {}
-            pairs = [(name, col(shared.get(name, real))) for part in parts for name, real in part.columns.items()]
-            return list({name: (name, it) for name, it in pairs if name in shared}.values()) + [
-                (name, it) for name, it in pairs if name not in shared
-            ]
+            pairs = [(name, shared.get(name, real)) for part in parts for name, real in part.columns.items()]
+            blurred = [name for name, real in pairs if real is None]
+            if blurred:
+                raise self.text.refuse(it, BLURRED.format(blurred[0]))
+            once = dict(pair for pair in pairs if pair[0] in shared)
+            return [(name, col(str(real))) for name, real in [*once.items(), *(it for it in pairs if it[0] not in shared)]]
         value = it.this if it.key == "alias" else it
         name = it.alias if it.key == "alias" else value.name if value.key == "column" else value.sql()
         expr = self.text.expression(value, scope.find)
@@ -177,7 +187,7 @@ class Query:
     def _source(self, node: Any) -> Scope:
         """A table, or a subquery."""
         if node.key == "subquery":
-            frame = Query(self.text, self.tables).query(node.this)
+            frame = self._inside().query(node.this)
         elif node.key == "table" and node.this.key == "identifier" and not node.args.get("db"):
             name = self.text.match(node, list(self.tables), node.name)
             if name is None:
@@ -274,30 +284,30 @@ class Query:
             key = self.text.expression(test.this, scope.find)
             if is_anti:
                 return self._none_in(sides, key, value, test)
-            sides.pairs.append((key, value))
+            sides.tie(key, value)
         with self.text.at(test):
             return sides.joined("anti" if is_anti else "semi")
 
     def _inner(self, scope: Scope, inner: Any, test: Any) -> tuple[Sides, Expr]:
         """A subquery's rows beside those outside, with what ties them, and the value that it selects."""
-        for cte in self.text.with_of(inner):
-            self.tables = {**self.tables, cte.alias: Query(self.text, self.tables).query(cte.this)}
-        has_more = inner.key != "select" or any(inner.args.get(it) for it in ("limit", "offset"))
-        if has_more:
-            frame = Query(self.text, self.tables).query(inner)
+        inside = self._inside()
+        inside._name_ctes(inner)
+        if inner.key != "select" or any(inner.args.get(it) for it in ("limit", "offset")):
+            frame = inside.query(inner)
             source = Scope(frame._seen(), [Part("subquery", {it: it for it in frame.columns})])
             where: list[Any] = []
             values = [col(it) for it in frame.columns]
         else:
             self._refuse_rest(inner)
-            source, where = self._from(inner)
+            self.text.refuse_aggregates(inner)
+            source, where = inside._from(inner)
             values = [] if test.key == "exists" else [it for e in inner.expressions for _, it in self._output(e, source)]
         if test.key == "in" and len(values) != 1:
             raise self.text.refuse(inner, f"IN wants a subquery of one column, and this one has {len(values)}")
         sides = Sides(self.text, scope, source, is_nested=True)
         for it in where:
             if self.text.has_query(it):
-                sides.right = self._tested(sides.right, it)
+                sides.right = inside._tested(sides.right, it)
             else:
                 sides.add(it)
         return sides, values[0] if values else lit(True)
@@ -307,7 +317,7 @@ class Query:
         nulls, every = sides.copy(), sides.copy()
         nulls.of_right.append(value.is_null())
         every.pairs.append((key.is_null(), lit(True)))
-        sides.pairs.append((key, value))
+        sides.tie(key, value)
         scope = sides.left
         with self.text.at(test):
             for it in (sides, nulls, every):

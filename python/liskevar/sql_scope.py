@@ -12,14 +12,18 @@ from .nodes import Joining, Node, joined_names
 from .sql_text import Text, bare
 
 EQUALITIES = ("eq", "nullsafeeq", "is")
+BLURRED = "after USING in an outer join {!r} isn't one table's column; write it without its table"
 
 
 @dataclass(frozen=True)
 class Part:
-    """A table of a scope: its name, and its columns with their names in the plan."""
+    """A table of a scope: its name, and its columns with their names in the plan.
+
+    None stands for a column that USING made one with another table's: in an outer join it isn't the table's own any more.
+    """
 
     alias: str
-    columns: dict[str, str]
+    columns: dict[str, str | None]
 
 
 @dataclass(frozen=True)
@@ -34,13 +38,13 @@ class Scope:
         """The same tables over another node with their columns."""
         return Scope(node, self.parts, self.shared)
 
-    def places(self, column: Any, text: Text) -> list[tuple[str, str]]:
+    def places(self, column: Any, text: Text) -> list[tuple[str, str | None]]:
         """The columns that a name may mean: as written, and in the plan."""
         if not column.table:
             name = text.match(column, list(self.shared), column.name)
             if name is not None:
                 return [(name, self.shared[name])]
-        found = []
+        found: list[tuple[str, str | None]] = []
         for part in self.parts:
             if not column.table or text.match(column, [part.alias], column.table) is not None:
                 name = text.match(column, list(part.columns), column.name)
@@ -55,6 +59,8 @@ class Scope:
         if not found:
             names = [f"{part.alias}.{it}" for part in self.parts for it in part.columns]
             raise text.refuse(column, f"no column {column.sql()}; there are {', '.join(names)}")
+        if found[0][1] is None:
+            raise text.refuse(column, BLURRED.format(column.name))
         return col(found[0][1])
 
     def written(self, column: Any, text: Text) -> str:
@@ -75,7 +81,7 @@ class Sides:
         self.of_left: list[Expr] = []
         self.of_right: list[Expr] = []
         self.mixed: list[Any] = []
-        self.null_safe: list[bool] = []
+        self.null_safe: list[Any] = []
 
     def copy(self) -> Sides:
         """The same sides and conditions, to be added to."""
@@ -83,6 +89,11 @@ class Sides:
         for name in ("pairs", "of_left", "of_right", "mixed", "null_safe"):
             setattr(made, name, list(getattr(self, name)))
         return made
+
+    def tie(self, left: Expr, right: Expr, null_safe: Any = None) -> None:
+        """A pair of keys; nulls meet where a condition that is null-safe is told."""
+        self.pairs.append((left, right))
+        self.null_safe.append(null_safe)
 
     def _side(self, column: Any) -> int:
         """0 where a column is the left side's, 1 where it is the right one's."""
@@ -121,8 +132,7 @@ class Sides:
         ends = [self._sides(it) for it in parts]
         if ends in ([{0}, {1}], [{1}, {0}]):
             left, right = (self._expr(it) for it in (parts if ends[0] == {0} else reversed(parts)))
-            self.pairs.append((left, right))
-            self.null_safe.append(node.key != "eq")
+            self.tie(left, right, node if node.key != "eq" else None)
         else:
             self.mixed.append(node)
 
@@ -130,8 +140,9 @@ class Sides:
         if self.mixed and how != "inner":
             words = f"a condition of both tables that is no equality can't be taken in {how.upper()} joins and subqueries"
             raise self.text.refuse(self.mixed[0], words)
-        if any(self.null_safe) and not all(self.null_safe):
-            raise self.text.refuse(self.text.tree, "equalities that take nulls stand beside others that don't")
+        safe = [it for it in self.null_safe if it is not None]
+        if safe and len(safe) < len(self.null_safe):
+            raise self.text.refuse(safe[0], "an equality that takes nulls stands beside others that don't")
 
     def _suffix(self, left: Sequence[str], right: Sequence[str], alias: str, using: Sequence[str] = ()) -> str:
         """What is put behind right names that the left side has, so that no name stands twice."""
@@ -162,7 +173,7 @@ class Sides:
         if not pairs:
             how, pairs = ("cross", []) if how == "inner" else (how, [(lit(True), lit(True))])
         suffix = self._suffix(list(left.schema), list(right.schema), self.right.parts[0].alias)
-        joining = Joining(how, any(self.null_safe), "KeepColumns", suffix)
+        joining = Joining(how, any(it is not None for it in self.null_safe), "KeepColumns", suffix)
         node = plan.joined(left, right, [a for a, _ in pairs], [b for _, b in pairs], joining)
         scope = self._scope(node, joining, [])
         if self.mixed:
@@ -180,7 +191,7 @@ class Sides:
         if joining.how in ("semi", "anti"):
             return self.left.over(node)
         names = joined_names(self.left.node.schema, self.right.node.schema, dropped, joining)
-        parts = [Part(it.alias, {name: names.get(old, old) for name, old in it.columns.items()}) for it in self.right.parts]
+        parts = [Part(it.alias, {name: old and names.get(old, old) for name, old in it.columns.items()}) for it in self.right.parts]
         shared = {name: names.get(old, old) for name, old in self.right.shared.items()}
         return Scope(node, self.left.parts + parts, {**shared, **self.left.shared})
 
@@ -201,6 +212,8 @@ class Sides:
             return self.left.over(node)
         scope = self._scope(node, joining, of_right)
         shared = {self.text.column(name).name: old for name, old in zip(names, of_left)}
-        count = len(self.left.parts)
-        right = [Part(it.alias, {n: shared.get(n, old) for n, old in it.columns.items()}) for it in scope.parts[count:]]
-        return Scope(node, scope.parts[:count] + right, {**scope.shared, **shared})
+        count, parts = len(self.left.parts), []
+        for place, it in enumerate(scope.parts):
+            own = {name: shared[name] if how == "inner" or (how == "left" and place < count) else None for name in shared}
+            parts.append(Part(it.alias, {name: own.get(name, old) for name, old in it.columns.items()}))
+        return Scope(node, parts, {**scope.shared, **shared})

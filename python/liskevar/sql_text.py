@@ -119,6 +119,13 @@ class Text:
         """Whether a part has a query in it."""
         return node.find(self.exp.Subqueryable) is not None
 
+    def refuse_aggregates(self, node: Any) -> None:
+        """SqlError where a select has a function over all rows: it would have a row even of none."""
+        for it in node.expressions:
+            found = it.find(self.exp.AggFunc)
+            if found is not None:
+                raise self.refuse(found, f"{found.sql()} can't be taken: the program doesn't group")
+
     def with_of(self, node: Any) -> list[Any]:
         """The queries that WITH names before a query."""
         found = node.args.get("with")

@@ -43,10 +43,15 @@ TUTORIAL = [
     ("select id, amount from orders union all select id, amount from old_orders order by amount desc nulls last, id limit 4 offset 1", [(14, 7), (12, 5), (13, 3), (10, 2)]),
     ("select t.name, t.amount from (select c.name, o.amount from customers c join orders o on c.id = o.customer_id where o.amount > 1) t order by t.amount", [("Anna", 2), ("Chloé", 3), ("Bob", 5)]),
     ("with late as (select order_id from returns where reason = 'late') select o.id from orders o join late on late.order_id = o.id", [(12,)]),
+    ("select a.id, b.id from customers a join customers b on a.referrer is not distinct from b.referrer where a.id < b.id order by 1", [(2, 3)]),
     ("select o.id, r.reason from orders o left join returns r on r.order_id = o.id and r.reason is not null and o.paid = 1 order by o.id", [(10, "broken"), (11, None), (12, "late"), (13, None), (14, None), (15, None)]),
     ("select name from customers where (city is null or city <> 'Graz') and id in (2, 3, 4) order by id desc limit 1", [("Chloé",)]),
     ("select * from old_orders join customers using (id) order by amount", [(2, 4, None, "Bob", "Wien", 1), (1, 1, 9, "Anna", "Graz", None)]),
     ("select p.name from products p natural join old_orders", []),
+    ("select id, c.name, o.amount from customers c left join old_orders o using (id) order by id", [(1, "Anna", 9), (2, "Bob", None), (3, "Chloé", None), (4, "Díaz, Eva", None), (5, "", None)]),
+    ("select id, customer_id from old_orders full join products using (id) order by id;", [(1, 1), (2, 4), (100, None), (101, None), (102, None), (103, None)]),
+    ("select id, c.id from old_orders o right join customers c using (id) order by id desc limit 2", [(5, 5), (4, 4)]),
+    ("select c.id from customers c where exists (with o as (select customer_id from orders) select 1 from o where o.customer_id = c.id) order by 1", [(1,), (2,), (3,)]),
 ]  # fmt: skip
 
 REFUSED = [
@@ -66,6 +71,10 @@ REFUSED = [
     ("select name from customers order by 3", 1, 37, "no column 3"),
     ("select a.id from orders a, orders a", 1, 28, "twice"),
     ("select name from customers limit -1", 1, 34, ""),
+    ("select id from customers c where exists (select count(*) from orders o where o.customer_id = c.id)", 1, 49, "COUNT(*)"),
+    ("select c.id from customers c full join old_orders o using (id)", 1, 8, "without its table"),
+    ("select o.* from customers c left join old_orders o using (id)", 1, 8, "without its table"),
+    ("select c.id from customers c where c.city in (select d.city from customers d where d.referrer is not distinct from c.referrer)", 1, 84, "takes nulls"),
     ("insert into customers values (1)", 1, 1, ""),
 ]  # fmt: skip
 
