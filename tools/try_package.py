@@ -1,9 +1,9 @@
 #!/usr/bin/env python3
 """Runs the tests of the Python package (python/tests), and its type check and linter where they are there.
 
-    tools/try_package.py [WORDS FOR PYTEST]
+    tools/try_package.py [--install] [WORDS FOR PYTEST]
 
-The interpreter is the one of python3 on PATH, this one and the distribution's that has most of pytest, sqlglot and
+With --install what is missing is installed first, where apt-get is there and may do so. The interpreter is the one of python3 on PATH, this one and the distribution's that has most of pytest, sqlglot and
 pandas; what it lacks is told, since tests that want it are left out. The program has to be built already; tests that
 want it are left out too where it isn't.
 """
@@ -31,6 +31,17 @@ def interpreter(wanted=WANTED):
     return best, lacks(best)
 
 
+def install():
+    """Installs the distribution's packages that the tests want."""
+    packages = [*(f"python3-{it}" for it in WANTED), "mypy"]
+    quiet = {"stdin": subprocess.DEVNULL, "stdout": subprocess.DEVNULL, "stderr": subprocess.DEVNULL}
+    environment = {**os.environ, "DEBIAN_FRONTEND": "noninteractive"}
+    for words in (["update"], ["install", "-y", "--no-install-recommends", *packages]):
+        if subprocess.run(["apt-get", *words], env=environment, **quiet).returncode != 0:
+            print(f"package: apt-get {words[0]} failed; what is missing is left out")
+            return
+
+
 def checked(name, *words):
     """Runs a check where its command is there."""
     if shutil.which(name) is None:
@@ -42,15 +53,20 @@ def checked(name, *words):
 
 
 def main():
+    words = sys.argv[1:]
+    if words[:1] == ["--install"]:
+        words = words[1:]
+        if (interpreter()[1] or shutil.which("mypy") is None) and shutil.which("apt-get") and os.geteuid() == 0:
+            install()
     python, lacking = interpreter()
     for name in lacking:
         print(f"package: left out: {python} has no {name} (Debian: python3-{name})")
     status = checked("mypy", "--strict", "--cache-dir", os.devnull, "liskevar") | checked("ruff", "check", "liskevar")
     if "pytest" in lacking:
         return status
-    words = [python, "-m", "pytest", "-q", "-rs", "-p", "no:cacheprovider", *sys.argv[1:]]
+    call = [python, "-m", "pytest", "-q", "-rs", "-p", "no:cacheprovider", *words]
     environment = {**os.environ, "PYTHONDONTWRITEBYTECODE": "1"}
-    return status | subprocess.run(words, cwd=os.path.join(TOP, "python"), env=environment, timeout=SECONDS).returncode
+    return status | subprocess.run(call, cwd=os.path.join(TOP, "python"), env=environment, timeout=SECONDS).returncode
 
 
 if __name__ == "__main__":

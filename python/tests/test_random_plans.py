@@ -4,6 +4,7 @@ LISKEVAR_PLANS says how many plans, LISKEVAR_SEED from which state on.
 """
 
 import collections
+import itertools
 import os
 import random
 
@@ -213,12 +214,7 @@ def test_rows_of_random_plans(part):
         if made.rare(0.5):
             keys = made.keys(columns)
             frame, model, panda = sorted_by(frame, keys), model.sort(keys), None
-            # an order stands through what comes after it
-            names = made.chance.sample(list(columns), made.chance.randint(1, len(columns)))
-            given = frame.select(names).collect(workers=made.chance.choice([1, 4]), chunk_rows=made.chance.choice([1, 2, 1000]))
-            wanted = model.select([(it, ("col", it)) for it in names], made.dtype).rows
-            assert counted(given) == counted(wanted), seed
-            assert order_of(given, names, keys) == order_of(wanted, names, keys), seed
+            check_order(made, frame, model, columns, keys, seed)
         rows = frame.collect(workers=made.chance.choice([1, 4]), chunk_rows=made.chance.choice([1, 2, 1000]))
         assert rows.columns == model.columns, seed
         assert counted(rows) == counted(model.rows), seed
@@ -230,11 +226,37 @@ def test_rows_of_random_plans(part):
     assert pandas is None or by_pandas or PLANS < 100
 
 
-def order_of(rows, names, keys):
-    """The values of those keys that are seen, row by row, as far as all keys before them are seen too."""
-    seen = []
-    for name, _, _ in keys:
-        if name not in names:
-            break
-        seen.append(names.index(name))
-    return [tuple(row[it] for it in seen) for row in rows]
+def check_order(made, frame, model, columns, keys, seed):
+    """An order stands through filters, selects, renames and added columns, though its keys are changed or left out."""
+    names = [name for name, _, _ in keys]
+    marks = [f"key {it}" for it in range(len(names))]
+    marked = model.select([*((it, ("col", it)) for it in model.columns), *((m, ("col", it)) for m, it in zip(marks, names))], made.dtype)
+    for _ in range(made.chance.randint(1, 3)):
+        work = made.chance.choice(["filter", "select", "with", "rename"])
+        if work == "filter":
+            expr = (made.chance.choice(["and", "or", "or"]), made.expression(columns, "b"), ("is_null", ("lit", None, "n")))
+            frame, marked = frame.filter(made.spelled(expr)), marked.filter(expr, made.dtype)
+        elif work == "select":
+            kept = made.chance.sample(list(columns), made.chance.randint(1, len(columns)))
+            columns = {it: columns[it] for it in kept}
+            frame, marked = frame.select(kept), marked.select([(it, ("col", it)) for it in [*kept, *marks]], made.dtype)
+        elif work == "rename":
+            old = made.chance.choice(list(columns))
+            new = {old: made.chance.choice([it for it in NAMES if it not in columns])}
+            columns = {new.get(name, name): it for name, it in columns.items()}
+            frame, marked = frame.rename(new), marked.rename(new)
+        else:
+            name, kind = made.chance.choice([*columns, "new"]), made.chance.choice("ntb")
+            expr = made.expression(columns, kind)
+            columns = {**columns, name: kind}
+            frame, marked = frame.with_columns(made.spelled(expr).alias(name)), marked.with_columns([(name, expr)], made.dtype)
+    given = list(frame.collect(workers=made.chance.choice([1, 4]), chunk_rows=made.chance.choice([1, 2, 1000])))
+    assert frame.columns == list(columns), seed
+    seen = marked.select([(it, ("col", it)) for it in columns], made.dtype).rows
+    order = marked.select([(it, ("col", it)) for it in marks], made.dtype).rows
+    at = 0
+    for _, group in itertools.groupby(range(len(order)), key=lambda it: order[it]):
+        group = list(group)
+        assert counted(given[at : at + len(group)]) == counted([seen[it] for it in group]), seed
+        at += len(group)
+    assert at == len(given), seed
