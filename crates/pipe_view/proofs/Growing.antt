@@ -74,7 +74,7 @@ join-alike j k l m r s hl hr w =
     let right = probed-alike j false k r s m hr w in
     omega (arith, lr, mr, mr_again, ms, left, right)
 
-join-same : (a b : Kept) → IsSameView a b → kept_join a ≡ kept_join b
+pub join-same : (a b : Kept) → IsSameView a b → kept_join a ≡ kept_join b
 join-same a b h =
     ap (λ x. join_over x a.right.schema (formulas_of a.left_on) (formulas_of a.right_on) a.options) h.left_schema
     ∙ ap (λ x. join_over b.left.schema x (formulas_of a.left_on) (formulas_of a.right_on) a.options) h.right_schema

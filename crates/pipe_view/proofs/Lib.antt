@@ -20,3 +20,5 @@ mod Framed
 mod Checked
 -- the order of codes
 mod CodeOrder
+mod Listed
+mod Lists

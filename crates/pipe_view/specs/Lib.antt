@@ -16,3 +16,5 @@ pub mod Held
 pub mod Edits
 -- why a view isn't made or changed
 pub mod Refusals
+-- edits that are played one after another
+pub mod Played
