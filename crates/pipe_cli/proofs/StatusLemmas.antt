@@ -355,6 +355,18 @@ is_stop refusal.NotJob e = absurd (omega (arith, e))
 is_stop refusal.WriteFault e = absurd (omega (arith, e))
 is_stop refusal.Memory e = absurd (omega (arith, e))
 
+pub is_long : (r : Refusal) → status_of r ≡ 3 → r ≡ refusal.TooLong
+is_long refusal.BadWords e = absurd (omega (arith, e))
+is_long refusal.ReadFault e = absurd (omega (arith, e))
+is_long refusal.TooLong e = refl
+is_long refusal.NotJson e = absurd (omega (arith, e))
+is_long refusal.NotJob e = absurd (omega (arith, e))
+is_long (refusal.Fault line) e = absurd (omega (arith, e))
+is_long (refusal.TooMany line) e = absurd (omega (arith, e))
+is_long refusal.Stopped e = absurd (omega (arith, e))
+is_long refusal.WriteFault e = absurd (omega (arith, e))
+is_long refusal.Memory e = absurd (omega (arith, e))
+
 pub status_within : (r : Refusal) → status_of r ≤ 10
 status_within refusal.BadWords = omega arith
 status_within refusal.ReadFault = omega arith

@@ -3,11 +3,11 @@ use Rattle.std.proofs.Common.{◌≡◌, ◌≤◌, ℕ, List, [], length, Optio
 use Rattle.std.proofs.Math.Seq.{take-length}
 use Rattle.std.specs.Prelude.{IfSome, OnErr, OnOk}
 use Rattle.pipe_frame.specs.Counts.{Rises}
-use Rattle.pipe_outside.specs.Outside.{AtEnd, CountedAbove, InputSeen, OutputSeen, WriteFails, Writes, WritesFront}
-use Rattle.pipe_outside.specs.Whole.{IsAll}
+use Rattle.pipe_outside.specs.Outside.{AtEnd, CountedAbove, HasRead, InputSeen, OutputSeen, WriteFails, Writes, WritesFront}
+use Rattle.pipe_outside.specs.Whole.{IsAll, ReadAtMost}
 use Rattle.pipe_cli.specs.Outcome.{Noted}
 use Rattle.pipe_cli.specs.Refused.{OfReading}
-use Rattle.pipe_cli.specs.Sources.{HasAll, IsTooMany, IsWhole, Opened, Source, Nowhere, Standard, Named, WasRead, bytes_at, limit, standard_or}
+use Rattle.pipe_cli.specs.Sources.{HasAll, IsTakenInPart, IsTooMany, IsWhole, Opened, Source, Nowhere, Standard, Named, TookFew, WasRead, bytes_at, limit, most_taken, standard_or}
 use Rattle.pipe_cli.specs.declared.status.Refusal.{Refusal}
 use Rattle.pipe_cli.specs.declared.status.Refusal.TheVariants as refusal
 
@@ -86,3 +86,17 @@ reading_opened refusal.Memory told input mid now h taken faults k = tt
 
 pub reading_named : (r : Refusal) (name : Option (List ℕ)) (input mid now : InputSeen) → Opened (standard_or name) input mid → input.taken ≤ mid.taken → input.faults ≤ mid.faults → OfReading r mid.left mid now → OfReading r (bytes_at (standard_or name) input) input now
 reading_named r name input mid now h taken faults k = reading_opened r (bytes_at (standard_or name) input) input mid now h taken faults k
+
+few_opened : (told : Option (List ℕ)) (mid now : InputSeen) (taken : List ℕ) → length taken ≤ most_taken → IfSome told (λ all. mid.left ≡ Some all) → HasRead taken mid.left now.left → IfSome told (TookFew now)
+few_opened None mid now taken few h k = tt
+few_opened (Some all) mid now taken few h k =
+    let P : Option (List ℕ) → Type 0 = λ o. HasRead taken o now.left in
+    let read : P (Some all) = subst P h k in
+    record { taken = taken; few = few; rest = read }
+
+few_from : (input mid now : InputSeen) → mid ≡ input → IsTakenInPart Standard mid now → IsTakenInPart Standard input now
+few_from input mid now e h = subst (λ (i : InputSeen). IsTakenInPart Standard i now) e h
+
+pub few_named : (name : Option (List ℕ)) (input mid now : InputSeen) → (name ≡ None → mid ≡ input) → Opened (standard_or name) input mid → IsTakenInPart Standard mid now → IsTakenInPart (standard_or name) input now
+few_named None input mid now same h k = few_from input mid now (same refl) k
+few_named (Some name) input mid now same h k = few_opened (input.named name) mid now k.taken k.few h k.read.reads

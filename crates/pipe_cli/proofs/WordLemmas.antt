@@ -4,9 +4,9 @@ use Rattle.std.specs.Prelude.{IsSome, option_map}
 use Rattle.pipe_outside.specs.Outside.{InputSeen, OutputSeen}
 use Rattle.pipe_cli.specs.Commands.{Request, contract_of, request, source_of}
 use Rattle.pipe_cli.specs.Contract.{OfInput}
-use Rattle.pipe_cli.specs.Outcome.{AsksNoInput, InputOf, IsRead, MayEnd, OfOutput, OfWords, OutputOf, ReadingOf, Wrote, WroteTold, asks_run, if_asked, is_asked, is_run, of_words, told_to}
+use Rattle.pipe_cli.specs.Outcome.{AsksNoInput, InputOf, IsRead, MayEnd, OfOutput, OfWords, OutputOf, ReadingOf, TakenInPart, Wrote, WroteTold, asks_run, if_asked, is_asked, is_run, of_words, told_to}
 use Rattle.pipe_cli.specs.Refused.{OfReading}
-use Rattle.pipe_cli.specs.Sources.{Nowhere, WasRead}
+use Rattle.pipe_cli.specs.Sources.{IsTakenInPart, Nowhere, WasRead}
 use Rattle.pipe_cli.specs.Status.{OneOf, status_of}
 use Rattle.pipe_cli.specs.declared.status.Refusal.{Refusal}
 use Rattle.pipe_cli.specs.declared.status.Refusal.TheVariants as refusal
@@ -58,6 +58,9 @@ some_words refusal.Memory asked k s = s
 
 pub words_asked : (words : List (List ℕ)) (a : Request) (r : Refusal) → Some a ≡ request words → (r ≡ refusal.BadWords → ⊥) → OfWords r words
 words_asked words a r e k = some_words r (request words) k (known_asked words a e)
+
+pub few_asked : (words : List (List ℕ)) (a : Request) (input now : InputSeen) → Some a ≡ request words → IsTakenInPart (source_of a) input now → TakenInPart words input now
+few_asked words a input now e h = subst (λ (o : Option Request). is_asked o (λ b. IsTakenInPart (source_of b) input now)) e h
 
 -- ---- words that call none
 

@@ -4,7 +4,7 @@ use Rattle.pipe_outside.specs.Outside.{InputSeen, OutputSeen, WriteFails, Writes
 use Rattle.pipe_cli.specs.Commands.{Request, contract_of, request, source_of}
 use Rattle.pipe_cli.specs.Contract.{Answered, Contract, OfInput, ShortGood, Told}
 use Rattle.pipe_cli.specs.Refused.{OfReading, OfWriting}
-use Rattle.pipe_cli.specs.Sources.{IsLongOn, IsTooMany, Source, Nowhere, WasRead, bytes_at, limit}
+use Rattle.pipe_cli.specs.Sources.{IsLongOn, IsTakenInPart, IsTooMany, Source, Nowhere, WasRead, bytes_at, limit}
 use Rattle.pipe_cli.specs.Status.{OneOf}
 use Rattle.pipe_cli.specs.declared.status.Refusal.{Refusal}
 use Rattle.pipe_cli.specs.declared.status.Refusal.TheVariants as refusal
@@ -86,6 +86,10 @@ WroteFront words input out now = is_asked (request words) (λ asked. WroteFrontT
 -- the input is too long
 abbrev pub IsTooLong : List (List ℕ) → InputSeen → InputSeen → Type 0
 IsTooLong words input now = is_asked (request words) (λ asked. IsLongOn (told_to asked input) input now)
+
+-- not all of it was taken
+abbrev pub TakenInPart : List (List ℕ) → InputSeen → InputSeen → Type 0
+TakenInPart words input now = is_asked (request words) (λ asked. IsTakenInPart (source_of asked) input now)
 
 -- more bytes than an input may have, of whatever kind
 abbrev pub Long : Contract → List ℕ → Type 0

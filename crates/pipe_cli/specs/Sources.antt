@@ -1,6 +1,7 @@
 -- Where an input stands, and how it is read to its end.
 use Rattle.std.specs.Prelude.{ℕ, ◌≡◌, ◌<◌, ◌≤◌, List, [], length, Option, Some, None, IfSome}
-use Rattle.pipe_outside.specs.Outside.{CountedAbove, InputSeen}
+use Rattle.pipe_outside.specs.Outside.{CountedAbove, InputSeen, Splits}
+use Rattle.pipe_outside.specs.Whole.{ReadAtMost}
 
 -- an input stands nowhere, on standard input, or under a name
 pub data Source : Type 0 where
@@ -53,3 +54,19 @@ HasAll bytes told = IfSome told (λ all. bytes ≡ all)
 pub record IsLongOn (told : Option (List ℕ)) (input now : InputSeen) : Type 0 where
   pub many : IfSome told IsTooMany
   pub counted : CountedAbove limit input now
+
+-- how many bytes are taken at most before an input is found too long: as many as it may have, and what one read takes
+abbrev pub most_taken : ℕ
+most_taken = 33619968
+
+-- so many at most were taken from the front of some bytes
+pub record TookFew (now : InputSeen) (bytes : List ℕ) : Type 0 where
+  pub taken : List ℕ
+  pub few : length taken ≤ most_taken
+  pub rest : Splits bytes taken now.left
+
+-- no more than that was taken
+abbrev pub IsTakenInPart : Source → InputSeen → InputSeen → Type 0
+IsTakenInPart Nowhere input now = now ≡ input
+IsTakenInPart Standard input now = ReadAtMost most_taken input now
+IsTakenInPart (Named name) input now = IfSome (input.named name) (TookFew now)

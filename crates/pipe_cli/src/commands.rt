@@ -9,7 +9,7 @@ ghost use Rattle.pipe_cli.specs.Commands.{HasGoodRows, contract_of, request, req
 ghost use Rattle.pipe_cli.specs.Contract.{Answered, Causes};
 ghost use Rattle.pipe_cli.specs.Outcome.{told_to};
 ghost use Rattle.pipe_cli.specs.Refused.{OfReading};
-ghost use Rattle.pipe_cli.specs.Sources.{HasAll, Nowhere, WasRead, limit};
+ghost use Rattle.pipe_cli.specs.Sources.{HasAll, IsTakenInPart, Nowhere, WasRead, limit};
 ghost use Rattle.pipe_cli.specs.Status.{OneOf, status_of, yes_in};
 
 mod check;
@@ -105,6 +105,8 @@ pub(crate) fn input_of<R: JobReader>(
         OneOf (contract_of (request_of command.entry)).statuses (status_of r)) }
     ensures early { IfErr result (λ r. OneOf (2 ∷ 3 ∷ 10 ∷ []) (status_of r)) }
     ensures untouched { source_of (request_of command.entry) ≡ Nowhere → input.new ≡ input.old }
+    ensures most { IsErrOf result Refusal.TooLong → IsTakenInPart
+        (source_of (request_of command.entry)) (R.seen input.old) (R.seen input.new) }
 {
     match command {
         Command::Run(name) => bytes_at(alloc, name, input),

@@ -5,9 +5,9 @@ ghost use Rattle.pipe_frame.specs.Counts.{Counts, Rises};
 ghost use Rattle.pipe_outside.specs.Outside.{ReadFails, WriteFails};
 ghost use Rattle.pipe_cli.specs.Commands.{HasGoodRows, contract_of, request, request_of, source_of};
 ghost use Rattle.pipe_cli.specs.Contract.{NoInput, Nothing, OfInput, RefusedAs, ShortGood, Sound, TooWide, Wide};
-ghost use Rattle.pipe_cli.specs.Outcome.{AsksNoInput, InputOf, IfInput, IsInput, IsRead, IsTooLong, Long, MayEnd, Noted, NotedFault, OfOutput, OfWords, OutputOf, ReadingOf, Wrote, WroteFront, WroteTold, asks_run, told_to};
+ghost use Rattle.pipe_cli.specs.Outcome.{AsksNoInput, InputOf, IfInput, IsInput, IsRead, IsTooLong, Long, MayEnd, Noted, NotedFault, OfOutput, OfWords, OutputOf, ReadingOf, TakenInPart, Wrote, WroteFront, WroteTold, asks_run, told_to};
 ghost use Rattle.pipe_cli.specs.Refused.{OfReading};
-ghost use Rattle.pipe_cli.specs.Sources.{Nowhere, WasRead};
+ghost use Rattle.pipe_cli.specs.Sources.{IsTakenInPart, Nowhere, WasRead};
 ghost use Rattle.pipe_cli.specs.Status.{IsFixed, OneOf, line_of, status_line, status_of, yes_in, yes_of};
 
 use crate::commands::{Command, answer_of, command_of, input_of};
@@ -19,7 +19,7 @@ use std::alloc::Global;
 use std::thread::Threads;
 
 /// Reads the input of a command, and writes its answer.
-#[tactic(auto, using(crate::proofs::Lawful::may_write, crate::proofs::RuleLemmas::input_told, crate::proofs::RuleLemmas::early_input, crate::proofs::RuleLemmas::caused_reading, crate::proofs::RuleLemmas::early_unwritten, crate::proofs::RuleLemmas::caused_unwritten, crate::proofs::RuleLemmas::wrote_told, crate::proofs::RuleLemmas::front_told, crate::proofs::RuleLemmas::early_known, crate::proofs::RuleLemmas::early_going, crate::proofs::RuleLemmas::early_passed, crate::proofs::RuleLemmas::caused_known, crate::proofs::RuleLemmas::yes_passed, crate::proofs::RuleLemmas::yes_told, crate::proofs::RuleLemmas::write_reading, crate::proofs::RuleLemmas::write_input, crate::proofs::RuleLemmas::write_output))]
+#[tactic(auto, using(crate::proofs::Lawful::may_write, crate::proofs::RuleLemmas::input_told, crate::proofs::RuleLemmas::early_input, crate::proofs::RuleLemmas::caused_reading, crate::proofs::RuleLemmas::early_unwritten, crate::proofs::RuleLemmas::caused_unwritten, crate::proofs::RuleLemmas::wrote_told, crate::proofs::RuleLemmas::front_told, crate::proofs::RuleLemmas::early_known, crate::proofs::RuleLemmas::early_going, crate::proofs::RuleLemmas::early_passed, crate::proofs::RuleLemmas::caused_known, crate::proofs::RuleLemmas::caused_short, crate::proofs::RuleLemmas::yes_passed, crate::proofs::RuleLemmas::yes_told, crate::proofs::RuleLemmas::write_reading, crate::proofs::RuleLemmas::write_input, crate::proofs::RuleLemmas::write_output))]
 fn perform<T: Threads + Sync, R: JobReader, W: RowWriter, C: StopCheck, G: Gate + Sync>(
     rt: &T,
     alloc: Global,
@@ -45,6 +45,8 @@ fn perform<T: Threads + Sync, R: JobReader, W: RowWriter, C: StopCheck, G: Gate 
         OneOf (contract_of (request_of command.entry)).statuses (status_of r)) }
     ensures known { IsErrOf result Refusal.BadWords → ⊥ }
     ensures untouched { source_of (request_of command.entry) ≡ Nowhere → input.new ≡ input.old }
+    ensures most { IsErrOf result Refusal.TooLong → IsTakenInPart
+        (source_of (request_of command.entry)) (R.seen input.old) (R.seen input.new) }
     ensures asked { (contract_of (request_of command.entry)).asks ≡ true
         → OnOk result (Rises (C.asked stop.old) (C.asked stop.new)) }
     ensures unasked { (contract_of (request_of command.entry)).asks ≡ false → stop.new ≡ stop.old }
@@ -57,7 +59,7 @@ fn perform<T: Threads + Sync, R: JobReader, W: RowWriter, C: StopCheck, G: Gate 
 }
 
 /// Does what the words ask for.
-#[tactic(auto, using(crate::proofs::WordLemmas::read_asked, crate::proofs::WordLemmas::wrote_asked, crate::proofs::WordLemmas::reading_asked, crate::proofs::WordLemmas::input_asked, crate::proofs::WordLemmas::output_asked, crate::proofs::WordLemmas::may_end_asked, crate::proofs::WordLemmas::asks_asked, crate::proofs::WordLemmas::nowhere_asked, crate::proofs::WordLemmas::words_asked, crate::proofs::WordLemmas::unknown_words, crate::proofs::WordLemmas::unknown_reading, crate::proofs::WordLemmas::unknown_input, crate::proofs::WordLemmas::unknown_output, crate::proofs::WordLemmas::unknown_end, crate::proofs::WordLemmas::known_asked))]
+#[tactic(auto, using(crate::proofs::WordLemmas::read_asked, crate::proofs::WordLemmas::wrote_asked, crate::proofs::WordLemmas::reading_asked, crate::proofs::WordLemmas::input_asked, crate::proofs::WordLemmas::output_asked, crate::proofs::WordLemmas::may_end_asked, crate::proofs::WordLemmas::asks_asked, crate::proofs::WordLemmas::nowhere_asked, crate::proofs::WordLemmas::words_asked, crate::proofs::WordLemmas::unknown_words, crate::proofs::WordLemmas::unknown_reading, crate::proofs::WordLemmas::unknown_input, crate::proofs::WordLemmas::unknown_output, crate::proofs::WordLemmas::unknown_end, crate::proofs::WordLemmas::known_asked, crate::proofs::WordLemmas::few_asked))]
 fn attempt<T: Threads + Sync, R: JobReader, W: RowWriter, C: StopCheck, G: Gate + Sync>(
     rt: &T,
     alloc: Global,
@@ -82,6 +84,8 @@ fn attempt<T: Threads + Sync, R: JobReader, W: RowWriter, C: StopCheck, G: Gate 
     ensures unwritten { IsErrOf result Refusal.BadWords
         → (W.seen out.new).written ≡ (W.seen out.old).written }
     ensures untouched { AsksNoInput words.now → input.new ≡ input.old }
+    ensures most { IsErrOf result Refusal.TooLong →
+        TakenInPart words.now (R.seen input.old) (R.seen input.new) }
     ensures asked { asks_run words.now ≡ true
         → OnOk result (Rises (C.asked stop.old) (C.asked stop.new)) }
     ensures unasked { asks_run words.now ≡ false → stop.new ≡ stop.old }
@@ -106,7 +110,7 @@ fn note<N: RowWriter>(notes: &mut N, refusal: &Refusal)
 /// writes its answer to `out`. Threads are started in a run alone, in which each worker is one, and `stop` is asked
 /// whether to go on. It answers the status that the program ends with; for a status other than 0 its line is written
 /// to `notes`.
-#[tactic(auto, using(crate::proofs::StatusLemmas::long_ran, crate::proofs::StatusLemmas::long_ended, crate::proofs::StatusLemmas::none_ran, crate::proofs::StatusLemmas::none_ended, crate::proofs::StatusLemmas::refused_ran, crate::proofs::StatusLemmas::refused_ended, crate::proofs::StatusLemmas::wide_ran, crate::proofs::StatusLemmas::wide_ended, crate::proofs::StatusLemmas::good_ended, crate::proofs::StatusLemmas::says_nothing, crate::proofs::StatusLemmas::says_none, crate::proofs::StatusLemmas::says_fault, crate::proofs::StatusLemmas::says_many, crate::proofs::StatusLemmas::says_sound, crate::proofs::StatusLemmas::says_read_fault, crate::proofs::StatusLemmas::says_long, crate::proofs::StatusLemmas::says_write_fault, crate::proofs::StatusLemmas::says_front, crate::proofs::StatusLemmas::says_unwritten, crate::proofs::StatusLemmas::is_stop, crate::proofs::StatusLemmas::stop_runs, crate::proofs::StatusLemmas::status_within, crate::proofs::StatusLemmas::may_answer, crate::proofs::StatusLemmas::no_line))]
+#[tactic(auto, using(crate::proofs::StatusLemmas::long_ran, crate::proofs::StatusLemmas::long_ended, crate::proofs::StatusLemmas::none_ran, crate::proofs::StatusLemmas::none_ended, crate::proofs::StatusLemmas::refused_ran, crate::proofs::StatusLemmas::refused_ended, crate::proofs::StatusLemmas::wide_ran, crate::proofs::StatusLemmas::wide_ended, crate::proofs::StatusLemmas::good_ended, crate::proofs::StatusLemmas::says_nothing, crate::proofs::StatusLemmas::says_none, crate::proofs::StatusLemmas::says_fault, crate::proofs::StatusLemmas::says_many, crate::proofs::StatusLemmas::says_sound, crate::proofs::StatusLemmas::says_read_fault, crate::proofs::StatusLemmas::says_long, crate::proofs::StatusLemmas::says_write_fault, crate::proofs::StatusLemmas::says_front, crate::proofs::StatusLemmas::says_unwritten, crate::proofs::StatusLemmas::is_stop, crate::proofs::StatusLemmas::is_long, crate::proofs::StatusLemmas::stop_runs, crate::proofs::StatusLemmas::status_within, crate::proofs::StatusLemmas::may_answer, crate::proofs::StatusLemmas::no_line))]
 pub fn run_program<
     T: Threads + Sync,
     R: JobReader,
@@ -169,6 +173,7 @@ pub fn run_program<
     // What is read and written.
     ensures unread { result ≡ 1 → input.new ≡ input.old }
     ensures untouched { AsksNoInput words.now → input.new ≡ input.old }
+    ensures most { result ≡ 3 → TakenInPart words.now (R.seen input.old) (R.seen input.new) }
     ensures front { result ≡ 9
         → WroteFront words.now (R.seen input.old) (W.seen out.old) (W.seen out.new) }
     ensures nothing { result ≢ 0 → result ≢ 9

@@ -1,10 +1,10 @@
 //! The input is read to its end, and a text is written whole.
 
-ghost use Rattle.std.specs.Prelude.{◌≡◌, ◌≤◌, ◌∷◌, [], length, IfOk, IfErr, OnOk, OnErr};
+ghost use Rattle.std.specs.Prelude.{◌≡◌, ◌≤◌, ◌∷◌, [], length, None, IfOk, IfErr, IsErrOf, OnOk, OnErr};
 ghost use Rattle.std.specs.Option.{option_copied};
 ghost use Rattle.pipe_outside.specs.Outside.{ReadFails, WriteFails, Writes, WritesFront};
 ghost use Rattle.pipe_cli.specs.Refused.{OfReading};
-ghost use Rattle.pipe_cli.specs.Sources.{HasAll, IsWhole, Opened, WasRead, bytes_at, limit, standard_or};
+ghost use Rattle.pipe_cli.specs.Sources.{HasAll, IsTakenInPart, IsWhole, Opened, Standard, WasRead, bytes_at, limit, standard_or};
 ghost use Rattle.pipe_cli.specs.Status.{OneOf, status_of};
 
 use crate::status::Refusal;
@@ -21,6 +21,8 @@ pub(crate) fn bytes_left<R: JobReader>(alloc: Global, input: &mut R) -> Result<V
     ensures reading { IfErr result (λ r.
         OfReading r (R.seen input.old).left (R.seen input.old) (R.seen input.new)) }
     ensures early { IfErr result (λ r. OneOf (2 ∷ 3 ∷ 10 ∷ []) (status_of r)) }
+    ensures most { IsErrOf result Refusal.TooLong →
+        IsTakenInPart Standard (R.seen input.old) (R.seen input.new) }
 {
     match read_whole(alloc, input) {
         Ok(bytes) => Ok(bytes),
@@ -38,6 +40,7 @@ fn open<R: JobReader>(name: Option<&Text>, input: &mut R) -> Result<(), Refusal>
     ensures cause { OnErr result (ReadFails (R.seen input.old) (R.seen input.new)) }
     ensures taken { (R.seen input.old).taken ≤ (R.seen input.new).taken }
     ensures faults { (R.seen input.old).faults ≤ (R.seen input.new).faults }
+    ensures nothing { option_copied name.entry ≡ None → R.seen input.new ≡ R.seen input.old }
 {
     match name {
         Some(name) => match input.open_named(name.as_bytes()) {
@@ -49,7 +52,7 @@ fn open<R: JobReader>(name: Option<&Text>, input: &mut R) -> Result<(), Refusal>
 }
 
 /// All bytes that stand under a name, or that are left where there is none.
-#[tactic(auto, using(crate::proofs::StreamLemmas::all_named, crate::proofs::StreamLemmas::whole_named, crate::proofs::StreamLemmas::reading_named))]
+#[tactic(auto, using(crate::proofs::StreamLemmas::all_named, crate::proofs::StreamLemmas::whole_named, crate::proofs::StreamLemmas::reading_named, crate::proofs::StreamLemmas::few_named))]
 pub(crate) fn bytes_at<R: JobReader>(
     alloc: Global,
     name: Option<&Text>,
@@ -64,6 +67,8 @@ pub(crate) fn bytes_at<R: JobReader>(
         OfReading r (bytes_at (standard_or (option_copied name.entry)) (R.seen input.old))
         (R.seen input.old) (R.seen input.new)) }
     ensures early { IfErr result (λ r. OneOf (2 ∷ 3 ∷ 10 ∷ []) (status_of r)) }
+    ensures most { IsErrOf result Refusal.TooLong → IsTakenInPart
+        (standard_or (option_copied name.entry)) (R.seen input.old) (R.seen input.new) }
 {
     open(name, input)?;
     bytes_left(alloc, input)
