@@ -5,7 +5,6 @@
 """
 
 import argparse
-import itertools
 import os
 import re
 import sys
@@ -13,7 +12,7 @@ import warnings
 from collections.abc import Callable, Sequence
 from typing import Any
 
-from .csv_files import csv_lines, delimiter_of, read_csv, records
+from .csv_files import blocks, csv_lines, delimiter_of, read_csv
 from .drawing import picture
 from .dtypes import TYPES
 from .errors import LiskevarError, Refused
@@ -64,7 +63,7 @@ def read_files(given: Any, paths: Sequence[str], read: set[str] | None = None, m
 
 def header_of(path: str, delimiter: str) -> list[str]:
     """The names in the first line of a file."""
-    return [name for _, row in itertools.islice(records(path, delimiter), 1) for name in row]
+    return next(blocks(path, delimiter))[0]
 
 
 def _type_of(text: str) -> tuple[str, str]:

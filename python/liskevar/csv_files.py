@@ -9,7 +9,7 @@ import itertools
 import os
 import re
 import warnings
-from collections.abc import Iterable, Iterator, Mapping, Sequence
+from collections.abc import Callable, Iterable, Iterator, Mapping, Sequence
 from datetime import date, datetime
 from decimal import Decimal
 from typing import Any
@@ -20,9 +20,15 @@ from .limits import BYTES_OF_A_JOB, too_long
 from .tables import Column, Table, told_types
 
 WHOLE = re.compile(r"0|-?[1-9][0-9]{0,39}")
-DECIMAL = re.compile(r"-?[0-9]*\.[0-9]+|-?[0-9]+\.")
 HEXADECIMAL = re.compile(r"(?:[0-9a-f]{2})*")
-OTHER_DATE = re.compile(r"[0-9]{1,2}[./-][0-9]{1,2}[./-](?:[0-9]{4}|[0-9]{2})|[0-9]{4}[./][0-9]{1,2}[./][0-9]{1,2}")
+DATE = r"[0-9]{1,2}[./-][0-9]{1,2}[./-](?:[0-9]{4}|[0-9]{2})|[0-9]{4}[./][0-9]{1,2}[./][0-9]{1,2}"
+# What the fields of a column may look like; and of those that are no type here, how they are read, and as what.
+LOOKS = {
+    "numbers": WHOLE,
+    "decimals": re.compile(rf"{WHOLE.pattern}|-?[0-9]*\.[0-9]+|-?[0-9]+\."),
+    "dates": re.compile(DATE),
+}
+WAYS = {"decimals": ("Cents", "as numbers"), "dates": ("%d.%m.%Y", "as 2026-11-29, which sorts as a date")}
 # Stands for a field that is written as two quotes, until it is read; no file that is UTF-8 has it.
 EMPTY = "\udc00"
 BLOCK = 20_000
@@ -42,18 +48,27 @@ def _lines(path: str, delimiter: str) -> Iterator[str]:
     empty = re.compile(rf'(?:^|(?<={re.escape(delimiter)}))""(?=[{re.escape(delimiter)}\r\n]|$)')
     inside = 0
     try:
-        with open(path, "rb") as file:
-            for number, raw in enumerate(file, start=1):
-                try:
-                    line = raw.decode("utf-8-sig" if number == 1 else "utf-8")
-                except UnicodeDecodeError as error:
-                    raise Refused(f"{path}, line {number}, byte {error.start + 1}: not UTF-8") from error
-                before, inside = inside, inside ^ (line.count('"') & 1)
-                if '""' in line:
-                    line = _marked(line, empty, before)
+        with open(path, encoding="utf-8-sig", newline="") as file:
+            for line in file:
+                if '"' in line:
+                    before, inside = inside, inside ^ (line.count('"') & 1)
+                    line = _marked(line, empty, before) if '""' in line else line
                 yield line
+    except UnicodeDecodeError:
+        raise _no_text(path) from None
     except OSError as error:
         raise Refused(f"{path}: {error.strerror}") from error
+
+
+def _no_text(path: str) -> Refused:
+    """The error of a file that isn't UTF-8, with the place of its first byte that can't be."""
+    with open(path, "rb") as file:
+        for number, line in enumerate(file, start=1):
+            try:
+                line.decode()
+            except UnicodeDecodeError as error:
+                return Refused(f"{path}, line {number}, byte {error.start + 1}: not UTF-8")
+    return Refused(f"{path}: not UTF-8")
 
 
 def _marked(line: str, empty: re.Pattern[str], inside: int) -> str:
@@ -75,22 +90,35 @@ def _header(path: str, header: list[str], names: Sequence[str] | None) -> list[s
     return found
 
 
-def records(path: str, delimiter: str, width: int | None = None) -> Iterator[tuple[int, list[str]]]:
-    """The records of a file, each with the line on which it ends, the header first."""
-    reader = csv.reader(_lines(path, delimiter), delimiter=delimiter, strict=True)
+def blocks(path: str, delimiter: str) -> Iterator[list[list[str]]]:
+    """The records of a file, some at a time; the first block is the header alone."""
     csv.field_size_limit(2**31 - 1)
+    reader = csv.reader(_lines(path, delimiter), delimiter=delimiter, strict=True)
     try:
-        for row in reader:
-            if width is None and not row:
-                raise Refused(f"{path}, line 1: no header")
-            width = len(row) if width is None else width
-            row = row or [""] if width == 1 else row
-            if len(row) != width:
-                found = f"{len(row)} fields, where the header has {width}" if row else "an empty line"
-                raise Refused(f"{path}, line {reader.line_num}: {found}")
-            yield reader.line_num, row
+        header = next(reader, None)
+        if not header:
+            raise Refused(f"{path}, line 1: no header")
+        yield [header]
+        width, count = len(header), 1
+        while block := list(itertools.islice(reader, BLOCK)):
+            if width == 1:
+                block = [row or [""] for row in block]
+            if set(map(len, block)) != {width}:
+                place = next(k for k, row in enumerate(block) if len(row) != width)
+                found = f"{len(block[place])} fields, where the header has {width}" if block[place] else "an empty line"
+                raise Refused(f"{path}, line {line_of(path, delimiter, count + place)}: {found}")
+            count += len(block)
+            yield block
     except csv.Error as error:
         raise Refused(f"{path}, line {reader.line_num}: {error}") from error
+
+
+def line_of(path: str, delimiter: str, number: int) -> int:
+    """The line on which a record ends; the header is record 0."""
+    reader = csv.reader(_lines(path, delimiter), delimiter=delimiter, strict=True)
+    for _ in itertools.islice(reader, number + 1):
+        pass
+    return reader.line_num
 
 
 class Field(Column):
@@ -100,19 +128,17 @@ class Field(Column):
         (self.path, self.delimiter), self.place, self.empty_is_text, self.name = source, place, empty_is_text, name
         self.distinct = set(fields) - {"", EMPTY}
         self._ends: dict[int, tuple[int, int] | None] = {}
+        of = (word for word, it in LOOKS.items() if self.distinct and all(map(it.fullmatch, self.distinct)))
+        self.looks = next(of, "")
         is_empty = not self.distinct and EMPTY not in fields
         super().__init__(name, fields, Guess(self.fits, GUESSED, is_empty, self._hint()), self._cells)
-
-    def _all(self, *patterns: re.Pattern[str]) -> bool:
-        """Whether there are fields, and each is of one of some patterns."""
-        return bool(self.distinct) and all(any(it.fullmatch(field) for it in patterns) for field in self.distinct)
 
     def _number_ends(self, scale: int) -> tuple[int, int] | None:
         """The least and the greatest number, where all fields spell numbers of so many digits, in their one way."""
         if scale not in self._ends:
             pattern = re.compile(rf"-?(?:0|[1-9][0-9]{{0,39}})(?:\.[0-9]{{1,{scale}}}0*)?") if scale else WHOLE
             are_numbers = all(map(pattern.fullmatch, self.distinct))
-            numbers = [_number(it, scale) for it in self.distinct] if are_numbers else []
+            numbers = [_number(it, scale) if scale else int(it) for it in self.distinct] if are_numbers else []
             self._ends[scale] = (min(numbers, default=0), max(numbers, default=0)) if are_numbers else None
         return self._ends[scale]
 
@@ -125,29 +151,20 @@ class Field(Column):
             return self.distinct <= {"true", "false"}
         return dtype == STRING or all(map(HEXADECIMAL.fullmatch, self.distinct))
 
-    def _looks(self) -> str:
-        """What its fields look like, where that is no type here."""
-        if self._all(DECIMAL, WHOLE) and not self._all(WHOLE):
-            return "decimals"
-        return "dates" if self._all(OTHER_DATE) else ""
-
     def _hint(self) -> str:
         """What a mismatch of types says of it."""
-        words = {"decimals": "tell a type, as Cents", "dates": "tell their form, as %d.%m.%Y"}
-        looks = self._looks()
-        if looks:
-            return f"; {self.path} gives texts that look like {looks}: {words[looks]}"
-        numbers = f"; --types {self.name}:String (types=) reads {self.name!r} of {self.path} as texts"
-        return numbers if self._all(WHOLE) else ""
+        if not self.looks:
+            return ""
+        if self.looks == "numbers":
+            return f"; --types {self.name}:String (types=) reads {self.name!r} of {self.path} as texts"
+        return f"; {self.path} gives texts that look like {self.looks}: tell {WAYS[self.looks][0]} by types= or --types"
 
     def warn(self) -> None:
         """Says that texts will sort and join as texts, where they look like something else."""
-        ways = {"decimals": ("Cents", "as numbers"), "dates": ("%d.%m.%Y", "as 2026-11-29, which sorts as a date")}
-        looks = self._looks()
-        if looks:
-            form, what = ways[looks]
+        if self.looks in WAYS:
+            form, what = WAYS[self.looks]
             how = f"types={{{self.name!r}: {form!r}}} (--types {self.name}:{form}) reads them {what}"
-            words = f"{self.path}: {self.name!r} looks like {looks}, and is read as texts, which sort and join as texts; {how}"
+            words = f"{self.path}: {self.name!r} looks like {self.looks}, and is read as texts, which sort and join as texts; {how}"
             warnings.warn(words, TypeWarning, stacklevel=2)
 
     def tell(self, text: str, dtype: DType | None) -> None:
@@ -168,7 +185,7 @@ class Field(Column):
         return found.isoformat() if has_time else date.isoformat(found.date())
 
     def _refused(self, row: int, words: str) -> Refused:
-        line = next(itertools.islice(records(self.path, self.delimiter), row + 1, None))[0]
+        line = line_of(self.path, self.delimiter, row + 1)
         return Refused(f"{self.path}, line {line}, column {self.place + 1} ({self.name}): {words}")
 
     def _check(self, dtype: DType) -> None:
@@ -183,22 +200,23 @@ class Field(Column):
         """The cells; two quotes are the empty text in columns of texts, and else null."""
         self._check(dtype)
         is_text = dtype.base in ("String", "Binary")
-        cells: dict[str, Cell] = {it: _cell(dtype, it) for it in self.distinct}
+        cells: dict[str, Cell] = dict(zip(self.distinct, map(_converter(dtype), self.distinct)))
         cells |= {EMPTY: "" if is_text else None, "": "" if is_text and self.empty_is_text else None}
         return list(map(cells.__getitem__, self.values))
 
 
 def _number(field: str, scale: int) -> int:
-    if not scale:
-        return int(field)
     whole, _, digits = field.partition(".")
     return int(whole + digits[:scale].ljust(scale, "0"))
 
 
-def _cell(dtype: DType, field: str) -> Cell:
-    if dtype.kind == "number":
-        return str(_number(field, dtype.scale)) if dtype.base == "Int128" else _number(field, dtype.scale)
-    return field == "true" if dtype.base == "Boolean" else field
+def _converter(dtype: DType) -> Callable[[str], Cell]:
+    """What makes cells of the fields of a type."""
+    if dtype.scale:
+        return lambda field: _number(field, dtype.scale)
+    if dtype.kind == "number" and dtype.base != "Int128":
+        return int
+    return (lambda field: field == "true") if dtype.base == "Boolean" else str
 
 
 def read_csv(
@@ -217,23 +235,20 @@ def read_csv(
     Of the columns those of `read` alone have values: whoever tells it knows that no other is asked for them.
     """
     delimiter = delimiter or delimiter_of(path)
-    rows = records(path, delimiter)
-    first = next(rows, None)
-    if first is None:
-        raise Refused(f"{path}, line 1: no header")
-    header = _header(path, first[1], names)
+    rows = blocks(path, delimiter)
+    header = _header(path, next(rows)[0], names)
     kept = [place for place, name in enumerate(header) if columns is None or name in set(columns)]
     lists: list[list[str]] = [[] for _ in kept]
     valued = [(fields, place) for fields, place in zip(lists, kept) if read is None or header[place] in set(read)]
     height = size = 0
-    while block := list(itertools.islice(rows, BLOCK)):
-        turned = list(zip(*(row for _, row in block)))
+    for block in rows:
+        turned = list(zip(*block))
         for fields, place in valued:
             fields.extend(turned[place])
             size += sum(map(len, turned[place])) + len(block)
         height += len(block)
         if size > most_bytes:
-            raise JobTooLong(too_long(f"{path}, by line {block[-1][0]}, in {len(valued)} columns", size))
+            raise JobTooLong(too_long(f"{path}, by row {height}, in {len(valued)} columns", size))
     found = [Field((path, delimiter), header[place], place, fields, empty_is_text) for place, fields in zip(kept, lists)]
     _tell(path, found, types)
     return Table(os.path.basename(path), found, height)
