@@ -8,6 +8,9 @@ use worked_runs::{Ended, reader, run_stopping, run_words, tell_length, tell_text
 
 const TEST: &[&str] = &["selftest", "7", "2"];
 
+/// The same numbers, behind zeros.
+const ZEROS: &[&str] = &["selftest", "00000000000000000007", "02"];
+
 /// A self-test on an input each read of which would be the first, and fails.
 fn with_a_failing_read<T: Threads + Sync>(rt: &T, alloc: Global) -> Result<Ended, AllocError> {
     let mut input = reader(alloc, "{}", Some(1))?;
@@ -30,6 +33,10 @@ const BAD_WORDS: &[(&str, &[&str])] = &[
     (
         "a self-test whose start has a sign",
         &["selftest", "+1", "1"],
+    ),
+    (
+        "a self-test whose start has 21 digits",
+        &["selftest", "000000000000000000007", "2"],
     ),
 ];
 
@@ -55,6 +62,8 @@ pub(crate) fn tell_tests<T: Threads + Sync>(
 ) -> Result<(), AllocError> {
     tell_bad_words(rt, a, answers)?;
     tell_text(a, answers, "a self-test", alone(rt, a, TEST, None)?)?;
+    let shows = "a self-test whose numbers begin with zeros";
+    tell_text(a, answers, shows, alone(rt, a, ZEROS, None)?)?;
     let shows = "a self-test reads nothing";
     tell_text(a, answers, shows, with_a_failing_read(rt, a)?)?;
     let shows = "a self-test that is stopped";
