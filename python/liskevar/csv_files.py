@@ -216,7 +216,9 @@ def _converter(dtype: DType) -> Callable[[str], Cell]:
         return lambda field: _number(field, dtype.scale)
     if dtype.kind == "number" and dtype.base != "Int128":
         return int
-    return (lambda field: field == "true") if dtype.base == "Boolean" else str
+    if dtype.base == "Boolean":
+        return lambda field: field == "true"
+    return str
 
 
 def read_csv(
