@@ -182,7 +182,7 @@ def do_edits(given: Any) -> None:
     left_on, right_on = keys_of(given)
     frames = [frame_of(it) for it in read_files(given, given.files)]
     with told_as("--on"):
-        kept = KeptJoin(frames[0], frames[1], left_on=left_on, right_on=right_on, how=given.how, **vars(settings_of(given)))
+        kept = KeptJoin(frames[0], frames[1], left_on=left_on, right_on=right_on, how=given.how, row_limit=given.row_limit)
     for number, line in enumerate(read_text(given.edits).splitlines(), start=1):
         kept.add_line(f"{given.edits}, line {number}", line)
     if given.job:
@@ -258,8 +258,6 @@ def _common(parser: argparse.ArgumentParser, outputs: bool) -> None:
         help="names in place of the header's; given again for the second file, and so on")  # fmt: skip
     add("--tabs", action="store_true", help="fields are separated by tabs in every file")
     add("--empty-is-text", action="store_true", help="an empty field of a column of texts is the empty text, and no null")
-    add("--workers", type=whole(1, 256), default=4)
-    add("--chunk-rows", type=whole(1, 2**32 - 1), default=65_536)
     add("--row-limit", type=whole(1, MOST_ROWS), default=ROW_LIMIT, help="the rows that a node may have, 10,000,000 if not told")
     add = parser.add_mutually_exclusive_group().add_argument
     add("--job", action="store_true", help="print what the program reads, and don't run it")
@@ -299,6 +297,9 @@ def parser_of() -> argparse.ArgumentParser:
         made.set_defaults(work=work)
         if outputs is not None:
             _common(made, outputs)
+        if outputs is not None and name != "edits":
+            made.add_argument("--workers", type=whole(1, 256), default=4)
+            made.add_argument("--chunk-rows", type=whole(1, 2**32 - 1), default=65_536)
         return made
 
     _join(command("join", do_join).add_argument)

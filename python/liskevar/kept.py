@@ -9,6 +9,7 @@ from . import nodes as plan
 from .errors import Refused
 from .frame import LazyFrame
 from .job import Settings, compact, said_by, sized, types_of
+from .limits import ROW_LIMIT
 from .plan_json import read_json
 from .program import ask, want
 from .recon import _scanned, two_tables
@@ -31,14 +32,16 @@ class KeptJoin:
 
     def __init__(
         self, left: LazyFrame, right: LazyFrame, on: Any = None, how: str = "inner", *, left_on: Any = None,
-        right_on: Any = None, suffix: str = "_right", nulls_equal: bool = False, coalesce: bool | None = None, **numbers: int,
+        right_on: Any = None, suffix: str = "_right", nulls_equal: bool = False, coalesce: bool | None = None,
+        row_limit: int = ROW_LIMIT,
     ) -> None:  # fmt: skip
         if how not in ("inner", "left", "full"):
             raise plan.fail("BadJoin", f"a join that is kept is inner, left or full, and not {how}")
         self._sides = [_scanned(left), _scanned(right)]
         told: Any = {"suffix": suffix, "nulls_equal": nulls_equal, "coalesce": coalesce}
         self._join = self._sides[0].join(self._sides[1], on, how, left_on=left_on, right_on=right_on, **told)._node
-        self._settings = Settings(**numbers)
+        self._settings = Settings(row_limit=row_limit)
+        self._settings.check()
         self._edits: list[str] = []
 
     def _edit(self, side: str, word: str, row: Sequence[Any] | dict[str, Any]) -> None:
