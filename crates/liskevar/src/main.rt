@@ -2,7 +2,7 @@
 //! with its status.
 #![tactic(auto)]
 
-use pipe_cli::{Refusal, StreamWriter, SystemReader, run_program};
+use pipe_cli::{Refusal, StreamWriter, SystemReader, run_words};
 use pipe_frame::{NeverStop, OpenGate, Text};
 use std::alloc::Global;
 use std::io::Write;
@@ -43,7 +43,7 @@ fn main(rt: HostRuntime) -> ExitCode {
     let mut input = SystemReader::new(&rt, rt.stdin());
     let mut out = StreamWriter::new(rt.stdout());
     let mut notes = StreamWriter::new(rt.stderr());
-    let status = run_program(
+    let status = run_words(
         &rt,
         alloc,
         words.as_slice(),

@@ -23,6 +23,7 @@ use Rattle.pipe_plan.specs.declared.error.PipeError.{PipeError}
 use Rattle.pipe_plan.specs.declared.error.PipeError.TheVariants as error
 use Rattle.pipe_plan.specs.Schemas.{schema_of}
 use Rattle.pipe_cli.specs.Commands.RunCommand.{run}
+use Rattle.pipe_cli.specs.Commands.StreamCommand.{stream}
 use Rattle.pipe_cli.specs.Contract.{Answered, Because, Causes, EndsBy, EndsWith, Fails, IsKind, IsLawful, Unread}
 use Rattle.pipe_cli.specs.Jobs.{IsLookedAt, IsRefusedJob, IsRefusedWith, IsRowLines, IsSoundJob, IsWithinJob, job_kind, looks_at}
 use Rattle.pipe_cli.specs.Refused.{Tells}
@@ -200,4 +201,15 @@ run_lawful = record {
   stops = λ h. refl;
   answers = found 0 run.statuses refl;
   writes = found 9 run.statuses refl;
+}
+
+pub stream_lawful : IsLawful stream
+stream_lawful = record {
+  kind = job_is_kind;
+  sound = λ job e s r. sound_refused job.plan job.root job.config e s r;
+  one_error = λ job d e h k. one_refusal job d e h k;
+  within = λ job n m w. many_within job n m w;
+  stops = λ h. refl;
+  answers = found 0 stream.statuses refl;
+  writes = found 9 stream.statuses refl;
 }

@@ -189,7 +189,7 @@ pub caused_short : (c : Contract) (r : Refusal) (bytes : List ℕ) → Causes c 
 caused_short c r bytes h same = apart (4 ∷ 5 ∷ 6 ∷ 7 ∷ 8 ∷ 10 ∷ []) 3 refl (subst (λ (s : Refusal). OneOf (4 ∷ 5 ∷ 6 ∷ 7 ∷ 8 ∷ 10 ∷ []) (status_of s)) same (caused_only c r bytes h))
 
 -- what is said of bytes is said of those that are told
-short_told : (F : List ℕ → Type 0) (bytes : List ℕ) (told : Option (List ℕ)) → HasAll bytes told → length bytes ≤ limit → F bytes → IfSome told (Short F)
+pub short_told : (F : List ℕ → Type 0) (bytes : List ℕ) (told : Option (List ℕ)) → HasAll bytes told → length bytes ≤ limit → F bytes → IfSome told (Short F)
 short_told F bytes None all short h = tt
 short_told F bytes (Some b) all short h = subst (λ (s : List ℕ). Short F s) all (record { short = short; holds = h })
 

@@ -28,7 +28,7 @@ clash : (told : Option (List ℕ)) (P Q : List ℕ → Type 0) → ((bytes : Lis
 clash told P Q gives h k = both told P Q ⊥ gives h k
 
 -- a fact that follows
-follows : (told : Option (List ℕ)) (P Q : List ℕ → Type 0) → ((bytes : List ℕ) → P bytes → Q bytes) → IfSome told P → IfSome told Q
+pub follows : (told : Option (List ℕ)) (P Q : List ℕ → Type 0) → ((bytes : List ℕ) → P bytes → Q bytes) → IfSome told P → IfSome told Q
 follows None P Q f h = tt
 follows (Some bytes) P Q f h = f bytes h
 
@@ -119,7 +119,7 @@ front_good c told out now h = follows told (WroteFrontOn c out now) (Short (Good
 
 -- ---- statuses, by the bytes
 
-long_status : (c : Contract) → IsLawful c → (r : Refusal) (told : Option (List ℕ)) (out now : OutputSeen) → (r ≡ refusal.BadWords → ⊥) → OfInput c r told → OfOutput c r told out now → IsSomeAnd told IsTooMany → OneOf (2 ∷ 3 ∷ 10 ∷ []) (status_of r)
+pub long_status : (c : Contract) → IsLawful c → (r : Refusal) (told : Option (List ℕ)) (out now : OutputSeen) → (r ≡ refusal.BadWords → ⊥) → OfInput c r told → OfOutput c r told out now → IsSomeAnd told IsTooMany → OneOf (2 ∷ 3 ∷ 10 ∷ []) (status_of r)
 long_status c law refusal.BadWords told out now w t k h = absurd (w refl)
 long_status c law refusal.ReadFault told out now w t k h = inl refl
 long_status c law refusal.TooLong told out now w t k h = inr (inl refl)
@@ -131,7 +131,7 @@ long_status c law refusal.Stopped told out now w t k h = absurd (clash told (Sho
 long_status c law refusal.WriteFault told out now w t k h = absurd (clash told (Short (Good c)) IsTooMany (λ b p q. too_many b p.short q) (front_good c told out now k.1) h)
 long_status c law refusal.Memory told out now w t k h = inr (inr (inl refl))
 
-none_status : (c : Contract) → IsLawful c → (r : Refusal) (told : Option (List ℕ)) (out now : OutputSeen) → (r ≡ refusal.BadWords → ⊥) → OfInput c r told → OfOutput c r told out now → IsSomeAnd told (NoInput c) → OneOf (2 ∷ 3 ∷ 5 ∷ 10 ∷ []) (status_of r)
+pub none_status : (c : Contract) → IsLawful c → (r : Refusal) (told : Option (List ℕ)) (out now : OutputSeen) → (r ≡ refusal.BadWords → ⊥) → OfInput c r told → OfOutput c r told out now → IsSomeAnd told (NoInput c) → OneOf (2 ∷ 3 ∷ 5 ∷ 10 ∷ []) (status_of r)
 none_status c law refusal.BadWords told out now w t k h = absurd (w refl)
 none_status c law refusal.ReadFault told out now w t k h = inl refl
 none_status c law refusal.TooLong told out now w t k h = inr (inl refl)
@@ -143,7 +143,7 @@ none_status c law refusal.Stopped told out now w t k h = absurd (clash told (Sho
 none_status c law refusal.WriteFault told out now w t k h = absurd (clash told (Short (Good c)) (NoInput c) (λ b p q. law.kind.some b p.holds.input q p.holds.read) (front_good c told out now k.1) h)
 none_status c law refusal.Memory told out now w t k h = inr (inr (inr (inl refl)))
 
-refused_status : (c : Contract) → IsLawful c → (n : ℕ) (r : Refusal) (told : Option (List ℕ)) (out now : OutputSeen) → (r ≡ refusal.BadWords → ⊥) → OfInput c r told → OfOutput c r told out now → IsSomeAnd told (RefusedAs n c) → OneOf (2 ∷ 3 ∷ n ∷ 10 ∷ []) (status_of r)
+pub refused_status : (c : Contract) → IsLawful c → (n : ℕ) (r : Refusal) (told : Option (List ℕ)) (out now : OutputSeen) → (r ≡ refusal.BadWords → ⊥) → OfInput c r told → OfOutput c r told out now → IsSomeAnd told (RefusedAs n c) → OneOf (2 ∷ 3 ∷ n ∷ 10 ∷ []) (status_of r)
 refused_status c law n refusal.BadWords told out now w t k h = absurd (w refl)
 refused_status c law n refusal.ReadFault told out now w t k h = inl refl
 refused_status c law n refusal.TooLong told out now w t k h = inr (inl refl)
@@ -155,7 +155,7 @@ refused_status c law n refusal.Stopped told out now w t k h = absurd (clash told
 refused_status c law n refusal.WriteFault told out now w t k h = absurd (clash told (Short (Good c)) (RefusedAs n c) (λ b p q. sound_refused c law n b (good_sound c b p.holds) q) (front_good c told out now k.1) h)
 refused_status c law n refusal.Memory told out now w t k h = inr (inr (inr (inl refl)))
 
-wide_status : (c : Contract) → IsLawful c → (r : Refusal) (told : Option (List ℕ)) (out now : OutputSeen) → (r ≡ refusal.BadWords → ⊥) → OfInput c r told → OfOutput c r told out now → IsSomeAnd told (Wide c) → OneOf (2 ∷ 3 ∷ 7 ∷ 8 ∷ 10 ∷ []) (status_of r)
+pub wide_status : (c : Contract) → IsLawful c → (r : Refusal) (told : Option (List ℕ)) (out now : OutputSeen) → (r ≡ refusal.BadWords → ⊥) → OfInput c r told → OfOutput c r told out now → IsSomeAnd told (Wide c) → OneOf (2 ∷ 3 ∷ 7 ∷ 8 ∷ 10 ∷ []) (status_of r)
 wide_status c law refusal.BadWords told out now w t k h = absurd (w refl)
 wide_status c law refusal.ReadFault told out now w t k h = inl refl
 wide_status c law refusal.TooLong told out now w t k h = inr (inl refl)
@@ -167,7 +167,7 @@ wide_status c law refusal.Stopped told out now w t k h = inr (inr (inr (inl refl
 wide_status c law refusal.WriteFault told out now w t k h = absurd (clash told (Short (Good c)) (Wide c) (λ b p q. wide_good c law b q p.holds) (front_good c told out now k.1) h)
 wide_status c law refusal.Memory told out now w t k h = inr (inr (inr (inr (inl refl))))
 
-good_status : (c : Contract) → IsLawful c → (r : Refusal) (told : Option (List ℕ)) (input rest : InputSeen) → (r ≡ refusal.BadWords → ⊥) → OfReading r told input rest → OfInput c r told → IsSomeAnd told (ShortGood c) → OneOf (0 ∷ 2 ∷ 8 ∷ 9 ∷ 10 ∷ []) (status_of r)
+pub good_status : (c : Contract) → IsLawful c → (r : Refusal) (told : Option (List ℕ)) (input rest : InputSeen) → (r ≡ refusal.BadWords → ⊥) → OfReading r told input rest → OfInput c r told → IsSomeAnd told (ShortGood c) → OneOf (0 ∷ 2 ∷ 8 ∷ 9 ∷ 10 ∷ []) (status_of r)
 good_status c law refusal.BadWords told input rest w read t h = absurd (w refl)
 good_status c law refusal.ReadFault told input rest w read t h = inr (inl refl)
 good_status c law refusal.TooLong told input rest w read t h = absurd (clash told IsTooMany (ShortGood c) (λ b p q. too_many b q.short p) read.many h)
@@ -231,28 +231,28 @@ good_ended_by (Some a) r input rest w d t h = good_status (contract_of a) (lawfu
 pub good_ended : (r : Refusal) (words : List (List ℕ)) (input rest : InputSeen) → OfWords r words → ReadingOf r words input rest → InputOf r words input → IsInput words input ShortGood → OneOf (0 ∷ 2 ∷ 8 ∷ 9 ∷ 10 ∷ []) (status_of r)
 good_ended r words input rest w d t h = good_ended_by (request words) r input rest (known (request words) r (λ a. IsSomeAnd (told_to a input) (ShortGood (contract_of a))) w h) d t h
 
-long_ran_by : (asked : Option Request) (input now : InputSeen) → is_asked asked (λ a. WasRead (source_of a) input now) → is_asked asked (λ a. IsSomeAnd (told_to a input) (IsTooMany)) → ⊥
+pub long_ran_by : (asked : Option Request) (input now : InputSeen) → is_asked asked (λ a. WasRead (source_of a) input now) → is_asked asked (λ a. IsSomeAnd (told_to a input) (IsTooMany)) → ⊥
 long_ran_by None input now h k = k
 long_ran_by (Some a) input now h k = clash (told_to a input) (λ bytes. length bytes ≤ limit) IsTooMany (λ b p q. too_many b p q) (short_read (source_of a) input now h) k
 
 pub long_ran : (words : List (List ℕ)) (input now : InputSeen) → IsRead words input now → IsInput words input Long → OneOf (2 ∷ 3 ∷ 10 ∷ []) 0
 long_ran words input now h k = absurd (long_ran_by (request words) input now h k)
 
-none_ran_by : (asked : Option Request) (input : InputSeen) (out now : OutputSeen) → is_asked asked (λ a. WroteTold (contract_of a) (told_to a input) out now) → is_asked asked (λ a. IsSomeAnd (told_to a input) (NoInput (contract_of a))) → ⊥
+pub none_ran_by : (asked : Option Request) (input : InputSeen) (out now : OutputSeen) → is_asked asked (λ a. WroteTold (contract_of a) (told_to a input) out now) → is_asked asked (λ a. IsSomeAnd (told_to a input) (NoInput (contract_of a))) → ⊥
 none_ran_by None input out now h k = k
 none_ran_by (Some a) input out now h k = clash (told_to a input) (Good (contract_of a)) (NoInput (contract_of a)) (λ b p q. (lawful a).kind.some b p.input q p.read) (wrote_good (contract_of a) (told_to a input) out now h) k
 
 pub none_ran : (words : List (List ℕ)) (input : InputSeen) (out now : OutputSeen) → Wrote words input out now → IsInput words input NoInput → OneOf (2 ∷ 3 ∷ 5 ∷ 10 ∷ []) 0
 none_ran words input out now h k = absurd (none_ran_by (request words) input out now h k)
 
-refused_ran_by : (n : ℕ) (asked : Option Request) (input : InputSeen) (out now : OutputSeen) → is_asked asked (λ a. WroteTold (contract_of a) (told_to a input) out now) → is_asked asked (λ a. IsSomeAnd (told_to a input) (RefusedAs n (contract_of a))) → ⊥
+pub refused_ran_by : (n : ℕ) (asked : Option Request) (input : InputSeen) (out now : OutputSeen) → is_asked asked (λ a. WroteTold (contract_of a) (told_to a input) out now) → is_asked asked (λ a. IsSomeAnd (told_to a input) (RefusedAs n (contract_of a))) → ⊥
 refused_ran_by n None input out now h k = k
 refused_ran_by n (Some a) input out now h k = clash (told_to a input) (Good (contract_of a)) (RefusedAs n (contract_of a)) (λ b p q. sound_refused (contract_of a) (lawful a) n b (good_sound (contract_of a) b p) q) (wrote_good (contract_of a) (told_to a input) out now h) k
 
 pub refused_ran : (n : ℕ) (words : List (List ℕ)) (input : InputSeen) (out now : OutputSeen) → Wrote words input out now → IsInput words input (RefusedAs n) → OneOf (2 ∷ 3 ∷ n ∷ 10 ∷ []) 0
 refused_ran n words input out now h k = absurd (refused_ran_by n (request words) input out now h k)
 
-wide_ran_by : (asked : Option Request) (input : InputSeen) (out now : OutputSeen) → is_asked asked (λ a. WroteTold (contract_of a) (told_to a input) out now) → is_asked asked (λ a. IsSomeAnd (told_to a input) (Wide (contract_of a))) → ⊥
+pub wide_ran_by : (asked : Option Request) (input : InputSeen) (out now : OutputSeen) → is_asked asked (λ a. WroteTold (contract_of a) (told_to a input) out now) → is_asked asked (λ a. IsSomeAnd (told_to a input) (Wide (contract_of a))) → ⊥
 wide_ran_by None input out now h k = k
 wide_ran_by (Some a) input out now h k = clash (told_to a input) (Good (contract_of a)) (Wide (contract_of a)) (λ b p q. wide_good (contract_of a) (lawful a) b q p) (wrote_good (contract_of a) (told_to a input) out now h) k
 
@@ -261,7 +261,7 @@ wide_ran words input out now h k = absurd (wide_ran_by (request words) input out
 
 -- ---- what a status says of the bytes
 
-says_nothing_by : (asked : Option Request) (r : Refusal) (input : InputSeen) → if_asked asked (λ a. OfInput (contract_of a) r (told_to a input)) → status_of r ≡ 4 → if_asked asked (λ a. IfSome (told_to a input) (Nothing (contract_of a)))
+pub says_nothing_by : (asked : Option Request) (r : Refusal) (input : InputSeen) → if_asked asked (λ a. OfInput (contract_of a) r (told_to a input)) → status_of r ≡ 4 → if_asked asked (λ a. IfSome (told_to a input) (Nothing (contract_of a)))
 says_nothing_by None r input t e = tt
 says_nothing_by (Some a) refusal.BadWords input t e = absurd (omega (arith, e))
 says_nothing_by (Some a) refusal.ReadFault input t e = absurd (omega (arith, e))
@@ -277,7 +277,7 @@ says_nothing_by (Some a) refusal.Memory input t e = absurd (omega (arith, e))
 pub says_nothing : (r : Refusal) (words : List (List ℕ)) (input : InputSeen) → InputOf r words input → status_of r ≡ 4 → IfInput words input Nothing
 says_nothing r words input t e = says_nothing_by (request words) r input t e
 
-says_none_by : (asked : Option Request) (r : Refusal) (input : InputSeen) → if_asked asked (λ a. OfInput (contract_of a) r (told_to a input)) → status_of r ≡ 5 → if_asked asked (λ a. IfSome (told_to a input) (NoInput (contract_of a)))
+pub says_none_by : (asked : Option Request) (r : Refusal) (input : InputSeen) → if_asked asked (λ a. OfInput (contract_of a) r (told_to a input)) → status_of r ≡ 5 → if_asked asked (λ a. IfSome (told_to a input) (NoInput (contract_of a)))
 says_none_by None r input t e = tt
 says_none_by (Some a) refusal.BadWords input t e = absurd (omega (arith, e))
 says_none_by (Some a) refusal.ReadFault input t e = absurd (omega (arith, e))
@@ -293,7 +293,7 @@ says_none_by (Some a) refusal.Memory input t e = absurd (omega (arith, e))
 pub says_none : (r : Refusal) (words : List (List ℕ)) (input : InputSeen) → InputOf r words input → status_of r ≡ 5 → IfInput words input NoInput
 says_none r words input t e = says_none_by (request words) r input t e
 
-says_fault_by : (asked : Option Request) (r : Refusal) (input : InputSeen) → if_asked asked (λ a. OfInput (contract_of a) r (told_to a input)) → status_of r ≡ 6 → if_asked asked (λ a. IfSome (told_to a input) (RefusedAs 6 (contract_of a)))
+pub says_fault_by : (asked : Option Request) (r : Refusal) (input : InputSeen) → if_asked asked (λ a. OfInput (contract_of a) r (told_to a input)) → status_of r ≡ 6 → if_asked asked (λ a. IfSome (told_to a input) (RefusedAs 6 (contract_of a)))
 says_fault_by None r input t e = tt
 says_fault_by (Some a) refusal.BadWords input t e = absurd (omega (arith, e))
 says_fault_by (Some a) refusal.ReadFault input t e = absurd (omega (arith, e))
@@ -309,7 +309,7 @@ says_fault_by (Some a) refusal.Memory input t e = absurd (omega (arith, e))
 pub says_fault : (r : Refusal) (words : List (List ℕ)) (input : InputSeen) → InputOf r words input → status_of r ≡ 6 → IfInput words input (RefusedAs 6)
 says_fault r words input t e = says_fault_by (request words) r input t e
 
-says_many_by : (asked : Option Request) (r : Refusal) (input : InputSeen) → if_asked asked (λ a. OfInput (contract_of a) r (told_to a input)) → status_of r ≡ 7 → if_asked asked (λ a. IfSome (told_to a input) (TooWide (contract_of a)))
+pub says_many_by : (asked : Option Request) (r : Refusal) (input : InputSeen) → if_asked asked (λ a. OfInput (contract_of a) r (told_to a input)) → status_of r ≡ 7 → if_asked asked (λ a. IfSome (told_to a input) (TooWide (contract_of a)))
 says_many_by None r input t e = tt
 says_many_by (Some a) refusal.BadWords input t e = absurd (omega (arith, e))
 says_many_by (Some a) refusal.ReadFault input t e = absurd (omega (arith, e))
@@ -325,7 +325,7 @@ says_many_by (Some a) refusal.Memory input t e = absurd (omega (arith, e))
 pub says_many : (r : Refusal) (words : List (List ℕ)) (input : InputSeen) → InputOf r words input → status_of r ≡ 7 → IfInput words input TooWide
 says_many r words input t e = says_many_by (request words) r input t e
 
-says_sound_by : (asked : Option Request) (r : Refusal) (input : InputSeen) → if_asked asked (λ a. OfInput (contract_of a) r (told_to a input)) → status_of r ≡ 8 → if_asked asked (λ a. IfSome (told_to a input) (Sound (contract_of a)))
+pub says_sound_by : (asked : Option Request) (r : Refusal) (input : InputSeen) → if_asked asked (λ a. OfInput (contract_of a) r (told_to a input)) → status_of r ≡ 8 → if_asked asked (λ a. IfSome (told_to a input) (Sound (contract_of a)))
 says_sound_by None r input t e = tt
 says_sound_by (Some a) refusal.BadWords input t e = absurd (omega (arith, e))
 says_sound_by (Some a) refusal.ReadFault input t e = absurd (omega (arith, e))

@@ -6,6 +6,7 @@ pub mod SelfTestCommand
 pub mod ReconcileCommand
 pub mod HelpCommand
 pub mod VersionCommand
+pub mod StreamCommand
 use Rattle.std.specs.Prelude.{ℕ, ◌≡◌, ◌≤◌, List, [], ◌∷◌, codes, Bool, true, false, Option, Some, None, ⊤, if◌then◌else◌}
 use Rattle.std.specs.Option.{option_copied}
 use Rattle.std.specs.Str.{bytes_eq}
@@ -19,10 +20,11 @@ use Rattle.pipe_cli.specs.Commands.SelfTestCommand.{selftest}
 use Rattle.pipe_cli.specs.Commands.ReconcileCommand.{reconcile}
 use Rattle.pipe_cli.specs.Commands.HelpCommand.{help}
 use Rattle.pipe_cli.specs.Commands.VersionCommand.{version}
+use Rattle.pipe_cli.specs.Commands.StreamCommand.{stream}
 use Rattle.pipe_cli.specs.declared.commands.Command.{Command}
 use Rattle.pipe_cli.specs.declared.commands.Command.TheVariants as command
 
--- what is asked for
+-- what is asked for; a stream is asked of `run_words` alone
 pub data Request : Type 0 where
   Run : (name : Option (List ℕ)) → Request
   Check : Request
@@ -31,6 +33,7 @@ pub data Request : Type 0 where
   Reconcile : Request
   Help : Request
   Version : Request
+  Stream : Request
 
 -- what it promises
 abbrev pub contract_of : Request → Contract
@@ -41,6 +44,7 @@ contract_of (SelfTest start rows) = selftest start rows
 contract_of Reconcile = reconcile
 contract_of Help = help
 contract_of Version = version
+contract_of Stream = stream
 
 -- where its input stands
 abbrev pub source_of : Request → Source
@@ -51,6 +55,7 @@ source_of (SelfTest start rows) = Nowhere
 source_of Reconcile = Standard
 source_of Help = Nowhere
 source_of Version = Nowhere
+source_of Stream = Standard
 
 -- the request of one word
 abbrev pub word_request : List ℕ → Option Request

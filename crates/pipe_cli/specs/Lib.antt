@@ -16,5 +16,7 @@ pub mod Commands
 pub mod Refused
 -- what a run says of its input, its output and its notes
 pub mod Outcome
+-- what a run says of a stream, and of other words
+pub mod Streams
 -- the text of an answer
 pub mod Answers

@@ -24,6 +24,7 @@ use self::check::check;
 use self::explain::explain;
 use self::help::help_text;
 use self::reconcile::reconcile;
+pub(crate) use self::run::frame_of;
 use self::run::run;
 use self::selftest::selftest;
 use self::version::version_text;

@@ -1,6 +1,6 @@
 //! The outside and the top call.
 //!
-//! The one contract of this crate is that of `run_program`: where it answers 0, the input was read to its end, and
+//! The one contract of this crate is that of `run_program`, which `run_words` carries for all words but `stream`: where it answers 0, the input was read to its end, and
 //! what was written is the answer to it; every other status has its cause as a clause. What a command adds to that
 //! is one record, in a file of its own.
 #![tactic(auto)]
@@ -13,7 +13,9 @@ mod program;
 mod recons;
 mod refused;
 mod status;
+mod stream;
 mod streams;
+mod words;
 
 pub use commands::{Command, command_of};
 pub use laws::commands_are_lawful;
@@ -24,3 +26,4 @@ pub use pipe_outside::{
 };
 pub use program::run_program;
 pub use status::Refusal;
+pub use words::run_words;

@@ -99,7 +99,7 @@ fn attempt<T: Threads + Sync, R: JobReader, W: RowWriter, C: StopCheck, G: Gate 
 }
 
 /// Notes why there is no answer.
-fn note<N: RowWriter>(notes: &mut N, refusal: &Refusal)
+pub(crate) fn note<N: RowWriter>(notes: &mut N, refusal: &Refusal)
     ensures { Noted (line_of refusal.now) (N.seen notes.old) (N.seen notes.new) }
 {
     // A note that can't be written changes nothing.

@@ -80,6 +80,7 @@ pub(crate) fn tell<W: RowWriter>(out: &mut W, text: &[u8]) -> Result<(), Refusal
     ensures front { OnErr result (WritesFront text.now (W.seen out.old) (W.seen out.new)) }
     ensures err { IfErr result (λ refusal. refusal ≡ Refusal.WriteFault) }
     ensures cause { OnErr result (WriteFails (W.seen out.old) (W.seen out.new)) }
+    ensures faults { (W.seen out.old).faults ≤ (W.seen out.new).faults }
 {
     match write_whole(out, text) {
         Ok(()) => Ok(()),

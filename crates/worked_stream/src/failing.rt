@@ -20,11 +20,13 @@ pub(crate) fn tell_failed<T: Threads + Wait + Sync>(
         return answers.push_str("too long a frame\n");
     }
     let mut out = writer(alloc, call)?;
-    answers.push_str(match stream_frame(rt, alloc, &frame, BLOCK_ROWS, &RowLines, &mut out) {
-        Ok(_) => "put whole, ",
-        Err(StreamError::PutFault) => "PutFault, ",
-        Err(StreamError::Memory) => "Memory, ",
-    })?;
+    answers.push_str(
+        match stream_frame(rt, alloc, &frame, BLOCK_ROWS, &RowLines, &mut out) {
+            Ok(_) => "put whole, ",
+            Err(StreamError::PutFault) => "PutFault, ",
+            Err(StreamError::Memory) => "Memory, ",
+        },
+    )?;
     answers.push_str(match out.bytes().len() {
         0 => "no block\n",
         8 => "one block\n",

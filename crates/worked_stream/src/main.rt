@@ -8,6 +8,7 @@ mod orders;
 mod refused;
 mod renders;
 mod table;
+mod words;
 
 use std::io;
 

@@ -22,11 +22,13 @@ pub(crate) fn tell_refused<T: Threads + Wait + Sync>(
     }
     let mut out = writer(alloc, 0)?;
     let lines = Refusing { row };
-    answers.push_str(match stream_frame(rt, alloc, &frame, BLOCK_ROWS, &lines, &mut out) {
-        Ok(_) => "put whole, ",
-        Err(StreamError::PutFault) => "PutFault, ",
-        Err(StreamError::Memory) => "Memory, ",
-    })?;
+    answers.push_str(
+        match stream_frame(rt, alloc, &frame, BLOCK_ROWS, &lines, &mut out) {
+            Ok(_) => "put whole, ",
+            Err(StreamError::PutFault) => "PutFault, ",
+            Err(StreamError::Memory) => "Memory, ",
+        },
+    )?;
     answers.push_str(if out.bytes().len() % 8 == 0 {
         "whole blocks\n"
     } else {

@@ -1,6 +1,6 @@
 //! The cases, in the order in which they are told.
 
-use crate::{failing, meeting, orders, refused};
+use crate::{failing, meeting, orders, refused, words};
 use std::alloc::{AllocError, Global};
 use std::sync::Wait;
 use std::thread::Threads;
@@ -21,5 +21,6 @@ pub(crate) fn answers<T: Threads + Wait + Sync>(
     for row in [0, 2, 5] {
         refused::tell_refused(rt, alloc, &mut answers, row)?;
     }
+    words::tell_words(rt, alloc, &mut answers)?;
     Ok(answers)
 }

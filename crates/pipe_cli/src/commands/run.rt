@@ -26,7 +26,7 @@ use std::thread::Threads;
 
 /// The rows of a job.
 #[tactic(auto, using(crate::proofs::JobLemmas::told_run, crate::proofs::RuleLemmas::told_yes, crate::proofs::RuleLemmas::told_last))]
-fn frame_of<T: Threads + Sync, C: StopCheck, G: Gate + Sync>(
+pub(crate) fn frame_of<T: Threads + Sync, C: StopCheck, G: Gate + Sync>(
     rt: &T,
     alloc: Global,
     job: &Job,
