@@ -308,7 +308,7 @@ def parser_of() -> argparse.ArgumentParser:
     made.add_argument("files", nargs="+", metavar="FILE", help="the files that are frame 0, 1, ..")
     made = command("sql", do_sql)
     made.add_argument("query", help="the query")
-    made.add_argument("files", nargs="+", metavar="NAME=FILE", help="a table's name and its file; the file's own name if none is told")
+    made.add_argument("files", nargs="+", metavar="NAME=FILE", help="a table's name and its file; or a file alone")
     made = command("reconcile", do_reconcile, outputs=False)
     made.add_argument("files", nargs=2, metavar="FILE")
     made.add_argument("--on", type=names_of, required=True, metavar="NAME,..", help="the key's columns")

@@ -164,8 +164,8 @@ class Field(Column):
         if self.looks in WAYS:
             form, what = WAYS[self.looks]
             how = f"types={{{self.name!r}: {form!r}}} (--types {self.name}:{form}) reads them {what}"
-            words = f"{self.path}: {self.name!r} looks like {self.looks}, and is read as texts, which sort and join as texts; {how}"
-            warnings.warn(words, TypeWarning, stacklevel=2)
+            words = f"{self.path}: {self.name!r} looks like {self.looks}, and is read as texts, which sort and join as texts"
+            warnings.warn(f"{words}; {how}", TypeWarning, stacklevel=2)
 
     def tell(self, text: str, dtype: DType | None) -> None:
         """The type is told: one of the program's, or the form of its dates, which become texts in the order of ISO."""

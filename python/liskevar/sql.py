@@ -173,8 +173,9 @@ class Query:
             blurred = [name for name, real in pairs if real is None]
             if blurred:
                 raise self.text.refuse(it, BLURRED.format(blurred[0]))
-            once = dict(pair for pair in pairs if pair[0] in shared)
-            return [(name, col(str(real))) for name, real in [*once.items(), *(it for it in pairs if it[0] not in shared)]]
+            # a column that USING shares stands once, where the first table has it, as sqlite3 has it
+            kept = [it for place, it in enumerate(pairs) if it[0] not in shared or it not in pairs[:place]]
+            return [(name, col(str(real))) for name, real in kept]
         value = it.this if it.key == "alias" else it
         name = it.alias if it.key == "alias" else value.name if value.key == "column" else value.sql()
         expr = self.text.expression(value, scope.find)

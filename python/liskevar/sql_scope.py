@@ -191,7 +191,7 @@ class Sides:
         if joining.how in ("semi", "anti"):
             return self.left.over(node)
         names = joined_names(self.left.node.schema, self.right.node.schema, dropped, joining)
-        parts = [Part(it.alias, {name: old and names.get(old, old) for name, old in it.columns.items()}) for it in self.right.parts]
+        parts = [Part(it.alias, {n: old and names.get(old, old) for n, old in it.columns.items()}) for it in self.right.parts]
         shared = {name: names.get(old, old) for name, old in self.right.shared.items()}
         return Scope(node, self.left.parts + parts, {**shared, **self.left.shared})
 

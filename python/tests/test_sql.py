@@ -196,7 +196,18 @@ class Queries:
         items = ", ".join(self.pick(f"{self.pick(*names)}.k", f"{self.pick(*names)}.n - 1") + f" as c{it}" for it in range(2))
         return f"select {items}, {self.pick(*names)}.t as c2 {text}"
 
+    def shared(self):
+        """A join of columns that become one."""
+        names = self.pick("k", "k, t")
+        sides = [self.pick("join", "left join", "right join", "full join") for _ in range(self.chance.choice([1, 1, 2]))]
+        text = "r x0" + "".join(f" {side} {table} x{n} using ({names})" for n, (side, table) in enumerate(zip(sides, "su"), start=1))
+        where = self.pick("", " where k > 1", " where k is null or x0.n < 2", " where x1.n is null")
+        items = "k, x0.n, x1.n as m, k + 1 as l" if names == "k" else "t, k, x0.n, x1.n as m"
+        return f"select {self.pick('*', items)} from {text}{where}"
+
     def query(self):
+        if self.rare(0.15):
+            return self.shared()
         if self.rare(0.2):
             text = f"{self.select()} union all {self.select()}"
         else:
