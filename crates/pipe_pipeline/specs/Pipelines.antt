@@ -67,3 +67,8 @@ HaltsBy op s limit from rows stages given last (Refused r) =
 abbrev pub HasLanesFor : Table → PExecutionContext → Type 0
 HasLanesFor frame context =
     (context.workers ≡ 1) ⊎ ((context.workers - 1) * context.chunk_rows < length frame.rows)
+
+-- and as many as there are workers, or as it has chunks: those of all lanes are the whole frame
+abbrev pub IsFullFor : (workers : ℕ) → Table → PExecutionContext → Type 0
+IsFullFor workers frame context =
+    (context.workers ≡ workers) ⊎ (length frame.rows ≤ context.workers * context.chunk_rows)
