@@ -15,7 +15,7 @@ use Rattle.pipe_run.specs.declared.entry.Entry.{Entry}
 use Rattle.pipe_run.specs.declared.stage.Refusal.{Refusal}
 use Rattle.pipe_run.specs.declared.stage.Refusal.TheVariants.{Memory}
 use Rattle.pipe_run.specs.declared.lane.Lane.{Lane}
-use Rattle.pipe_run.specs.Claimed.{rows_in, rows_at, entries_for, entries_at, schema_in, IsOfSchema, drawn_at, drawn_in, past, Took}
+use Rattle.pipe_run.specs.Claimed.{rows_in, rows_at, entries_for, entries_at, schema_in, IsOfSchema, drawn_at, drawn_in, past, Lot, Took}
 use Rattle.std.specs.Option.{is_some}
 use Rattle.pipe_run.proofs.LaneSteps.{ran-none, ran-on}
 use Rattle.pipe_chain.specs.Chain.{AllServe}
@@ -118,44 +118,43 @@ module _ {O K : Type 0} where
   lane-next a b c e f =
       subst (λ (x : Vec Entry Global). c ≡ record a { seat = c.seat; entries = x }) (sym (ap (λ (l : Lane O K). l.entries) f)) (f ∙ ap (λ (l : Lane O K). record l { seat = c.seat }) e)
 
-module _ {O S K B C : Type 0} (op : OperatorWords O S) (sink : SinkWords K B C) (ss : List S) (limit : ℕ) (ms : List Morsel) where
+module _ {O S K B C : Type 0} (op : OperatorWords O S) (sink : SinkWords K B C) (ss : List S) (limit : ℕ) (lot : Lot) where
   abbrev Took_ : List ℕ → Lane O K → Lane O K → Type 0
-  Took_ ns old new = Took op sink ss limit ms ns old new
+  Took_ ns old new = Took op sink ss limit lot ns old new
 
   took-as : (ns drawn : List ℕ) (a b : Lane O K) → drawn ≡ ns → Took_ ns a b → Took_ drawn a b
   took-as ns drawn a b e h = subst (λ (l : List ℕ). Took_ l a b) (sym e) h
 
-  -- a lane that drew nothing took no chunk
+  -- a lane that drew nothing took nothing
   pub took-fresh : (a : Lane O K) → AllServe op (lane_operators a) ss → drawn_in a ≡ [] → Took_ (drawn_in a) a a
   took-fresh a serve fresh =
-      took-as [] (drawn_in a) a a fresh (record { ran = ran-none op sink ss limit (schema_in ms) a serve; entries = sym (append-nil a.entries.items) })
+      took-as [] (drawn_in a) a a fresh (record { ran = ran-none op sink ss limit lot.from a serve; entries = sym (append-nil a.entries.items) })
 
-  -- a number past the chunks stands for none
-  pub took-past : (a b c : Lane O K) (n : ℕ) → Took_ (drawn_in b) a b → c ≡ record b { seat = c.seat; entries = c.entries } → c.entries.items ≡ b.entries.items → drawn_in c ≡ drawn_in b ++ n ∷ [] → length ms ≤ n → Took_ (drawn_in c) a c
-  took-past a b c n known same noted drawn past_it =
-      let rows = flat-same (rows_at ms) (drawn_in b) (drawn_in c) n drawn (rows-past ms n past_it) in
-      let entries = flat-same (entries_at ms) (drawn_in b) (drawn_in c) n drawn (entries-past ms n past_it) in
+  -- a number past the last stands for nothing
+  pub took-past : (a b c : Lane O K) (n : ℕ) → Took_ (drawn_in b) a b → c ≡ record b { seat = c.seat; entries = c.entries } → c.entries.items ≡ b.entries.items → drawn_in c ≡ drawn_in b ++ n ∷ [] → lot.rows n ≡ [] → lot.entries n ≡ [] → Took_ (drawn_in c) a c
+  took-past a b c n known same noted drawn no_rows no_entries =
+      let rows = flat-same lot.rows (drawn_in b) (drawn_in c) n drawn no_rows in
+      let entries = flat-same lot.entries (drawn_in b) (drawn_in c) n drawn no_entries in
       record {
-        ran = subst (λ (l : List Row). Ran op sink ss limit (schema_in ms) l a c) (sym rows) (ran-next op sink ss limit (schema_in ms) (flat_map (rows_at ms) (drawn_in b)) a b c same known.ran);
+        ran = subst (λ (l : List Row). Ran op sink ss limit lot.from l a c) (sym rows) (ran-next op sink ss limit lot.from (flat_map lot.rows (drawn_in b)) a b c same known.ran);
         entries = noted ∙ known.entries ∙ ap (λ l. a.entries.items ++ l) (sym entries);
       }
 
-  -- a chunk was taken and worked on
-  pub took-worked : (a b c d : Lane O K) (n : ℕ) (m : Morsel) → Took_ (drawn_in b) a b → c ≡ record b { seat = c.seat; entries = c.entries } → c.entries.items ≡ b.entries.items → drawn_in c ≡ drawn_in b ++ n ∷ [] → n < length ms → m ≡ get_or ms n m → m.chunk.frame.schema ≡ schema_in ms → IsCalm b
-      → Ran op sink ss limit m.chunk.frame.schema (rows_in m) c d → d.entries.items ≡ c.entries.items ++ entries_for m → d.seat ≡ c.seat → Took_ (drawn_in d) a d
-  took-worked a b c d n m known same noted drawn less is under calm worked more seat =
-      let from = schema_in ms in
+  -- something was taken and worked on
+  pub took-worked : (a b c d : Lane O K) (n : ℕ) (f : List Field) (mine : List Row) (noting : List Entry) → Took_ (drawn_in b) a b → c ≡ record b { seat = c.seat; entries = c.entries } → c.entries.items ≡ b.entries.items → drawn_in c ≡ drawn_in b ++ n ∷ [] → lot.rows n ≡ mine → lot.entries n ≡ noting → f ≡ lot.from → IsCalm b
+      → Ran op sink ss limit f mine c d → d.entries.items ≡ c.entries.items ++ noting → d.seat ≡ c.seat → Took_ (drawn_in d) a d
+  took-worked a b c d n f mine noting known same noted drawn rows_are entries_are under calm worked more seat =
       let calm_c : IsCalm c = ap (λ (l : Lane O K). l.refused) same ∙ calm in
-      let before = flat_map (rows_at ms) (drawn_in b) in
-      let here = subst (λ (f : List Field). Ran op sink ss limit f (rows_in m) c d) under worked in
-      let both = ran-on op sink ss limit from before (rows_in m) a c d calm_c (ran-next op sink ss limit from before a b c same known.ran) here in
+      let before = flat_map lot.rows (drawn_in b) in
+      let here = subst (λ (x : List Field). Ran op sink ss limit x mine c d) under worked in
+      let both = ran-on op sink ss limit lot.from before mine a c d calm_c (ran-next op sink ss limit lot.from before a b c same known.ran) here in
       let all : drawn_in d ≡ drawn_in b ++ n ∷ [] = ap drawn_at seat ∙ drawn in
-      let rows : flat_map (rows_at ms) (drawn_in d) ≡ before ++ rows_in m = flat-more (rows_at ms) (drawn_in b) (drawn_in d) n all ∙ ap (λ l. before ++ l) (rows-there ms n m less is) in
-      let entries : flat_map (entries_at ms) (drawn_in d) ≡ flat_map (entries_at ms) (drawn_in b) ++ entries_for m =
-      flat-more (entries_at ms) (drawn_in b) (drawn_in d) n all ∙ ap (λ l. flat_map (entries_at ms) (drawn_in b) ++ l) (entries-there ms n m less is) in
+      let rows : flat_map lot.rows (drawn_in d) ≡ before ++ mine = flat-more lot.rows (drawn_in b) (drawn_in d) n all ∙ ap (λ l. before ++ l) rows_are in
+      let entries : flat_map lot.entries (drawn_in d) ≡ flat_map lot.entries (drawn_in b) ++ noting =
+      flat-more lot.entries (drawn_in b) (drawn_in d) n all ∙ ap (λ l. flat_map lot.entries (drawn_in b) ++ l) entries_are in
       record {
-        ran = subst (λ (l : List Row). Ran op sink ss limit from l a d) (sym rows) both;
-        entries = more ∙ ap (λ l. l ++ entries_for m) (noted ∙ known.entries) ∙ append_assoc a.entries.items (flat_map (entries_at ms) (drawn_in b)) (entries_for m) ∙ ap (λ l. a.entries.items ++ l) (sym entries);
+        ran = subst (λ (l : List Row). Ran op sink ss limit lot.from l a d) (sym rows) both;
+        entries = more ∙ ap (λ l. l ++ noting) (noted ∙ known.entries) ∙ append_assoc a.entries.items (flat_map lot.entries (drawn_in b)) noting ∙ ap (λ l. a.entries.items ++ l) (sym entries);
       }
 
   -- memory was refused before a claim
@@ -163,7 +162,7 @@ module _ {O S K B C : Type 0} (op : OperatorWords O S) (sink : SinkWords K B C) 
   took-stopped a b c calm known stopped noted =
       let same : drawn_in c ≡ drawn_in b = ap (λ (l : Lane O K). drawn_at l.seat) stopped in
       took-as (drawn_in b) (drawn_in c) a c same (record {
-        ran = ran-stopped op sink ss limit (schema_in ms) (flat_map (rows_at ms) (drawn_in b)) a b c stopped calm known.ran;
+        ran = ran-stopped op sink ss limit lot.from (flat_map lot.rows (drawn_in b)) a b c stopped calm known.ran;
         entries = noted ∙ known.entries;
       })
 

@@ -1,17 +1,18 @@
 -- Numbers that were claimed, and the chunks of these numbers.
-use Rattle.std.proofs.Common.{◌≡◌, ℕ, zero, suc, ◌+◌, ◌-◌, ◌<◌, ◌≤◌, List, [], ◌∷◌, ◌++◌, length, map, take, drop, cond, ltb, true, false, refl, ap, sym, ◌∙◌, subst, arith, lt-ltb, le-ltb}
+use Rattle.std.proofs.Common.{◌≡◌, ℕ, zero, suc, ◌+◌, ◌-◌, ◌<◌, ◌≤◌, List, [], ◌∷◌, ◌++◌, length, map, take, cond, ltb, Bool, true, false, refl, ap, sym, ◌∙◌, arith, lt-ltb, le-ltb}
 use Rattle.std.proofs.lemmas.Bool.{ltb-true, ltb-false}
 use Rattle.std.specs.List.{flat_map, range_with_len}
 use Rattle.std.proofs.lemmas.List.Concat.{flat_map-append}
-use Rattle.std.proofs.lemmas.List.{take-append-drop}
 use Rattle.pipe_frame.specs.Rows.{Row, Same, Within}
-use Rattle.pipe_frame.proofs.Weights.{total-flat_map, Same-from_bag, total as rows_total, total-append as total-rows}
+use Rattle.pipe_frame.proofs.Weights.{total-flat_map, Same-from_bag, total as rows_total}
 use Rattle.pipe_ops.specs.declared.source.Morsel.{Morsel}
 use Rattle.pipe_words.specs.Sums.{total, SameItems}
 use Rattle.pipe_words.proofs.SumLemmas.{total-append}
-use Rattle.pipe_run.specs.Claimed.{rows_in, rows_at, entries_at, past}
+use Rattle.pipe_frame.specs.declared.field.Field.{Field}
+use Rattle.pipe_run.specs.Claimed.{rows_at, past, Lot, chunks_lot, parts_lot, entries_for_part, rows_of_lot}
 use Rattle.pipe_run.specs.Dealt.{in_all, rows_of_all}
-use Rattle.pipe_chain.proofs.Weighing.{rows-refl, rows-sym, rows-append, within-by, weighs}
+use Rattle.pipe_run.specs.Flushes.{rows_of_parts}
+use Rattle.pipe_chain.proofs.Weighing.{within-by}
 use Rattle.pipe_run.proofs.ClaimSteps.{rows-past, entries-past}
 
 -- the numbers below an end
@@ -109,24 +110,13 @@ rows-first ms zero = refl
 rows-first [] (suc n) = rows-none (range_with_len 0 (suc n))
 rows-first (m ∷ ms) (suc n) = rw (flat-shift (rows_at (m ∷ ms)) (rows_at ms) (rows-next m ms) n 0, rows-first ms n) refl
 
-pub rows-split : (ms : List Morsel) (n : ℕ) → rows_of_all ms ≡ rows_of_all (take n ms) ++ rows_of_all (drop n ms)
-rows-split ms n = ap rows_of_all (sym (take-append-drop n ms)) ∙ flat_map-append rows_in (take n ms) (drop n ms)
-
 one-total : (w : ℕ → ℕ) (xs : List ℕ) → total w xs ≡ rows_total w xs
 one-total w [] = refl
 one-total w (x ∷ xs) = omega (arith, one-total w xs)
 
--- the same numbers give the same rows
-pub same-numbers : (f : ℕ → List Row) (xs ys : List ℕ) → SameItems xs ys → Same (flat_map f xs) (flat_map f ys)
-same-numbers f xs ys items = Same-from_bag (record {
-  sums = λ w.
-      let v = λ (n : ℕ). rows_total w (f n) in
-      total-flat_map f w xs ∙ sym (one-total v xs) ∙ items v ∙ one-total v ys ∙ sym (total-flat_map f w ys);
-})
-
 -- numbers past the chunks stand for nothing
 module _ {A : Type 0} (f : ℕ → List A) (end : ℕ) (none : (n : ℕ) → end ≤ n → f n ≡ []) where
-  flat-below : (ns : List ℕ) → flat_map f (below end ns) ≡ flat_map f ns
+  pub flat-below : (ns : List ℕ) → flat_map f (below end ns) ≡ flat_map f ns
   flat-below [] = refl
   flat-below (n ∷ ns) =
       elim (ltb n end) as (λ b. ltb n end ≡ b → flat_map f (cond b (n ∷ below end ns) (below end ns)) ≡ f n ++ flat_map f ns) [
@@ -134,28 +124,81 @@ module _ {A : Type 0} (f : ℕ → List A) (end : ℕ) (none : (n : ℕ) → end
         | false ↦ λ e. flat-below ns ∙ ap (λ l. l ++ flat_map f ns) (sym (none n (ltb-false n end e)))
       ] refl
 
-pub rows-below : (ms : List Morsel) (ns : List ℕ) → flat_map (rows_at ms) (below (length ms) ns) ≡ flat_map (rows_at ms) ns
-rows-below ms ns = flat-below (rows_at ms) (length ms) (rows-past ms) ns
-
-pub entries-below : (ms : List Morsel) (ns : List ℕ) → flat_map (entries_at ms) (below (length ms) ns) ≡ flat_map (entries_at ms) ns
-entries-below ms ns = flat-below (entries_at ms) (length ms) (entries-past ms) ns
-
 pub rows-in-all : (f : ℕ → List Row) (ns : List ℕ) (nss : List (List ℕ)) → flat_map f (in_all (ns ∷ nss)) ≡ flat_map f ns ++ flat_map f (in_all nss)
 rows-in-all f ns nss = flat_map-append f ns (in_all nss)
 
-module _ (ms : List Morsel) (xs : List ℕ) (claimed : ℕ) (items : SameItems xs (range_with_len 0 claimed)) where
-  -- the rows of what was claimed
-  pub rows-claimed : Same (flat_map (rows_at ms) xs) (rows_of_all (take claimed ms))
-  rows-claimed = subst (λ (l : List Row). Same (flat_map (rows_at ms) xs) l) (rows-first ms claimed) (same-numbers (rows_at ms) xs (range_with_len 0 claimed) items)
+module _ (v : ℕ → ℕ) (end : ℕ) (none : (n : ℕ) → end ≤ n → v n ≡ 0) where
+  light-past : (k a : ℕ) → end ≤ a → total v (range_with_len a k) ≡ 0
+  light-past zero a h = refl
+  light-past (suc k) a h = omega (arith, none a h, light-past k (a + 1) (omega arith))
 
-  -- and those of the other chunks
-  pub rows-unclaimed : Same (rows_of_all ms) (flat_map (rows_at ms) xs ++ rows_of_all (drop claimed ms))
-  rows-unclaimed = subst (λ (l : List Row). Same l (flat_map (rows_at ms) xs ++ rows_of_all (drop claimed ms))) (sym (rows-split ms claimed)) (rows-append (rows-sym rows-claimed) (rows-refl (rows_of_all (drop claimed ms))))
+  light-claimed : (claimed : ℕ) → end ≤ claimed → total v (range_with_len 0 claimed) ≡ total v (range_with_len 0 end)
+  light-claimed claimed h =
+      let k : end + (claimed - end) ≡ claimed = omega arith in
+      omega (arith, ap (λ n. total v (range_with_len 0 n)) k, total-range v end (claimed - end) 0, light-past (claimed - end) (0 + end) (omega arith))
 
-  -- all of them, where none is left
-  pub rows-all : length ms ≤ claimed → Same (flat_map (rows_at ms) xs) (rows_of_all ms)
-  rows-all h = subst (λ (l : List Morsel). Same (flat_map (rows_at ms) xs) (rows_of_all l)) (take-all claimed ms h) rows-claimed
+heavy-claimed : (v : ℕ → ℕ) (claimed end : ℕ) → claimed ≤ end → total v (range_with_len 0 claimed) ≤ total v (range_with_len 0 end)
+heavy-claimed v claimed end h =
+    let k : claimed + (end - claimed) ≡ end = omega arith in
+    omega (arith, ap (λ n. total v (range_with_len 0 n)) k, total-range v claimed (end - claimed) 0)
+
+-- where all numbers below an end were claimed, and no other stands for any row
+module _ (f : ℕ → List Row) (end : ℕ) (none : (n : ℕ) → end ≤ n → f n ≡ []) (xs : List ℕ) (claimed : ℕ) (items : SameItems xs (range_with_len 0 claimed)) where
+  weighs-claimed : (w : Row → ℕ) → rows_total w (flat_map f xs) ≡ total (λ n. rows_total w (f n)) (range_with_len 0 claimed)
+  weighs-claimed w =
+      let v = λ (n : ℕ). rows_total w (f n) in
+      total-flat_map f w xs ∙ sym (one-total v xs) ∙ items v
+
+  weighs-all : (w : Row → ℕ) → rows_total w (flat_map f (range_with_len 0 end)) ≡ total (λ n. rows_total w (f n)) (range_with_len 0 end)
+  weighs-all w =
+      let v = λ (n : ℕ). rows_total w (f n) in
+      total-flat_map f w (range_with_len 0 end) ∙ sym (one-total v (range_with_len 0 end))
+
+  pub rows-all : end ≤ claimed → Same (flat_map f xs) (flat_map f (range_with_len 0 end))
+  rows-all h = Same-from_bag (record {
+    sums = λ w.
+        let v = λ (n : ℕ). rows_total w (f n) in
+        weighs-claimed w ∙ light-claimed v end (λ n less. ap (rows_total w) (none n less)) claimed h ∙ sym (weighs-all w);
+  })
 
   -- no more than all of them
-  pub claimed-within : Within (flat_map (rows_at ms) xs) (rows_of_all ms)
-  claimed-within = within-by (λ w. omega (arith, weighs rows-unclaimed w, total-rows w (flat_map (rows_at ms) xs) (rows_of_all (drop claimed ms))))
+  pub claimed-within : Within (flat_map f xs) (flat_map f (range_with_len 0 end))
+  claimed-within = within-by (λ w.
+      let v = λ (n : ℕ). rows_total w (f n) in
+      elim (ltb claimed end) as (λ b. ltb claimed end ≡ b → rows_total w (flat_map f xs) ≤ rows_total w (flat_map f (range_with_len 0 end))) [
+        | true ↦ λ e. omega (arith, weighs-claimed w, weighs-all w, heavy-claimed v claimed end (let less = ltb-true claimed end e in omega arith))
+        | false ↦ λ e. omega (arith, weighs-claimed w, weighs-all w, light-claimed v end (λ n less. ap (rows_total w) (none n less)) claimed (ltb-false claimed end e))
+      ] refl)
+
+-- all chunks
+pub chunks-rows : (ms : List Morsel) → rows_of_lot (chunks_lot ms) ≡ rows_of_all ms
+chunks-rows ms = rows-first ms (length ms) ∙ ap rows_of_all (take-all (length ms) ms (omega arith))
+
+-- numbers past the last stand for nothing
+pub record IsLot (lot : Lot) : Type 0 where
+  pub no_rows : (n : ℕ) → lot.count ≤ n → lot.rows n ≡ []
+  pub no_entries : (n : ℕ) → lot.count ≤ n → lot.entries n ≡ []
+
+pub chunks-are : (ms : List Morsel) → IsLot (chunks_lot ms)
+chunks-are ms = record { no_rows = rows-past ms; no_entries = entries-past ms }
+
+module _ {S : Type 0} (parts : S → ℕ) (part_of : S → ℕ → List Row) (from : List Field) (s : S) where
+  pub parts-are : IsLot (parts_lot parts part_of from s)
+  parts-are = record {
+    no_rows = λ n less. ap (λ (b : Bool). cond b (part_of s n) []) (le-ltb n (parts s) less);
+    no_entries = λ n less. ap (λ (b : Bool). cond b (entries_for_part n) []) (le-ltb n (parts s) less);
+  }
+
+  pub part-rows : (n : ℕ) → n < parts s → (parts_lot parts part_of from s).rows n ≡ part_of s n
+  part-rows n less = ap (λ (b : Bool). cond b (part_of s n) []) (lt-ltb n (parts s) less)
+
+  pub part-entries : (n : ℕ) → n < parts s → (parts_lot parts part_of from s).entries n ≡ entries_for_part n
+  part-entries n less = ap (λ (b : Bool). cond b (entries_for_part n) []) (lt-ltb n (parts s) less)
+
+  parts-from : (k a : ℕ) → a + k ≤ parts s → flat_map (parts_lot parts part_of from s).rows (range_with_len a k) ≡ flat_map (part_of s) (range_with_len a k)
+  parts-from zero a h = refl
+  parts-from (suc k) a h = rw (part-rows a (omega arith), parts-from k (a + 1) (omega arith)) refl
+
+  -- all partitions
+  pub parts-rows : rows_of_lot (parts_lot parts part_of from s) ≡ rows_of_parts parts part_of s
+  parts-rows = parts-from (parts s) 0 (omega arith)

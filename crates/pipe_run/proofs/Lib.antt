@@ -10,3 +10,4 @@ pub mod RoundSteps
 pub mod Asked
 pub mod SeatSteps
 pub mod Splits
+pub mod FlushSteps

@@ -1,6 +1,6 @@
--- Chunks that lanes claim by their numbers.
+-- Chunks and partitions that lanes claim by their numbers.
 use Rattle.std.specs.Prelude.{◌≡◌, ℕ, zero, suc, ◌<◌, List, [], ◌∷◌, ◌++◌, length, Option, Some, None, cond, ltb}
-use Rattle.std.specs.List.{flat_map}
+use Rattle.std.specs.List.{flat_map, range_with_len}
 use Rattle.atomic_table.specs.Seated.{TableId}
 use Rattle.pipe_frame.specs.Rows.{Row}
 use Rattle.pipe_frame.specs.declared.field.Field.{Field}
@@ -11,7 +11,7 @@ use Rattle.pipe_words.specs.Claims.{SeatClaims}
 use Rattle.pipe_words.specs.Sums.{total}
 use Rattle.pipe_run.specs.declared.lane.Lane.{Lane}
 use Rattle.pipe_run.specs.declared.entry.Entry.{Entry}
-use Rattle.pipe_run.specs.declared.entry.Entry.TheVariants.{Take, Done}
+use Rattle.pipe_run.specs.declared.entry.Entry.TheVariants.{Take, Flush, Done}
 use Rattle.pipe_run.specs.Lanes.{IsCalm, Ran}
 
 -- the rows of a chunk, and those of the chunk of a number, none past the last
@@ -52,11 +52,45 @@ drawn_in lane = drawn_at lane.seat
 abbrev pub IsFresh : {O K : Type 0} → Lane O K → Type 0
 IsFresh lane = drawn_in lane ≡ []
 
--- a lane worked on the chunks of these numbers, and noted them in this order
+-- what lanes claim by its number, each number below a count once: what comes of one is rows of a
+-- schema, and entries in the lane's journal
+pub record Lot : Type 0 where
+  pub count : ℕ
+  pub from : List Field
+  pub rows : ℕ → List Row
+  pub entries : ℕ → List Entry
+
+-- some chunks
+abbrev pub chunks_lot : List Morsel → Lot
+chunks_lot ms = record {
+  count = length ms;
+  from = schema_in ms;
+  rows = rows_at ms;
+  entries = entries_at ms;
+}
+
+-- the partitions of a flush
+abbrev pub entries_for_part : ℕ → List Entry
+entries_for_part part = Flush part ∷ Done ∷ []
+
+abbrev pub parts_lot : {S : Type 0} → (parts : S → ℕ) → (part_of : S → ℕ → List Row) → List Field →
+    S → Lot
+parts_lot parts part_of from s = record {
+  count = parts s;
+  from = from;
+  rows = λ n. cond (ltb n (parts s)) (part_of s n) [];
+  entries = λ n. cond (ltb n (parts s)) (entries_for_part n) [];
+}
+
+-- all rows of it
+abbrev pub rows_of_lot : Lot → List Row
+rows_of_lot lot = flat_map lot.rows (range_with_len 0 lot.count)
+
+-- a lane worked on what has these numbers, and noted it in this order
 pub record Took {O S K B C : Type 0} (op : OperatorWords O S) (sink : SinkWords K B C) (ss : List S)
-    (limit : ℕ) (ms : List Morsel) (ns : List ℕ) (old new : Lane O K) : Type 0 where
-  pub ran : Ran op sink ss limit (schema_in ms) (flat_map (rows_at ms) ns) old new
-  pub entries : new.entries.items ≡ old.entries.items ++ flat_map (entries_at ms) ns
+    (limit : ℕ) (lot : Lot) (ns : List ℕ) (old new : Lane O K) : Type 0 where
+  pub ran : Ran op sink ss limit lot.from (flat_map lot.rows ns) old new
+  pub entries : new.entries.items ≡ old.entries.items ++ flat_map lot.entries ns
 
 -- a seat is there, and of these claims
 abbrev pub IsSeatOf : TableId → Option SeatClaims → Type 0
@@ -70,6 +104,6 @@ IsSeated table lane = IsSeatOf table lane.seat
 abbrev pub past : ℕ → ℕ → ℕ
 past end n = cond (ltb n end) 0 1
 
--- a lane that was refused nothing drew a number past the chunks
-abbrev pub IsAtEnd : {O K : Type 0} → List Morsel → Lane O K → Type 0
-IsAtEnd morsels lane = IsCalm lane → 0 < total (past (length morsels)) (drawn_in lane)
+-- a lane that was refused nothing drew a number past the last
+abbrev pub IsAtEnd : {O K : Type 0} → Lot → Lane O K → Type 0
+IsAtEnd lot lane = IsCalm lane → 0 < total (past lot.count) (drawn_in lane)

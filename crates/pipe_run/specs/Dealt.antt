@@ -1,5 +1,5 @@
--- All lanes together: how the chunks of a round went to them, and what they hold, marked and counted.
-use Rattle.std.specs.Prelude.{◌≡◌, ℕ, ◌≤◌, List, [], ◌∷◌, ◌++◌, length, All, Option, Some, None}
+-- All lanes together: how what they claimed in a round went to them, and what they hold, marked and counted.
+use Rattle.std.specs.Prelude.{◌≡◌, ℕ, ◌≤◌, List, [], ◌∷◌, ◌++◌, All, Option, Some, None}
 use Rattle.std.specs.List.{flat_map, range_with_len}
 use Rattle.pipe_frame.specs.Rows.{Row}
 use Rattle.pipe_frame.specs.declared.field.Field.{Field}
@@ -13,40 +13,40 @@ use Rattle.pipe_run.specs.Stages.{IsOver}
 use Rattle.pipe_run.specs.declared.lane.Lane.{Lane}
 use Rattle.pipe_run.specs.declared.stage.Refusal.{Refusal}
 use Rattle.pipe_run.specs.Lanes.{lane_works, lane_acts, lane_counts, lane_nodes, held_in, IsCalm, SameLane}
-use Rattle.pipe_run.specs.Claimed.{Took, rows_in}
+use Rattle.pipe_run.specs.Claimed.{Lot, Took, rows_in}
 
--- lanes that took chunks by these numbers, lane by lane
+-- lanes that took what has these numbers, lane by lane
 abbrev pub AllTook : {O S K B C : Type 0} → OperatorWords O S → SinkWords K B C → List S → ℕ →
-    List Morsel → List (List ℕ) → (old new : List (Lane O K)) → Type 0
-AllTook op sink ss limit ms [] [] [] = Unit {0}
-AllTook op sink ss limit ms [] [] (y ∷ new) = ⊥
-AllTook op sink ss limit ms [] (x ∷ old) new = ⊥
-AllTook op sink ss limit ms (ns ∷ nss) [] new = ⊥
-AllTook op sink ss limit ms (ns ∷ nss) (x ∷ old) [] = ⊥
-AllTook op sink ss limit ms (ns ∷ nss) (x ∷ old) (y ∷ new) =
-    Took op sink ss limit ms ns x y × AllTook op sink ss limit ms nss old new
+    Lot → List (List ℕ) → (old new : List (Lane O K)) → Type 0
+AllTook op sink ss limit lot [] [] [] = Unit {0}
+AllTook op sink ss limit lot [] [] (y ∷ new) = ⊥
+AllTook op sink ss limit lot [] (x ∷ old) new = ⊥
+AllTook op sink ss limit lot (ns ∷ nss) [] new = ⊥
+AllTook op sink ss limit lot (ns ∷ nss) (x ∷ old) [] = ⊥
+AllTook op sink ss limit lot (ns ∷ nss) (x ∷ old) (y ∷ new) =
+    Took op sink ss limit lot ns x y × AllTook op sink ss limit lot nss old new
 
 -- all numbers of some lists
 abbrev pub in_all : List (List ℕ) → List ℕ
 in_all [] = []
 in_all (ns ∷ nss) = ns ++ in_all nss
 
--- each of some chunks was taken by one lane, once: by the lane that noted it, and in which it went
--- through the operators
+-- each of some chunks or partitions was taken by one lane, once: by the lane that noted it, and in
+-- which it went through the operators
 pub record Dealt {O S K B C : Type 0} (op : OperatorWords O S) (sink : SinkWords K B C)
-    (ss : List S) (limit : ℕ) (ms : List Morsel) (old new : List (Lane O K)) : Type 0 where
+    (ss : List S) (limit : ℕ) (lot : Lot) (old new : List (Lane O K)) : Type 0 where
   pub numbers : List (List ℕ)
-  pub each_once : SameItems (in_all numbers) (range_with_len 0 (length ms))
-  pub took : AllTook op sink ss limit ms numbers old new
+  pub each_once : SameItems (in_all numbers) (range_with_len 0 lot.count)
+  pub took : AllTook op sink ss limit lot numbers old new
 
--- what lanes drew: the numbers below one, each once, and those of all chunks where no lane stopped
+-- what lanes drew: the numbers below one, each once, and all below the count where no lane stopped
 pub record Drawn {O S K B C : Type 0} (op : OperatorWords O S) (sink : SinkWords K B C)
-    (ss : List S) (limit : ℕ) (ms : List Morsel) (old new : List (Lane O K)) : Type 0 where
+    (ss : List S) (limit : ℕ) (lot : Lot) (old new : List (Lane O K)) : Type 0 where
   pub numbers : List (List ℕ)
   pub claimed : ℕ
   pub once : SameItems (in_all numbers) (range_with_len 0 claimed)
-  pub all : All IsCalm new → length ms ≤ claimed
-  pub took : AllTook op sink ss limit ms numbers old new
+  pub all : All IsCalm new → lot.count ≤ claimed
+  pub took : AllTook op sink ss limit lot numbers old new
 
 -- what the first lane does, and its nodes
 abbrev pub works_in : {O K S : Type 0} → OperatorWords O S → List Field → List S →

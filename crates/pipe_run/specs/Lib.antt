@@ -12,3 +12,5 @@ pub mod Dealt
 pub mod Halts
 -- lanes at their start
 pub mod Opens
+-- lanes that flush
+pub mod Flushes

@@ -2,7 +2,7 @@
 
 ghost use Rattle.std.specs.Prelude.{◌≡◌, ℕ, ◌<◌, ◌≤◌, length, All, IfOk, IfErr, slice_index_or};
 ghost use Rattle.pipe_run.specs.Claimed.{schema_in, IsOfSchema, IsFresh, drawn_in, IsSeated};
-ghost use Rattle.pipe_run.specs.Claimed.{IsAtEnd, Took};
+ghost use Rattle.pipe_run.specs.Claimed.{IsAtEnd, Took, chunks_lot};
 ghost use Rattle.pipe_chain.specs.Counts.{AllWithin};
 ghost use Rattle.pipe_run.specs.Dealt.{Dealt, Drawn, AreAlike, DoTheSame, WentAll, TellsFirst};
 ghost use Rattle.pipe_run.specs.Dealt.{counts_in, IsOverIn, rows_of_all};
@@ -45,9 +45,9 @@ fn run_lanes<R: Threads + Sync, O: Operator, K: Sink, G: Gate + Sync>(
     ensures fit { All (IsFit O.Operator K.Sink shared.now context.now.row_limit
         (schema_in morsels.now)) lanes.new }
     ensures took { (i : ℕ) (d : _) → i < length lanes.old → Took O.Operator K.Sink shared.now
-        context.now.row_limit morsels.now (drawn_in (slice_index_or lanes.new i d))
+        context.now.row_limit (chunks_lot morsels.now) (drawn_in (slice_index_or lanes.new i d))
         (slice_index_or lanes.old i d) (slice_index_or lanes.new i d) }
-    ensures end { All (IsAtEnd morsels.now) lanes.new }
+    ensures end { All (IsAtEnd (chunks_lot morsels.now)) lanes.new }
 {
     let threads = lanes.len().max(1);
     thread::for_each_mut(
@@ -92,7 +92,7 @@ fn deal<R: Threads + Sync, O: Operator, K: Sink, G: Gate + Sync>(
     ensures fit { All (IsFit O.Operator K.Sink shared.now context.now.row_limit
         (schema_in morsels.now)) lanes.new }
     ensures drawn { IfOk result (λ _. Drawn O.Operator K.Sink shared.now context.now.row_limit
-        morsels.now lanes.old lanes.new) }
+        (chunks_lot morsels.now) lanes.old lanes.new) }
     ensures memory { IfErr result (λ r. (r ≡ Refusal.Memory) × (lanes.new ≡ lanes.old)) }
 {
     let Ok((claims, mut seats)) = Claims::new(alloc, lanes.len() as u32) else {
@@ -132,7 +132,7 @@ pub fn round<R: Threads + Sync, O: Operator, K: Sink, G: Gate + Sync>(
         (schema_in morsels.now)) lanes.new }
     ensures calm { IfOk result (λ _. All IsCalm lanes.new) }
     ensures dealt { IfOk result (λ _. Dealt O.Operator K.Sink shared.now context.now.row_limit
-        morsels.now lanes.old lanes.new) }
+        (chunks_lot morsels.now) lanes.old lanes.new) }
     ensures went { IfOk result (λ _. WentAll O.Operator K.Sink shared.now (schema_in morsels.now)
         (rows_of_all morsels.now) lanes.old lanes.new) }
     ensures within { IfOk result (λ _. AllWithin context.now.row_limit (counts_in lanes.new)) }

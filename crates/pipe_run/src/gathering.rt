@@ -44,12 +44,14 @@ pub fn gather<O: Operator + Drop, K: Sink + Drop, C: StopCheck>(
         }
         let Lane {
             stages,
+            flushers,
             basin,
             seat,
             entries,
             refused: _,
         } = lane;
         drop(stages);
+        drop(flushers);
         drop(seat);
         drop(entries);
         let Basin {

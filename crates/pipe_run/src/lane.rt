@@ -17,6 +17,8 @@ use std::alloc::Global;
 pub struct Lane<O, K> {
     /// Its operators, in order.
     pub stages: Vec<Stage<O>>,
+    /// The stages that were taken off, once nothing more comes into them; the last one is flushed through the others.
+    pub flushers: Vec<Stage<O>>,
     /// Its sink.
     pub basin: Basin<K>,
     /// Its seat at the claims of a round, during the round.

@@ -2,10 +2,12 @@
 //! its number.
 #![tactic(auto)]
 
+mod all_flushers;
 mod all_lanes;
 mod claiming;
 mod draining;
 mod entry;
+mod flushing;
 mod gathering;
 mod halt;
 mod lane;
@@ -15,9 +17,11 @@ mod seating;
 mod stage;
 mod telling;
 
+pub use all_flushers::flush_round;
 pub use all_lanes::round;
 pub use draining::drain;
 pub use entry::Entry;
+pub use flushing::{drain_part, take_first};
 pub use gathering::gather;
 pub use halt::Halt;
 pub use lane::Lane;

@@ -60,6 +60,7 @@ pub fn open_lane<O: Operator + Drop, K: Sink + Drop>(
     let sink = basin.sink.split(alloc, thread_no)?;
     Ok(Lane {
         stages: own,
+        flushers: Vec::new(alloc),
         basin: Basin {
             sink,
             node: basin.node,

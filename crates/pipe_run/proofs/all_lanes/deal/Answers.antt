@@ -1,7 +1,7 @@
 use Rattle.std.proofs.Common.{length, arith, refl, sym, subst, List, All}
 use Rattle.std.proofs.lemmas.List.Elements.{All-replicate}
 use Rattle.pipe_words.specs.Claims.{SeatClaims, fresh_claimant}
-use Rattle.pipe_run.specs.Claimed.{schema_in}
+use Rattle.pipe_run.specs.Claimed.{schema_in, chunks_lot}
 use Rattle.pipe_run.specs.Seats.{IsFreshOf}
 use Rattle.pipe_run.proofs.RoundSteps.{deal-drawn, fits-seated, fits-unseated, all-seated, fresh-seated, calm-seated}
 use Rattle.pipe_run.proofs.SeatSteps.{none_own}
@@ -31,4 +31,4 @@ returns-clause-fit g c = rw c.unseat_all.ensures.lanes (fits-unseated g.O.Operat
 
 pub returns-clause-drawn : goal.returns-clause-drawn
 returns-clause-drawn g c =
-    deal-drawn g.O.Operator g.K.Sink c.args.shared.now c.args.context.now.row_limit c.args.morsels.now c.in-Ok.claims.table c.args.lanes.now c.seat_all.new.lanes c.run_lanes.new.lanes c.unseat_all.new.lanes c.seat_all.new.seats.items c.unseat_all.new.seats.items c.close.result c.seat_all.ensures.lanes c.run_lanes.ensures.len c.run_lanes.ensures.took c.run_lanes.ensures.end c.requires.some c.unseat_all.ensures.lanes (omega (arith, c.seat_all.ensures.left, c.in-Ok.ensures.dealt)) c.unseat_all.ensures.drawn (c.close.ensures (omega (arith, c.unseat_all.ensures.len, c.seat_all.ensures.left, c.in-Ok.ensures.dealt, c.in-Ok.ensures.count)))
+    deal-drawn g.O.Operator g.K.Sink c.args.shared.now c.args.context.now.row_limit (chunks_lot c.args.morsels.now) c.in-Ok.claims.table c.args.lanes.now c.seat_all.new.lanes c.run_lanes.new.lanes c.unseat_all.new.lanes c.seat_all.new.seats.items c.unseat_all.new.seats.items c.close.result c.seat_all.ensures.lanes c.run_lanes.ensures.len c.run_lanes.ensures.took c.run_lanes.ensures.end c.requires.some c.unseat_all.ensures.lanes (omega (arith, c.seat_all.ensures.left, c.in-Ok.ensures.dealt)) c.unseat_all.ensures.drawn (c.close.ensures (omega (arith, c.unseat_all.ensures.len, c.seat_all.ensures.left, c.in-Ok.ensures.dealt, c.in-Ok.ensures.count)))
