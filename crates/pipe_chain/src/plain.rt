@@ -44,7 +44,7 @@ impl<O: RowOperator> Operator for PlainOperator<O> {
 
     ghost idle = { λ op. O.idle op.operator };
 
-    ghost answers = { λ op rows s chunk answer. Unit {0} };
+    ghost answers = { λ op. O.answers op.operator };
 
     ghost flushing = { λ op. O.flushing op.operator };
 

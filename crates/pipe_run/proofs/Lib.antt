@@ -11,3 +11,4 @@ pub mod Asked
 pub mod SeatSteps
 pub mod Splits
 pub mod FlushSteps
+pub mod Combining

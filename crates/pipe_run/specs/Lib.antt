@@ -14,3 +14,5 @@ pub mod Halts
 pub mod Opens
 -- lanes that flush
 pub mod Flushes
+-- how far sinks were combined
+pub mod Gathered

@@ -4,6 +4,7 @@ ghost use Rattle.std.specs.Prelude.{◌≡◌, ◌+◌, ◌≤◌, ◌++◌, len
 ghost use Rattle.std.specs.List.{flat_map};
 ghost use Rattle.pipe_frame.specs.Counts.{Counts};
 ghost use Rattle.pipe_frame.specs.Rows.{Same};
+ghost use Rattle.pipe_run.specs.Gathered.{FirstCombined};
 ghost use Rattle.pipe_run.specs.Halts.{stops};
 ghost use Rattle.pipe_run.specs.Lanes.{IsSet, held_in};
 
@@ -36,6 +37,8 @@ pub fn gather<O: Operator + Drop, K: Sink + Drop, C: StopCheck>(
         (C.asked stop.new)) }
     ensures yes { Counts (stops result) (C.yes stop.old) (C.yes stop.new) }
     ensures last { result ≡ Err Halt.Stopped → C.last_answer stop.new ≡ true }
+    ensures stopped { result ≡ Err Halt.Stopped → FirstCombined K.held lanes.items
+        (C.asked stop.old) (C.asked stop.new) (K.held sink.old) (K.held sink.new) }
 {
     lanes.reverse();
     while let Some(lane) = lanes.pop() {

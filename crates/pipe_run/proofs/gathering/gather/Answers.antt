@@ -7,6 +7,7 @@ use Rattle.pipe_run.specs.Lanes.{IsSet}
 use Rattle.pipe_run.proofs.Asked.{counts-next, counts-none}
 use Rattle.pipe_chain.proofs.Weighing.{rows-refl, rows-append}
 use Rattle.pipe_run.proofs.LaneSteps.{gathered-in, gather-room, held-permuted}
+use Rattle.pipe_run.proofs.Combining.{gathering-none, gathering-next, gathering-stopped}
 use Rattle.pipe_run.proofs.gathering.gather.Goals as goal
 
 pub loop-lane-init : goal.loop-lane-init
@@ -24,12 +25,17 @@ loop-lane-init g c =
       held = rows-append (rows-refl _) (held-permuted g.K.Sink.held _ _ p);
       asked = subst (λ (n : ℕ). Counts n asked asked) none (counts-none asked);
       yes = counts-none _;
+      going = gathering-none g.K.Sink.held c.args.lanes.items c.reverse.new.self.items asked (g.K.Sink.held c.args.sink.now) c.reverse.ensures.items;
     }
 
 pub returns-then-should_stop-clause-yes : goal.returns-then-should_stop-clause-yes
 returns-then-should_stop-clause-yes g c =
     let now = rw c.if-should_stop.true at c.should_stop.ensures.yes in
     counts-next 0 1 _ _ _ c.loop-lane.invariant.yes now
+
+pub returns-then-should_stop-clause-stopped : goal.returns-then-should_stop-clause-stopped
+returns-then-should_stop-clause-stopped g c =
+    λ e. gathering-stopped g.K.Sink.held _ _ _ _ _ _ _ c.should_stop.ensures.asked c.loop-lane.invariant.going
 
 pub combine-requires-clause-setting : goal.combine-requires-clause-setting
 combine-requires-clause-setting g c =
@@ -66,4 +72,5 @@ loop-lane-preserved g c =
       held = gathered-in g.K.Sink.held _ _ c.loop-lane.lanes.items c.pop.new.self.items c.in-Some.lane _ c.in-Some.ensures.items joined known.held;
       asked = subst (λ (n : ℕ). Counts n (g.C.StopCheck.asked c.args.stop.now) (g.C.StopCheck.asked c.should_stop.new.self)) more (counts-next before 1 _ _ _ known.asked c.should_stop.ensures.asked);
       yes = counts-next 0 0 _ _ _ known.yes yes;
+      going = gathering-next g.K.Sink.held _ _ c.pop.new.self.items c.in-Some.lane _ _ _ _ _ _ c.in-Some.ensures.items c.should_stop.ensures.asked joined known.going;
     }

@@ -3,6 +3,7 @@ use Rattle.std.specs.List.{flat_map}
 use Rattle.pipe_frame.specs.Counts.{Counts}
 use Rattle.pipe_frame.specs.Rows.{Same}
 use Rattle.pipe_run.specs.Lanes.{IsSet, held_in}
+use Rattle.pipe_run.proofs.Combining.{Gathering}
 use Rattle.pipe_run.proofs.gathering.gather.Given as goal
 
 abbrev pub invariant-loop-lane : goal.invariant-loop-lane
@@ -19,6 +20,7 @@ invariant-loop-lane g l =
       held : Same (sink.held l.sink ++ flat_map (held_in sink.held) l.lanes.items) (sink.held l.fn.sink ++ flat_map (held_in sink.held) l.fn.lanes.items);
       asked : Counts (vec_len l.fn.lanes - vec_len l.lanes) (check.asked l.fn.stop) (check.asked l.stop);
       yes : Counts 0 (check.yes l.fn.stop) (check.yes l.stop);
+      going : Gathering sink.held l.fn.lanes.items l.lanes.items (check.asked l.fn.stop) (check.asked l.stop) (sink.held l.fn.sink) (sink.held l.sink);
     }
 
 abbrev pub decreases-loop-lane : goal.decreases-loop-lane
