@@ -35,7 +35,7 @@ Architecture: {architecture}
 Maintainer: Liskevar maintainers <maintainers@users.noreply.liskevar.example>
 Section: science
 Priority: optional
-Depends: libc6
+Depends: libc6 (>= 2.34), libgcc-s1
 Recommends: python3 (>= 3.11)
 Suggests: python3-sqlglot, python3-pandas
 Description: proved joins of tables

@@ -171,10 +171,6 @@ class Typing:
         assert found is not None, "groups without a type are never made"
         return found
 
-    def is_empty(self, it: Type) -> bool:
-        """Whether nothing is known of the type yet."""
-        return self._group(it).is_empty()
-
     def _with(self, group: Group) -> Typing:
         return Typing({**self.groups, **dict.fromkeys(group.members, group)})
 

@@ -55,7 +55,13 @@ class Order:
 
 
 class LazyFrame:
-    """A plan over tables. Each call gives another frame, and tells a mistake at once."""
+    """A plan over tables. Each call gives another frame.
+
+    Errors: `PlanError` at the call that makes a mistake (an unknown column, types that don't fit, a name twice, keys that
+    don't match), `Refused` for values and files that can't be taken. What runs the plan (`collect`, `to_pandas`,
+    `write_csv`, `explain`) raises a class for each status of the program, `TooMany` where a node has more rows than
+    `row_limit`; `JobTooLong` before anything runs; and `NotOffered` where there is no program.
+    """
 
     def __init__(self, node: Node, order: Order | None = None, hidden: Sequence[str] = ()) -> None:
         # hidden columns, the last of the node's, are keys of the order that the caller doesn't see
