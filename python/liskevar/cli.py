@@ -201,7 +201,7 @@ def do_sql(given: Any) -> None:
     if len({name for name, _ in named}) < len(named):
         raise Refused("two files have one name; give them others, as NAME=FILE")
     texts = {it.text for it in text.tokens}
-    read = None if "*" in texts else {*texts, *map(str.lower, texts)}
+    read = None if "*" in texts or "NATURAL" in map(str.upper, texts) else {*texts, *map(str.lower, texts)}
     headers = {name for _, path in named for name in header_of(path, delimiter_of(path, given.tabs))}
     wanted = None if read is None else {it for it in headers if it in read or it.lower() in {t.lower() for t in read}}
     read = None if given.names else wanted

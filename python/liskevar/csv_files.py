@@ -45,14 +45,12 @@ def delimiter_of(path: str, tabs: bool = False) -> str:
 
 def _lines(path: str, delimiter: str) -> Iterator[str]:
     """The lines of a file, with each `""` that is a whole field marked; a mark of byte order is no part of the first."""
-    empty = re.compile(rf'(?:^|(?<={re.escape(delimiter)}))""(?=[{re.escape(delimiter)}\r\n]|$)')
-    inside = 0
+    inside = False
     try:
         with open(path, encoding="utf-8-sig", newline="") as file:
             for line in file:
-                if '"' in line:
-                    before, inside = inside, inside ^ (line.count('"') & 1)
-                    line = _marked(line, empty, before) if '""' in line else line
+                if inside or '"' in line:
+                    line, inside = _marked(line, delimiter, inside)
                 yield line
     except UnicodeDecodeError:
         raise _no_text(path) from None
@@ -71,10 +69,26 @@ def _no_text(path: str) -> Refused:
     return Refused(f"{path}: not UTF-8")
 
 
-def _marked(line: str, empty: re.Pattern[str], inside: int) -> str:
-    """The line with its empty quoted fields marked: those with an even number of quotes before them in the record."""
-    marked = lambda found: EMPTY if (line.count('"', 0, found.start()) + inside) % 2 == 0 else found[0]  # noqa: E731
-    return empty.sub(marked, line)
+def _marked(line: str, delimiter: str, inside: bool) -> tuple[str, bool]:
+    """The line with its empty quoted fields marked, and whether a quoted field goes on behind it.
+
+    As Python's `csv` reads it: a quote that doesn't begin a field is a part of it.
+    """
+    at = 0
+    while True:
+        if not inside and line.startswith('""', at) and line[at + 2 : at + 3] in (delimiter, "\r", "\n", ""):
+            line = line[:at] + EMPTY + line[at + 2 :]
+        elif inside or line.startswith('"', at):
+            end = line.find('"', at if inside else at + 1)
+            while end >= 0 and line.startswith('""', end):
+                end = line.find('"', end + 2)
+            if end < 0:
+                return line, True
+            inside, at = False, end + 1
+        following = line.find(delimiter, at)
+        if following < 0:
+            return line, False
+        at = following + 1
 
 
 def _header(path: str, header: list[str], names: Sequence[str] | None) -> list[str]:

@@ -97,6 +97,31 @@ def test_nulls_and_empty_texts(write):
     assert frames(frame.job())[0] == {"a": ("String", ["", None, "x"]), "b": ("String", [None, "", '"']), "n": ("Int64", [1, None, 3])}
 
 
+def test_quotes_inside_of_fields(write):
+    rows = 'a,b,c\n5" pipe,"",x\n"two\n"",""\nlines","",""\n6",7"," "\n"",,""\n'
+    frame = lk.scan_csv(write("a.csv", rows))
+    assert frames(frame.job())[0] == {
+        "a": ("String", ['5" pipe', 'two\n","\nlines', '6"', ""]), "b": ("String", ["", "", '7"', None]), "c": ("String", ["x", "", " ", ""]),
+    }  # fmt: skip
+
+
+def test_empty_fields_are_told_apart_as_csv_has_them(write):
+    chance = random.Random(3)
+    for number in range(400):
+        text = "a,b\n" + "".join(chance.choice(['"', '""', ",", "\n", "\r\n", "x", " "]) for _ in range(chance.randint(1, 14)))
+        try:
+            plain = list(csv.reader(io.StringIO(text, newline=""), strict=True))
+        except csv.Error:
+            plain = None
+        if plain is None or any(len(it) != 2 for it in plain):
+            with pytest.raises(lk.Refused):
+                read_csv(write(f"{number}.csv", text))
+            continue
+        table = read_csv(write(f"{number}.csv", text), types={"a": "String", "b": "String"})
+        cells = list(zip(*(it.spell(it.type) for it in table.columns)))
+        assert [[it or "" for it in row] for row in cells] == plain[1:], text
+
+
 def test_marks_of_order_and_line_ends(write):
     frame = lk.scan_csv(write("a.csv", b'\xef\xbb\xbf"a",b\r\n1,"x\r\ny"\r\n2,""\r\n'))
     assert frames(frame.job())[0] == {"a": ("Int64", [1, 2]), "b": ("String", ["x\r\ny", ""])}

@@ -376,5 +376,6 @@ def test_sql_of_files(two):
     assert run(*words, "--csv") == "customer,paid\nAnna,500\nBob,200\n"
     columns = [[it["name"] for it in frame["columns"]] for frame in json.loads(run(*words, "--job"))["frames"]]
     assert columns == [["order", "part", "customer"], ["order", "part", "paid"]]
+    assert run("sql", "select amount, paid from o natural join p order by paid limit 1", *words[2:], "--csv") == "amount,paid\n250,50\n"
     assert run(*words, "--explain").startswith("df -> generic_join_build\n")
     assert "line 1, column 8: no column x" in run("sql", "select x from o", f"o={two[0]}", status=1)
