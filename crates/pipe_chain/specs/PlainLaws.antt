@@ -1,5 +1,5 @@
 -- What operators that mark nothing owe by law.
-use Rattle.std.proofs.Common.{◌≡◌, ℕ, ◌<◌, List, [], ◌∷◌, refl, arith}
+use Rattle.std.proofs.Common.{◌≡◌, List, [], ◌∷◌, refl}
 use Rattle.std.specs.List.{flat_map}
 use Rattle.pipe_frame.specs.Rows.{Row}
 use Rattle.pipe_chain.specs.Keys.{SameKeys}
@@ -11,6 +11,3 @@ no-keys (row ∷ rows) = no-keys rows
 
 pub no_asks : (rows : List Row) → SameKeys [] (flat_map no_key rows)
 no_asks rows = rw (no-keys rows) (record { sums = λ weight. refl })
-
-pub no_part : (n : ℕ) → n < 0 → ⊥
-no_part n less = absurd (omega arith)

@@ -1,6 +1,5 @@
 //! An operator that marks nothing, in a row with those that do.
 
-use crate::flushing::FlushParts;
 use crate::operator::Operator;
 use pipe_frame::DataChunk;
 use pipe_ops::{Operator as RowOperator, OperatorResult, PExecutionContext};
@@ -92,25 +91,4 @@ impl<O: RowOperator> Operator for PlainOperator<O> {
     ghost flushes = { λ op s due t. O.flushes op.operator s due t };
 
     ghost calm = { λ op i. O.calm op.operator i };
-}
-
-impl<O: RowOperator> FlushParts for PlainOperator<O> {
-    ghost use Rattle.std.specs.Prelude.{[]};
-    ghost use Rattle.pipe_chain.specs.PlainLaws.{no_part};
-
-    ghost keeps = { λ op. ⊥ };
-
-    ghost parts = { λ s. 0 };
-
-    ghost part_of = { λ s n. [] };
-
-    fn part_count(shared: &O::Shared) -> u32 {
-        0
-    }
-
-    fn begin_flush(&mut self, part: u32) {
-        unreachable!()
-    }
-
-    ghost kept = { λ op s n closed less. no_part n less };
 }
