@@ -19,7 +19,6 @@ from .errors import LiskevarError, Refused
 from .expr import col
 from .frame import LazyFrame, Order, frame_of
 from .job import Job, Settings, in_order, inputs_of, job_of, job_of_json
-from .kept import KeptJoin
 from .limits import BYTES_OF_A_JOB, MOST_ROWS, ROW_LIMIT
 from .nodes import HOWS, Key, Node
 from .places import place_of_caller, told_as
@@ -125,16 +124,11 @@ def answer_frame(given: Any, frame: LazyFrame) -> None:
 # ---- the commands
 
 
-def keys_of(given: Any) -> tuple[list[str], list[str]]:
-    """The names of the keys on both sides."""
-    if given.on and (given.left_on or given.right_on):
-        raise Refused("--on stands for both sides; with it neither --left-on nor --right-on applies")
-    return given.on or given.left_on or [], given.on or given.right_on or []
-
-
 def do_join(given: Any) -> None:
     """Joins two files."""
-    left_on, right_on = keys_of(given)
+    if given.on and (given.left_on or given.right_on):
+        raise Refused("--on stands for both sides; with it neither --left-on nor --right-on applies")
+    left_on, right_on = given.on or given.left_on or [], given.on or given.right_on or []
     for flag in ("suffix", "coalesce"):
         if getattr(given, flag) is not None and given.how in ("semi", "anti"):
             raise Refused(f"--{flag} doesn't apply to a {given.how} join, which gives the left columns alone")
@@ -175,23 +169,6 @@ def do_reconcile(given: Any) -> None:
     with told_as("--on"):
         text = reconciliation_text(frames[0], frames[1], given.on, given.nulls_equal, settings_of(given))
     put(text if given.job else ask("reconcile", text, [it._node for it in frames], given.row_limit))
-
-
-def do_edits(given: Any) -> None:
-    """Joins two files, and changes the join by a file of edits."""
-    left_on, right_on = keys_of(given)
-    frames = [frame_of(it) for it in read_files(given, given.files)]
-    with told_as("--on"):
-        kept = KeptJoin(frames[0], frames[1], left_on=left_on, right_on=right_on, how=given.how, row_limit=given.row_limit)
-    for number, line in enumerate(read_text(given.edits).splitlines(), start=1):
-        kept.add_line(f"{given.edits}, line {number}", line)
-    if given.job:
-        put(kept.text())
-        return
-    edits, rows = kept.replay()
-    for number, it in enumerate(edits, start=1):
-        put(f"edit {number}: {'no such row' if it.is_absent else f'{it.came} rows came, {it.went} went'}\n")
-    put(f"{rows}\n")
 
 
 def do_sql(given: Any) -> None:
@@ -258,6 +235,8 @@ def _common(parser: argparse.ArgumentParser, outputs: bool) -> None:
         help="names in place of the header's; given again for the second file, and so on")  # fmt: skip
     add("--tabs", action="store_true", help="fields are separated by tabs in every file")
     add("--empty-is-text", action="store_true", help="an empty field of a column of texts is the empty text, and no null")
+    add("--workers", type=whole(1, 256), default=4)
+    add("--chunk-rows", type=whole(1, 2**32 - 1), default=65_536)
     add("--row-limit", type=whole(1, MOST_ROWS), default=ROW_LIMIT, help="the rows that a node may have, 10,000,000 if not told")
     add = parser.add_mutually_exclusive_group().add_argument
     add("--job", action="store_true", help="print what the program reads, and don't run it")
@@ -268,16 +247,12 @@ def _common(parser: argparse.ArgumentParser, outputs: bool) -> None:
         parser.add_argument("--null", default="", metavar="WORD", help="how CSV writes a null; an empty field if not told")
 
 
-def _keys(add: Callable[..., Any], hows: Sequence[str]) -> None:
+def _join(add: Callable[..., Any]) -> None:
     add("files", nargs=2, metavar="FILE", help="a CSV file, or a TSV file (by its ending .tsv)")
-    add("--how", choices=hows, default="inner")
+    add("--how", choices=HOWS, default="inner")
     add("--on", type=names_of, metavar="NAME,..", help="the key's columns, of one name on both sides")
     add("--left-on", type=names_of, metavar="NAME,..", help="the left side's key columns")
     add("--right-on", type=names_of, metavar="NAME,..", help="the right side's key columns")
-
-
-def _join(add: Callable[..., Any]) -> None:
-    _keys(add, HOWS)
     add("--nulls-equal", action="store_true", help="null keys meet each other")
     add("--coalesce", choices=("yes", "no"), help="whether keys become one column; not told: in inner and left joins")
     add("--suffix", help="what a right column's name gets where the left side has it; _right if not told")
@@ -297,9 +272,6 @@ def parser_of() -> argparse.ArgumentParser:
         made.set_defaults(work=work)
         if outputs is not None:
             _common(made, outputs)
-        if outputs is not None and name != "edits":
-            made.add_argument("--workers", type=whole(1, 256), default=4)
-            made.add_argument("--chunk-rows", type=whole(1, 2**32 - 1), default=65_536)
         return made
 
     _join(command("join", do_join).add_argument)
@@ -313,9 +285,6 @@ def parser_of() -> argparse.ArgumentParser:
     made.add_argument("files", nargs=2, metavar="FILE")
     made.add_argument("--on", type=names_of, required=True, metavar="NAME,..", help="the key's columns")
     made.add_argument("--nulls-equal", action="store_true", help="null keys meet each other")
-    made = command("edits", do_edits, outputs=False)
-    _keys(made.add_argument, ("inner", "left", "full"))
-    made.add_argument("edits", metavar="EDITS", help='lines as ["left","insert",[1,"a"]]')
     made = command("csv", do_csv, outputs=None)
     made.add_argument("--tabs", action="store_true", help="separate fields by tabs")
     made.add_argument("--crlf", action="store_true", help="end lines by carriage return and newline, as RFC 4180 has it")

@@ -150,7 +150,7 @@ def said_by(value: Any, root: Node) -> Any:
 
 def compact(value: Any) -> str:
     """Compact JSON."""
-    return json.dumps(value, ensure_ascii=False, separators=(",", ":"), default=str)
+    return json.dumps(value, ensure_ascii=False, separators=(",", ":"))
 
 
 def encoded(text: str) -> bytes:

@@ -10,7 +10,6 @@ from .errors import Refused
 from .frame import LazyFrame
 from .job import Settings, compact, said_by, sized, types_of
 from .limits import ROW_LIMIT
-from .plan_json import read_json
 from .program import ask, want
 from .recon import _scanned, two_tables
 from .rows import Rows, rows_of_lines
@@ -59,17 +58,6 @@ class KeptJoin:
             except (ValueError, ArithmeticError):
                 raise Refused(f"column {name!r}: {value!r} is no {dtype}") from None
         self._edits.append(compact([side, word, cells]))
-
-    def add_line(self, where: str, line: str) -> None:
-        """One edit as the program spells it: `["left","insert",[1,"a"]]`."""
-        edit = read_json(where, line)
-        is_edit = isinstance(edit, list) and len(edit) == 3 and isinstance(edit[2], list)
-        if not is_edit or edit[0] not in SIDES or edit[1] not in ("insert", "remove"):
-            raise Refused(f'{where}: {line} is no edit as ["left","insert",[1,"a"]]')
-        try:
-            self._edit(edit[0], edit[1], edit[2])
-        except Refused as error:
-            raise Refused(f"{where}: {error}") from None
 
     def insert(self, side: str, row: Any) -> None:
         """Puts a row into the left or the right table."""

@@ -2,7 +2,6 @@
 
 import json
 from collections.abc import Sequence
-from decimal import Decimal
 from typing import Any
 
 from . import nodes as plan
@@ -15,9 +14,9 @@ from .tables import Column, Table
 
 
 def read_json(path: str, text: str) -> Any:
-    """A value of JSON, its decimals exact; Refused with its place where it is none."""
+    """A value of JSON; Refused with its place where it is none."""
     try:
-        return json.loads(text, parse_float=Decimal)
+        return json.loads(text)
     except json.JSONDecodeError as error:
         raise Refused(f"{path}, line {error.lineno}, column {error.colno}: {error.msg}") from error
     except RecursionError as error:

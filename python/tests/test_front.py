@@ -228,15 +228,6 @@ def test_a_kept_join_says_its_edits(orders):
         kept.insert("right", ("x", "x"))
 
 
-def test_edits_of_a_file(write):
-    a, b = write("a.csv", "k,amount\n1,2.50\n"), write("b.csv", "k,note\n1,x\n")
-    edits = write("e", '["left","insert",[2,1.25]]\n["right","remove",[1,"x"]]\n')
-    told = json.loads(run("edits", a, b, edits, "--on", "k", "--how", "left", "--types", "amount:Cents", "--job"))
-    assert told["edits"] == [["left", "insert", [2, 125]], ["right", "remove", [1, "x"]]]
-    for line, words in [("[1]", "is no edit"), ("{", "line 1, column 2"), ('["left","insert",[2]]', "no row of"), ('["left","insert",[2,1.255]]', "no Cents")]:
-        assert words in run("edits", a, b, write("e", line), "--on", "k", "--types", "amount:Cents", "--job", status=1)
-
-
 @pytest.mark.program
 def test_kept_joins_are_replayed(orders):
     if not lk.offers("replay-edits"):
