@@ -101,7 +101,8 @@ pub(crate) fn input_of<R: JobReader>(
     ensures read { OnOk result
         (WasRead (source_of (request_of command.entry)) (R.seen input.old) (R.seen input.new)) }
     ensures reading { IfErr result (λ r.
-        OfReading r (told_to (request_of command.entry) (R.seen input.old)) (R.seen input.old) (R.seen input.new)) }
+        OfReading r (told_to (request_of command.entry) (R.seen input.old))
+        (R.seen input.old) (R.seen input.new)) }
     ensures only { IfErr result (λ r.
         OneOf (contract_of (request_of command.entry)).statuses (status_of r)) }
     ensures early { IfErr result (λ r. OneOf (2 ∷ 3 ∷ 10 ∷ []) (status_of r)) }

@@ -33,14 +33,16 @@ fn perform<T: Threads + Sync, R: JobReader, W: RowWriter, C: StopCheck, G: Gate 
     ensures read { OnOk result
         (WasRead (source_of (request_of command.entry)) (R.seen input.old) (R.seen input.new)) }
     ensures wrote { let told = told_to (request_of command.entry) (R.seen input.old) in
-        OnOk result (WroteTold (contract_of (request_of command.entry)) told (W.seen out.old) (W.seen out.new)) }
+        OnOk result (WroteTold (contract_of (request_of command.entry)) told
+        (W.seen out.old) (W.seen out.new)) }
     ensures reading { let told = told_to (request_of command.entry) (R.seen input.old) in
         IfErr result (λ r. OfReading r told (R.seen input.old) (R.seen input.new)) }
     ensures input { let told = told_to (request_of command.entry) (R.seen input.old) in
         IfErr result (λ r. OfInput (contract_of (request_of command.entry)) r told) }
     ensures output { let told = told_to (request_of command.entry) (R.seen input.old) in
         IfErr result (λ r.
-        OfOutput (contract_of (request_of command.entry)) r told (W.seen out.old) (W.seen out.new)) }
+        OfOutput (contract_of (request_of command.entry)) r told
+        (W.seen out.old) (W.seen out.new)) }
     ensures only { IfErr result (λ r.
         OneOf (contract_of (request_of command.entry)).statuses (status_of r)) }
     ensures known { IsErrOf result Refusal.BadWords → ⊥ }

@@ -58,7 +58,8 @@ pub(crate) fn selftest<T: Threads + Sync, C: StopCheck, G: Gate + Sync>(
 ) -> Result<Answer, Refusal>
     requires some { 1 ≤ rows }
     requires few { rows ≤ 1000000 }
-    ensures ok { (bytes : List ℕ) → IfOk result (λ answer. Answered (selftest start rows) bytes (text_of answer)) }
+    ensures ok { (bytes : List ℕ) → IfOk result
+        (λ answer. Answered (selftest start rows) bytes (text_of answer)) }
     ensures err { (bytes : List ℕ) → IfErr result (λ r. Causes (selftest start rows) r bytes) }
     ensures only { IfErr result (λ r. OneOf (selftest start rows).statuses (status_of r)) }
     ensures asked { OnOk result (Rises (C.asked stop.old) (C.asked stop.new)) }
