@@ -114,7 +114,7 @@ class Plans:
 
     def rename(self, frame, model, columns, panda):
         old = self.chance.choice(list(columns))
-        free = [it for it in NAMES if it not in columns]
+        free = [it for it in [*NAMES, "free"] if it not in columns] or [f"free {len(columns)}"]
         names = {old: self.chance.choice(free)}
         made = {names.get(name, name): it for name, it in columns.items()}
         return frame.rename(names), model.rename(names), made, panda if panda is None else panda.rename(columns=names)
@@ -244,7 +244,7 @@ def check_order(made, frame, model, columns, keys, seed):
             frame, marked = frame.select(kept), marked.select([(it, ("col", it)) for it in [*kept, *marks]], made.dtype)
         elif work == "rename":
             old = made.chance.choice(list(columns))
-            new = {old: made.chance.choice([it for it in NAMES if it not in columns])}
+            new = {old: made.chance.choice([it for it in [*NAMES, "free"] if it not in columns] or [f"free {len(columns)}"])}
             columns = {new.get(name, name): it for name, it in columns.items()}
             frame, marked = frame.rename(new), marked.rename(new)
         else:
