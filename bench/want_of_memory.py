@@ -3,6 +3,9 @@
 
     want_of_memory.py PROGRAM WORD.. < JOB
 
+The folder want_of_memory beside it has four jobs: a sorted join, a full join over a union, two full joins in a chain,
+and the ledger.
+
 The first run has all memory, and its lines are kept. Then run N has its Nth call of `malloc`, `calloc` or `realloc`
 refused, for N from 1 on until a run makes fewer calls. Each of them must either write nothing and end with status 10
 and its one line, or end with status 0 and the same lines in some order. It prints how many runs there were of each.
