@@ -5,7 +5,8 @@
 
 Both have the program, the Python package, the docs, the examples, the licence, a file BUILT with the commit, the
 toolchain and the program's checksum, and SHA256SUMS of all their files; SHA256SUMS beside them has those of the two.
-The program is that of crates/liskevar/out, which has to be newer than its sources: ./liskevar builds it so, by proof.
+The program is that of crates/liskevar/out, which has to be newer than its sources: ./liskevar builds it so, by proof
+alone. Nothing but the time is looked at here.
 With --program another one is taken, and BUILT says that nothing is known of its proof. From one commit and one program
 both files come out byte for byte the same. The tar file: unpack it, and call bin/liskevar or, with PYTHONPATH=python,
 python3 -m liskevar.
@@ -81,10 +82,11 @@ def checksum(path):
 
 def built_text(program, is_proved):
     """What is known of the program."""
-    toolchain = said("rt", "version") if shutil.which("rt") and is_proved else "not told"
+    proof = "./liskevar builds by proof alone; that this program was built so is told by its time, newer than each source"
     lines = {
         "version": version_of(program), "commit": said("git", "rev-parse", "HEAD") or "not told",
-        "toolchain that proved and built it": toolchain if is_proved else "none: the program was given by --program",
+        "toolchain": (said("rt", "version") if shutil.which("rt") else "") or "not told",
+        "proof": proof if is_proved else "nothing is known: the program was given by --program",
         "sha256 of the program": checksum(program),
     }  # fmt: skip
     return "".join(f"{name}: {it}\n" for name, it in lines.items())
