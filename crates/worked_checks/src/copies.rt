@@ -1,5 +1,6 @@
 //! Copies of nodes.
 
+use crate::copied::COPIED;
 use crate::plans::PLANS;
 use pipe_plan::IR;
 use std::alloc::{AllocError, Global};
@@ -28,6 +29,15 @@ fn count_copied(alloc: Global, nodes: &[WrittenNode]) -> Result<(u32, u32), Allo
     Ok((copied, missed))
 }
 
+/// Appends how many nodes of the good plans are copied.
+fn tell_good(alloc: Global, answers: &mut String) -> Result<(), AllocError> {
+    for nodes in COPIED {
+        let (copied, missed) = count_copied(alloc, nodes)?;
+        answers.push_str(format!(in alloc; "{copied} alike, {missed} not\n")?.as_str())?;
+    }
+    Ok(())
+}
+
 /// Appends how many nodes of the plans are copied.
 pub(crate) fn tell(alloc: Global, answers: &mut String) -> Result<(), AllocError> {
     let mut copied: u32 = 0;
@@ -39,5 +49,6 @@ pub(crate) fn tell(alloc: Global, answers: &mut String) -> Result<(), AllocError
     }
     answers.push_str(format!(in alloc;
         "# copies of nodes\n{copied} alike, {missed} not\n"
-    )?.as_str())
+    )?.as_str())?;
+    tell_good(alloc, answers)
 }

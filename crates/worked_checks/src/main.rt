@@ -2,6 +2,7 @@
 #![tactic(auto)]
 
 mod chance;
+mod copied;
 mod copies;
 mod limits;
 mod plans;

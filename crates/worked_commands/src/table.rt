@@ -120,6 +120,7 @@ pub(crate) fn answers<T: Threads + Sync>(rt: &T, alloc: Global) -> Result<String
     tell_words(rt, alloc, &mut answers)?;
     tell_commands(rt, alloc, &mut answers)?;
     tested::tell_tests(rt, alloc, &mut answers)?;
+    tested::tell_twice(rt, alloc, &mut answers)?;
     tell_looked_at(rt, alloc, &mut answers)?;
     explained::tell_explained(rt, alloc, &mut answers)?;
     Ok(answers)

@@ -53,6 +53,22 @@ fn tell_bad_words<T: Threads + Sync>(
     tell_text(a, answers, shows, words(rt, a, &["selftest", "1"])?)
 }
 
+/// A self-test of many rows.
+const LARGE: &[&str] = &["selftest", "1", "200000"];
+
+/// A self-test that is run two times: it counts the same rows.
+pub(crate) fn tell_twice<T: Threads + Sync>(
+    rt: &T,
+    a: Global,
+    answers: &mut String,
+) -> Result<(), AllocError> {
+    for run in ["first", "second"] {
+        let shows = format!(in a; "a self-test of 200,000 rows, its {run} run")?;
+        tell_text(a, answers, shows.as_str(), alone(rt, a, LARGE, None)?)?;
+    }
+    Ok(())
+}
+
 /// Self-tests, of which one is stopped, and whose writes fail. The lines of two rows, 22 bytes, take five writes in
 /// pieces of 5 bytes.
 pub(crate) fn tell_tests<T: Threads + Sync>(

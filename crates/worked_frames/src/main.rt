@@ -3,6 +3,7 @@
 
 mod chunks;
 mod columns;
+mod copied;
 mod copies;
 mod names;
 mod numbers;

@@ -1,7 +1,8 @@
 //! The worked frames, in the order in which they are told.
 
 use crate::{
-    chunks, columns, copies, names, refusals, rows, series, shared, sizes, stacks, stops, wide,
+    chunks, columns, copied, copies, names, refusals, rows, series, shared, sizes, stacks, stops,
+    wide,
 };
 use std::alloc::{AllocError, Global};
 use std::thread::Threads;
@@ -16,6 +17,7 @@ pub(crate) fn answers<R: Threads + Sync>(rt: &R, alloc: Global) -> Result<String
     names::tell(alloc, &mut answers)?;
     wide::tell(alloc, &mut answers)?;
     copies::tell(alloc, &mut answers)?;
+    copied::tell(alloc, &mut answers)?;
     shared::tell(alloc, &mut answers)?;
     chunks::tell(rt, alloc, &mut answers)?;
     sizes::tell(alloc, &mut answers)?;

@@ -2,16 +2,16 @@
 
 use std::alloc::{AllocError, Global};
 use std::thread::Threads;
-use worked_runs::{Ended, PAIRS, reader, run, run_words};
+use worked_runs::{Ended, reader, run, run_words};
 
-/// Row a's job read in pieces of 400 bytes, of which one fails.
+/// A job read in pieces of 400 bytes, of which one fails.
 pub(crate) fn of_a_read<T: Threads + Sync>(
     rt: &T,
     alloc: Global,
+    text: &str,
     call: u64,
 ) -> Result<Ended, AllocError> {
-    let text = PAIRS.text(alloc)?;
-    let mut input = reader(alloc, text.as_str(), Some(call))?;
+    let mut input = reader(alloc, text, Some(call))?;
     run(rt, alloc, &mut input)
 }
 
@@ -19,10 +19,10 @@ pub(crate) fn of_a_read<T: Threads + Sync>(
 pub(crate) fn of_a_write<T: Threads + Sync>(
     rt: &T,
     alloc: Global,
+    text: &str,
     call: u64,
 ) -> Result<Ended, AllocError> {
-    let text = PAIRS.text(alloc)?;
-    let mut input = reader(alloc, text.as_str(), None)?;
+    let mut input = reader(alloc, text, None)?;
     run_words(rt, alloc, &["run"], &mut input, Some(call))
 }
 
@@ -30,9 +30,9 @@ pub(crate) fn of_a_write<T: Threads + Sync>(
 pub(crate) fn before_the_run<T: Threads + Sync>(
     rt: &T,
     alloc: Global,
+    text: &str,
 ) -> Result<Ended, AllocError> {
-    let text = PAIRS.text(alloc)?;
-    let mut input = reader(alloc, text.as_str(), Some(1))?;
+    let mut input = reader(alloc, text, Some(1))?;
     let ended = run(rt, alloc, &mut input)?;
     drop(ended);
     run(rt, alloc, &mut input)

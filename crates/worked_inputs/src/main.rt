@@ -8,6 +8,7 @@ mod prefixes;
 mod refused;
 mod table;
 mod unnoted;
+mod wide;
 
 use std::io;
 

@@ -2,7 +2,7 @@
 
 use std::alloc::{AllocError, Global};
 use std::thread::Threads;
-use worked_runs::{PAIRS, run_text};
+use worked_runs::run_text;
 
 /// The status of the first so many bytes of a text.
 fn status_of_front<T: Threads + Sync>(
@@ -15,16 +15,16 @@ fn status_of_front<T: Threads + Sync>(
     Ok(ended.status)
 }
 
-/// How many proper prefixes of row a's job don't end with this status.
+/// How many proper prefixes of a job don't end with this status.
 pub(crate) fn without_status<T: Threads + Sync>(
     rt: &T,
     alloc: Global,
+    text: &str,
     status: u8,
 ) -> Result<String, AllocError> {
-    let text = PAIRS.text(alloc)?;
     let mut others = 0u64;
     for len in 0..text.len() {
-        if status_of_front(rt, alloc, text.as_str(), len)? != status {
+        if status_of_front(rt, alloc, text, len)? != status {
             others = others.saturating_add(1);
         }
     }

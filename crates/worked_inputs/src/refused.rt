@@ -2,7 +2,7 @@
 
 use std::alloc::{AllocError, Global};
 use std::thread::Threads;
-use worked_runs::{Ended, JobText, PAIRS, run_text};
+use worked_runs::{Ended, JobText, PAIRS, SORTED_JOIN, run_text};
 
 fn run_job<T: Threads + Sync>(rt: &T, alloc: Global, job: JobText) -> Result<Ended, AllocError> {
     let text = job.text(alloc)?;
@@ -88,6 +88,20 @@ pub(crate) fn chunk_rows<T: Threads + Sync>(
             ..PAIRS
         },
     )
+}
+
+/// Where the limit of rows begins in the text of the sorted join, behind its other numbers.
+const LIMIT_AT: usize = 40;
+
+/// The sorted join behind other numbers.
+pub(crate) fn sorted_join<T: Threads + Sync>(
+    rt: &T,
+    alloc: Global,
+    numbers: &str,
+) -> Result<Ended, AllocError> {
+    let back = SORTED_JOIN.get(LIMIT_AT..).unwrap_or("{}");
+    let text = format!(in alloc; "{numbers}{back}")?;
+    run_text(rt, alloc, text.as_str())
 }
 
 pub(crate) fn text<T: Threads + Sync>(

@@ -1,9 +1,9 @@
 //! The cases, in the order in which they are told.
 
-use crate::{faults, length, many, prefixes, refused, unnoted};
+use crate::{faults, length, many, prefixes, refused, unnoted, wide};
 use std::alloc::{AllocError, Global};
 use std::thread::Threads;
-use worked_runs::{tell, tell_length, tell_run};
+use worked_runs::{Ended, PAIRS, SORTED_JOIN, shown, tell, tell_length, tell_run, tell_text};
 
 fn tell_refused_jobs<T: Threads + Sync>(
     rt: &T,
@@ -66,7 +66,8 @@ fn tell_refused_texts<T: Threads + Sync>(
         length::spaces(rt, a, 33_554_433)?,
     )?;
     tell(answers, "each proper prefix of a job")?;
-    answers.push_str(prefixes::without_status(rt, a, 4)?.as_str())
+    let job = PAIRS.text(a)?;
+    answers.push_str(prefixes::without_status(rt, a, job.as_str(), 4)?.as_str())
 }
 
 /// In pieces of 400 bytes a job of 600 bytes takes three reads, the last of which finds the end. In pieces of 5
@@ -76,21 +77,97 @@ fn tell_faults<T: Threads + Sync>(
     a: Global,
     answers: &mut String,
 ) -> Result<(), AllocError> {
+    let job = PAIRS.text(a)?;
     for call in 1..5 {
         let shows = format!(in a; "read {call} fails")?;
-        tell_run(a, answers, shows.as_str(), faults::of_a_read(rt, a, call)?)?;
+        let ended = faults::of_a_read(rt, a, job.as_str(), call)?;
+        tell_run(a, answers, shows.as_str(), ended)?;
     }
     for call in 1..12 {
         let shows = format!(in a; "write {call} fails")?;
-        tell_length(a, answers, shows.as_str(), faults::of_a_write(rt, a, call)?)?;
+        let ended = faults::of_a_write(rt, a, job.as_str(), call)?;
+        tell_length(a, answers, shows.as_str(), ended)?;
     }
-    tell_run(
-        a,
-        answers,
-        "a run after one that failed",
-        faults::before_the_run(rt, a)?,
-    )
+    let ended = faults::before_the_run(rt, a, job.as_str())?;
+    tell_run(a, answers, "a run after one that failed", ended)
 }
+
+/// The job of 720 bytes takes three reads too. Its five lines, 62 bytes, take thirteen writes.
+fn tell_faults_of_a_sort<T: Threads + Sync>(
+    rt: &T,
+    a: Global,
+    answers: &mut String,
+) -> Result<(), AllocError> {
+    for call in 1..5 {
+        let shows = format!(in a; "a sorted join, read {call} fails")?;
+        let ended = faults::of_a_read(rt, a, SORTED_JOIN, call)?;
+        tell_text(a, answers, shows.as_str(), ended)?;
+    }
+    for call in 1..15 {
+        let shows = format!(in a; "a sorted join, write {call} fails")?;
+        let ended = faults::of_a_write(rt, a, SORTED_JOIN, call)?;
+        tell_front(a, answers, shows.as_str(), ended)?;
+    }
+    let ended = faults::before_the_run(rt, a, SORTED_JOIN)?;
+    tell_text(a, answers, "a sorted join after a run that failed", ended)
+}
+
+/// The lines of the sorted join.
+const SORTED_LINES: &str = r#"["k","x","y"]
+[1,"p","s"]
+[1,"p","t"]
+[1,"q","s"]
+[1,"q","t"]
+"#;
+
+/// Appends what a case shows, its status, how many bytes it wrote, whether they are a front of the sorted join's
+/// lines, and its note.
+fn tell_front(
+    alloc: Global,
+    answers: &mut String,
+    shows: &str,
+    ended: Ended,
+) -> Result<(), AllocError> {
+    let written = shown(ended.out.bytes());
+    let front = SORTED_LINES.get(..written.len()).unwrap_or("");
+    let which = if front == written {
+        "a front"
+    } else {
+        "no front"
+    };
+    let told = format!(in alloc; "{shows}: {which} of the lines")?;
+    tell_length(alloc, answers, told.as_str(), ended)
+}
+
+/// The sorted join behind numbers that no job has, and each front of its text.
+fn tell_sorted_join<T: Threads + Sync>(
+    rt: &T,
+    a: Global,
+    answers: &mut String,
+) -> Result<(), AllocError> {
+    for (shows, numbers) in NO_NUMBERS {
+        tell_run(a, answers, shows, refused::sorted_join(rt, a, numbers)?)?;
+    }
+    tell(answers, "each proper prefix of a sorted join")?;
+    answers.push_str(prefixes::without_status(rt, a, SORTED_JOIN, 4)?.as_str())?;
+    tell_faults_of_a_sort(rt, a, answers)
+}
+
+/// Numbers of the sorted join that no job has.
+const NO_NUMBERS: &[(&str, &str)] = &[
+    (
+        "a sorted join of version 3",
+        r#"{"version":3,"workers":3,"chunk_rows":2,"#,
+    ),
+    (
+        "a sorted join by fewer workers than none",
+        r#"{"version":1,"workers":-1,"chunk_rows":2,"#,
+    ),
+    (
+        "a sorted join in chunks of a row and a half",
+        r#"{"version":1,"workers":3,"chunk_rows":1.5,"#,
+    ),
+];
 
 /// What each case shows, and its answer.
 pub(crate) fn answers<T: Threads + Sync>(rt: &T, alloc: Global) -> Result<String, AllocError> {
@@ -101,5 +178,7 @@ pub(crate) fn answers<T: Threads + Sync>(rt: &T, alloc: Global) -> Result<String
     unnoted::tell_all(rt, alloc, &mut answers)?;
     many::tell_under(rt, alloc, &mut answers, "1000000")?;
     many::tell_under(rt, alloc, &mut answers, "999999")?;
+    wide::tell_wide(rt, alloc, &mut answers)?;
+    tell_sorted_join(rt, alloc, &mut answers)?;
     Ok(answers)
 }

@@ -17,16 +17,17 @@ pub(crate) fn lines_of(alloc: Global, frame: &DataFrame) -> Result<Vec<u8>, Allo
     Ok(lines)
 }
 
-/// The lines of the rows of a job, and none where it has no rows.
+/// The lines of the rows of a job where all keys have this hash, and none where it has no rows.
 pub(crate) fn lines<T: Threads + Sync>(
     rt: &T,
     alloc: Global,
     text: &str,
+    hash: u64,
 ) -> Result<Vec<u8>, AllocError> {
     let Ok(job) = read_job(alloc, text.as_bytes()) else {
         return Ok(Vec::new(alloc));
     };
-    let hasher = ConstHash { value: 7 };
+    let hasher = ConstHash { value: hash };
     let mut stop = NeverStop::new();
     let ran = run_plan_with(
         rt,

@@ -20,6 +20,12 @@ const INNER: Case = Case {
 "root":3}"#,
 };
 
+const SECOND_VERSION: Case = Case {
+    shows: "the same job by version 2",
+    version: "2",
+    ..INNER
+};
+
 const PAIR_WITHIN: Case = Case {
     shows: "an inner join within its limit, sorted",
     is_sorted: true,
@@ -143,6 +149,7 @@ const TWO_KEYS_NULLS: Case = Case {
 /// The jobs, in the order in which they are told.
 pub(crate) const CASES: &[Case] = &[
     INNER,
+    SECOND_VERSION,
     PAIR_WITHIN,
     PAIR_ABOVE,
     KEPT_RIGHT,

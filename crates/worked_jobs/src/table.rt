@@ -8,7 +8,7 @@ use std::alloc::{AllocError, Global};
 use std::thread::Threads;
 use worked_runs::{Case, tell};
 
-/// Jobs that are run, by four numbers of workers each.
+/// Jobs that are run, by five numbers of workers and rows a chunk each.
 fn tell_cases<T: Threads + Sync>(
     rt: &T,
     a: Global,
@@ -38,15 +38,16 @@ fn tell_plans<T: Threads + Sync>(
     Ok(())
 }
 
-/// The same under one hash for all keys.
+/// The same where all keys have this hash.
 fn tell_hashed<T: Threads + Sync>(
     rt: &T,
     a: Global,
     answers: &mut String,
     cases: &[Case],
+    hash: u64,
 ) -> Result<(), AllocError> {
     for case in cases {
-        told::tell_hashed(rt, a, answers, case)?;
+        told::tell_hashed(rt, a, answers, case, hash)?;
     }
     Ok(())
 }
@@ -55,15 +56,17 @@ fn tell_hashed_joins<T: Threads + Sync>(
     rt: &T,
     a: Global,
     answers: &mut String,
+    hash: u64,
 ) -> Result<(), AllocError> {
-    tell(answers, "under one hash for all keys")?;
-    tell_hashed(rt, a, answers, inner_joins::CASES)?;
-    tell_hashed(rt, a, answers, keys::CASES)?;
-    tell_hashed(rt, a, answers, full_joins::CASES)?;
-    tell_hashed(rt, a, answers, other_joins::CASES)?;
-    tell_hashed(rt, a, answers, semi_joins::CASES)?;
-    tell_hashed(rt, a, answers, anti_joins::CASES)?;
-    tell_hashed(rt, a, answers, ledger::CASES)?;
+    let shows = format!(in a; "all keys have the hash {hash}")?;
+    tell(answers, shows.as_str())?;
+    tell_hashed(rt, a, answers, inner_joins::CASES, hash)?;
+    tell_hashed(rt, a, answers, keys::CASES, hash)?;
+    tell_hashed(rt, a, answers, full_joins::CASES, hash)?;
+    tell_hashed(rt, a, answers, other_joins::CASES, hash)?;
+    tell_hashed(rt, a, answers, semi_joins::CASES, hash)?;
+    tell_hashed(rt, a, answers, anti_joins::CASES, hash)?;
+    tell_hashed(rt, a, answers, ledger::CASES, hash)?;
     Ok(())
 }
 
@@ -71,7 +74,8 @@ fn tell_hashed_joins<T: Threads + Sync>(
 pub(crate) fn answers<T: Threads + Sync>(rt: &T, alloc: Global) -> Result<String, AllocError> {
     let mut answers = String::new(alloc);
     tell_plans(rt, alloc, &mut answers)?;
-    tell_hashed_joins(rt, alloc, &mut answers)?;
+    tell_hashed_joins(rt, alloc, &mut answers, 7)?;
+    tell_hashed_joins(rt, alloc, &mut answers, 0)?;
     sides::tell_sides(rt, alloc, &mut answers)?;
     stopped::tell_stopped(rt, alloc, &mut answers)?;
     Ok(answers)

@@ -12,7 +12,7 @@ pub(crate) const SEVERAL: Numbers = Numbers {
 };
 
 /// The other numbers by which each job is run: one thread, more threads over chunks of one row, and the most workers
-/// over one chunk.
+/// over one chunk and over chunks of one row.
 const OTHERS: &[(&str, Numbers)] = &[
     (
         " by 1 worker\n",
@@ -33,6 +33,13 @@ const OTHERS: &[(&str, Numbers)] = &[
         Numbers {
             workers: 256,
             chunk_rows: 4294967295,
+        },
+    ),
+    (
+        " by 256 workers, a row a chunk\n",
+        Numbers {
+            workers: 256,
+            chunk_rows: 1,
         },
     ),
 ];
@@ -74,27 +81,29 @@ fn plain_lines<T: Threads + Sync>(
     lines_of(alloc, case, ended.out.bytes())
 }
 
-/// The lines of the job's rows where all keys have one hash.
+/// The lines of the job's rows where all keys have this hash.
 fn hashed_lines<T: Threads + Sync>(
     rt: &T,
     alloc: Global,
     case: &Case,
     text: &str,
+    hash: u64,
 ) -> Result<String, AllocError> {
-    let lines = hashed::lines(rt, alloc, text)?;
+    let lines = hashed::lines(rt, alloc, text, hash)?;
     lines_of(alloc, case, lines.as_slice())
 }
 
-/// Appends whether the job's lines are the same where all keys have one hash.
+/// Appends whether the job's lines are the same where all keys have this hash.
 pub(crate) fn tell_hashed<T: Threads + Sync>(
     rt: &T,
     alloc: Global,
     answers: &mut String,
     case: &Case,
+    hash: u64,
 ) -> Result<(), AllocError> {
     let text = case.text(alloc, SEVERAL)?;
     let plain = plain_lines(rt, alloc, case, text.as_str())?;
-    let hashed = hashed_lines(rt, alloc, case, text.as_str())?;
+    let hashed = hashed_lines(rt, alloc, case, text.as_str(), hash)?;
     answers.push_str(case.shows)?;
     answers.push_str(": ")?;
     answers.push_str(said(plain.as_str() == hashed.as_str()))?;

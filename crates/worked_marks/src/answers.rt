@@ -1,10 +1,10 @@
 //! The lines of all cases.
 
-ghost use Rattle.std.specs.Prelude.{◌≡◌};
+ghost use Rattle.std.specs.Prelude.{◌≡◌, ◌<◌};
 ghost use Rattle.pipe_expr.specs.declared.join_words.JoinType.TheVariants as how;
 ghost use Rattle.worked_marks.specs.Sides.{AreSides};
 
-use crate::cases::{CASES, Case};
+use crate::cases::{CASES, Case, ROW_BY_ROW};
 use crate::full::through_full;
 use crate::left_built::through_left_built;
 use crate::left_cases::LEFT_BUILT;
@@ -18,7 +18,7 @@ use pipe_rows::{ConstHash, Fnv};
 use std::alloc::{AllocError, Global};
 use worked_builders::{BuiltPlan, plan_of};
 
-/// How many rows a piece has.
+/// How many rows a piece of most joins has.
 const PIECE_ROWS: u32 = 2;
 
 /// What comes of a full join, by the side that is built.
@@ -26,15 +26,17 @@ fn full_joined<H: HashesKeys>(
     alloc: Global,
     sides: Sides,
     whole: bool,
+    rows: u32,
     hasher: H,
 ) -> Result<String, AllocError>
     requires sides { AreSides sides }
     requires full { sides.spec.how ≡ how.Full }
+    requires rows { 0 < rows }
 {
     if sides.spec.swapped {
-        through_full(alloc, sides, whole, PIECE_ROWS, hasher)
+        through_full(alloc, sides, whole, rows, hasher)
     } else {
-        through_left_built(alloc, sides, whole, PIECE_ROWS, hasher)
+        through_left_built(alloc, sides, whole, rows, hasher)
     }
 }
 
@@ -43,18 +45,22 @@ fn joined<H: HashesKeys>(
     alloc: Global,
     sides: Sides,
     whole: bool,
+    rows: u32,
     hasher: H,
 ) -> Result<String, AllocError>
-    requires { AreSides sides }
+    requires sides { AreSides sides }
+    requires rows { 0 < rows }
 {
     match sides.spec.how {
-        JoinType::Full => full_joined(alloc, sides, whole, hasher),
-        _ => through_marks(alloc, sides, whole, PIECE_ROWS, hasher),
+        JoinType::Full => full_joined(alloc, sides, whole, rows, hasher),
+        _ => through_marks(alloc, sides, whole, rows, hasher),
     }
 }
 
-/// What comes of a plan's join.
-fn plan_text(alloc: Global, plan: &BuiltPlan, case: &Case) -> Result<String, AllocError> {
+/// What comes of a plan's join, in pieces of so many rows.
+fn plan_text(alloc: Global, plan: &BuiltPlan, case: &Case, rows: u32) -> Result<String, AllocError>
+    requires { 0 < rows }
+{
     let checked = match check_plan(alloc, &plan.arena, plan.root) {
         Ok(checked) => checked,
         Err(PipeError::Memory) => return Err(AllocError),
@@ -62,24 +68,26 @@ fn plan_text(alloc: Global, plan: &BuiltPlan, case: &Case) -> Result<String, All
     };
     match join_at_root(alloc, &checked)? {
         Some(sides) => match case.hash {
-            None => joined(alloc, sides, case.whole, Fnv),
-            Some(value) => joined(alloc, sides, case.whole, ConstHash { value }),
+            None => joined(alloc, sides, case.whole, rows, Fnv),
+            Some(value) => joined(alloc, sides, case.whole, rows, ConstHash { value }),
         },
         None => String::from_str(alloc, "no join of two scans"),
     }
 }
 
-/// The line of a case.
-fn case_line(alloc: Global, case: &Case) -> Result<String, AllocError> {
+/// The line of a case, in pieces of so many rows.
+fn case_line(alloc: Global, case: &Case, rows: u32) -> Result<String, AllocError>
+    requires { 0 < rows }
+{
     let plan = plan_of(alloc, case.nodes)?;
-    let text = plan_text(alloc, &plan, case)?;
+    let text = plan_text(alloc, &plan, case, rows)?;
     format!(in alloc; "{}: {text}\n", case.shows)
 }
 
 /// Adds the lines of the joins that keep built rows.
 fn put_cases(alloc: Global, answers: &mut String) -> Result<(), AllocError> {
     for case in CASES {
-        answers.push_str(case_line(alloc, case)?.as_str())?;
+        answers.push_str(case_line(alloc, case, PIECE_ROWS)?.as_str())?;
     }
     Ok(())
 }
@@ -87,7 +95,15 @@ fn put_cases(alloc: Global, answers: &mut String) -> Result<(), AllocError> {
 /// Adds those of the full joins whose left side is built.
 fn put_left_built(alloc: Global, answers: &mut String) -> Result<(), AllocError> {
     for case in LEFT_BUILT {
-        answers.push_str(case_line(alloc, case)?.as_str())?;
+        answers.push_str(case_line(alloc, case, PIECE_ROWS)?.as_str())?;
+    }
+    Ok(())
+}
+
+/// Adds those whose pieces have one row.
+fn put_row_by_row(alloc: Global, answers: &mut String) -> Result<(), AllocError> {
+    for case in ROW_BY_ROW {
+        answers.push_str(case_line(alloc, case, 1)?.as_str())?;
     }
     Ok(())
 }
@@ -97,5 +113,6 @@ pub(crate) fn answers(alloc: Global) -> Result<String, AllocError> {
     let mut answers = String::new(alloc);
     put_cases(alloc, &mut answers)?;
     put_left_built(alloc, &mut answers)?;
+    put_row_by_row(alloc, &mut answers)?;
     Ok(answers)
 }

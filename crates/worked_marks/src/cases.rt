@@ -109,6 +109,16 @@ pub(crate) const ONE_NINE_EIGHT: &[WrittenColumn] = &[("k", INT, &["1", "9", "8"
 
 pub(crate) const SEVEN: &[WrittenColumn] = &[("k", INT, &["7"])];
 
+const ONE_TWO_THREE_ONE: &[WrittenColumn] = &[("k", INT, &["1", "2", "3", "1"])];
+
+/// Joins whose pieces have one row.
+pub(crate) const ROW_BY_ROW: &[Case] = &[Case {
+    shows: "full join, a key of two rows that no row meets, row by row",
+    nodes: &[Scan(TWO_THREE), Scan(ONE_TWO_THREE_ONE), Join(0, 1, FULL)],
+    whole: false,
+    hash: Some(0),
+}];
+
 pub(crate) const CASES: &[Case] = &[
     Case {
         shows: "semi join",
