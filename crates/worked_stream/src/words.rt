@@ -50,6 +50,19 @@ fn stream<T: Threads + Wait + Sync>(
     Ok(Ended { status, out, notes })
 }
 
+/// Whether a text is the sorted join's lines, in one of the orders in which its two blocks may come.
+fn is_sorted_join(text: &str) -> bool {
+    text == FIRST_FIRST || text == SECOND_FIRST
+}
+
+/// Appends what was written.
+fn push_blocks(answers: &mut String, text: &str) -> Result<(), AllocError> {
+    if is_sorted_join(text) {
+        return answers.push_str("the header, and its blocks in one of the two orders\n");
+    }
+    answers.push_str(text)
+}
+
 /// Appends what a case shows, and how its stream ended.
 fn tell_ended(
     alloc: Global,
@@ -59,11 +72,7 @@ fn tell_ended(
 ) -> Result<(), AllocError> {
     tell(answers, shows)?;
     answers.push_str(format!(in alloc; "status {}\n", ended.status)?.as_str())?;
-    let out = shown(ended.out.bytes());
-    answers.push_str(match out {
-        FIRST_FIRST | SECOND_FIRST => "the header, and its blocks in one of the two orders\n",
-        _ => out,
-    })?;
+    push_blocks(answers, shown(ended.out.bytes()))?;
     answers.push_str(shown(ended.notes.bytes()))
 }
 
