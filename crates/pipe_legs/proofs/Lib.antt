@@ -1,0 +1,12 @@
+pub mod Tests
+pub mod Trees
+pub mod Trails
+pub mod Steps
+pub mod Cuts
+pub mod Sides
+pub mod Nodes
+pub mod Totals
+pub mod Paths
+pub mod Chains
+pub mod Plans
+pub mod Whole
