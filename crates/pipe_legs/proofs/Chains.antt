@@ -1,5 +1,5 @@
 -- Chains by readers.
-use Rattle.std.proofs.Common.{◌≡◌, ◌≢◌, ℕ, zero, suc, ◌+◌, ◌<◌, ◌≤◌, Bool, true, false, cond, List, [], ◌∷◌, refl, sym, ap, subst, ◌∙◌, arith, Option, Some, None}
+use Rattle.std.proofs.Common.{◌≡◌, ◌≢◌, ℕ, zero, suc, ◌+◌, ◌<◌, ◌≤◌, Bool, true, false, cond, refl, sym, ap, ◌∙◌, arith, Option, Some, None}
 use Rattle.pipe_events.specs.Stages.{Stage}
 use Rattle.pipe_legs.specs.Chains.{Chain, ends_in, through_first, last_where, goes_through, reads, reader, chain_by, chain_in, chain_of}
 use Rattle.pipe_legs.specs.Ways.{one, occurs}

@@ -1,13 +1,13 @@
 -- The trails of a node from those of its inputs.
-use Rattle.std.proofs.Common.{◌≡◌, ℕ, zero, suc, ◌+◌, ◌<◌, ◌≤◌, Bool, true, false, cond, ◌||◌, ◌==◌, ◌⊎◌, inl, inr, List, [], ◌∷◌, ◌++◌, map, refl, sym, ap, ◌∙◌, arith}
+use Rattle.std.proofs.Common.{◌≡◌, ℕ, ◌+◌, ◌<◌, Bool, true, false, cond, ◌==◌, inl, inr, List, [], ◌∷◌, ◌++◌, map, refl, sym, ap, ◌∙◌, arith}
 use Rattle.std.specs.List.{flat_map, AllByRecursion}
 use Rattle.pipe_frame.proofs.Weights.{total, total-append}
 use Rattle.pipe_branches.specs.declared.branch.SinkAt.{SinkAt}
 use Rattle.pipe_legs.specs.Meaning.{Meaning}
-use Rattle.pipe_legs.specs.Ways.{one, occurs}
-use Rattle.pipe_legs.proofs.Tests.{by_test, eq-is, eq-true, not-both, or-first, or-right, some-left, all-append, all-map, flat-total, occurs-append}
+use Rattle.pipe_legs.specs.Ways.{occurs}
+use Rattle.pipe_legs.proofs.Tests.{by_test, eq-is, not-both, or-first, or-right, some-left, all-append, all-map, flat-total, occurs-append}
 use Rattle.pipe_legs.proofs.Trails.{Trail, trail_from, through, sunk, trail_to, trail_through, trail_starts, opened, AreOrdered, IsTrail, IsCut, none_free, or_own}
-use Rattle.pipe_legs.proofs.Steps.{all_through, through_starts, through_order, through_each, left, repeated, all_sink, sunk_order, sunk_each, TakesAll}
+use Rattle.pipe_legs.proofs.Steps.{all_through, through_starts, through_order, left, repeated, all_sink, sunk_order, sunk_each, TakesAll}
 
 -- ---- lists of trails
 

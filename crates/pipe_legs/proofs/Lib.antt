@@ -10,3 +10,4 @@ pub mod Paths
 pub mod Chains
 pub mod Plans
 pub mod Whole
+pub mod Sounds

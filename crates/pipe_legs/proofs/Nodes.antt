@@ -1,16 +1,15 @@
 -- The trails of each node of a plan, from its inputs up.
-use Rattle.std.proofs.Common.{◌≡◌, ℕ, zero, suc, ◌+◌, ◌<◌, ◌≤◌, Bool, true, false, cond, ◌||◌, ◌==◌, ◌⊎◌, inl, inr, List, [], ◌∷◌, ◌++◌, map, refl, sym, ap, subst, ◌∙◌, arith}
+use Rattle.std.proofs.Common.{◌≡◌, ℕ, zero, suc, ◌<◌, true, false, cond, ◌||◌, ◌==◌, inl, inr, List, [], ◌∷◌, ◌++◌, map, refl, sym, ap, subst, ◌∙◌, arith}
 use Rattle.std.specs.List.{flat_map, list_any, AllByRecursion}
 use Rattle.pipe_frame.proofs.Weights.{total, total-append}
-use Rattle.pipe_branches.specs.declared.branch.SinkAt.{SinkAt}
 use Rattle.pipe_branches.specs.declared.branch.SinkAt.TheVariants as at
-use Rattle.pipe_legs.specs.Shape.{Kind, Begins, Each, Unites, Joins, Sorts, is_joining, is_sorting, sources_by, joins_by}
-use Rattle.pipe_legs.specs.Meaning.{Meaning, Tree, is_sort_at, is_join_at, side_at, meaning}
-use Rattle.pipe_legs.specs.Ways.{one, occurs}
-use Rattle.pipe_legs.proofs.Tests.{by_test, eq-is, eq-true, not-both, or-first, or-right, and-both, some-left, all-append, all-map, flat-append, occurs-append}
+use Rattle.pipe_legs.specs.Shape.{Kind, Begins, Each, Unites, Joins, Sorts, is_sorting, sources_by, joins_by}
+use Rattle.pipe_legs.specs.Meaning.{Tree, is_sort_at, meaning}
+use Rattle.pipe_legs.specs.Ways.{one}
+use Rattle.pipe_legs.proofs.Tests.{by_test, eq-is, eq-true, not-both, or-first, or-right, and-both, some-left}
 use Rattle.pipe_legs.proofs.Trees.{IsInput, EndsAt, AreApart, AreInputs, IsTree}
-use Rattle.pipe_legs.proofs.Trails.{Trail, trail_from, through, closed_by, sunk, trails_by, AreTrails, trail_to, trail_through, trail_starts, opened, AreOrdered, IsTrail, IsCut, none_free, is_free, or_own, IsCutAt}
-use Rattle.pipe_legs.proofs.Steps.{all_through, through_each, left, repeated, left_passed, left_first, all_sink, closed_sunk}
+use Rattle.pipe_legs.proofs.Trails.{Trail, through, closed_by, sunk, trails_by, AreTrails, trail_to, trail_through, opened, IsTrail, IsCut, none_free, is_free, or_own, IsCutAt}
+use Rattle.pipe_legs.proofs.Steps.{all_through, through_each, repeated, left_passed, left_first, all_sink, closed_sunk}
 use Rattle.pipe_legs.proofs.Cuts.{raise_trail, raise, two, of_source, of_none, of_operator, of_sink}
 use Rattle.pipe_legs.proofs.Sides.{is_join_there, no_join, no_side, side_cases, sides_stay, sides_down}
 

@@ -1,6 +1,6 @@
 -- A branch as it is cut, leg by leg.
-use Rattle.std.proofs.Common.{◌≡◌, ℕ, zero, suc, ◌+◌, ◌-◌, ◌<◌, ◌≤◌, Bool, true, false, not, cond, ◌||◌, eqb, List, [], ◌∷◌, ◌++◌, length, map, take, drop, refl, sym, ap, subst, ◌∙◌, arith, length-drop}
-use Rattle.std.specs.List.{flat_map, list_any, list_all, AllByRecursion}
+use Rattle.std.proofs.Common.{◌≡◌, ℕ, zero, suc, ◌-◌, ◌<◌, ◌≤◌, Bool, true, false, not, cond, ◌||◌, eqb, List, [], ◌∷◌, ◌++◌, length, map, take, drop, refl, sym, ap, subst, ◌∙◌, arith, length-drop}
+use Rattle.std.specs.List.{flat_map, list_all, AllByRecursion}
 use Rattle.std.proofs.lemmas.List.{take_all, drop_all, take-append-le, drop-append-le, length_push}
 use Rattle.pipe_plan.specs.Node.{Node}
 use Rattle.pipe_plan.specs.Node as node
@@ -16,11 +16,11 @@ use Rattle.pipe_branches.specs.Climbing.{turn_at}
 use Rattle.pipe_branches.specs.Texts.{between}
 use Rattle.pipe_branches.proofs.Chains.{AreWithin}
 use Rattle.pipe_branches.proofs.Down.{node-turn, turn-is}
-use Rattle.pipe_branches.proofs.Sound.{or-true, member, root-there, down-under, under-self}
+use Rattle.pipe_branches.proofs.Sound.{or-true, member, down-under}
 use Rattle.pipe_branches.proofs.Covers.{side-member, self-member}
 use Rattle.pipe_branches.proofs.Readers.{there-under, input-under}
-use Rattle.pipe_legs.specs.Shape.{Kind, kind_of, kind_at, union_kind}
-use Rattle.pipe_legs.specs.Meaning.{Tree, tree_of}
+use Rattle.pipe_legs.specs.Shape.{kind_of, union_kind}
+use Rattle.pipe_legs.specs.Meaning.{tree_of}
 use Rattle.pipe_legs.specs.Legs.{Leg, Way, sink_node, leg_of, legs_from, way_of, ways_of}
 use Rattle.pipe_legs.proofs.Tests.{all-append}
 use Rattle.pipe_legs.proofs.Trails.{Trail, through, closed_by, put_sink, sunk, trails_by, AreTrails}

@@ -1,6 +1,5 @@
 -- A well-formed plan by its parts.
-use Rattle.std.proofs.Common.{◌≡◌, ◌≢◌, ℕ, zero, suc, ◌+◌, ◌<◌, ◌≤◌, Bool, true, false, not, cond, ◌||◌, eqb, ◌⊎◌, inl, inr, List, [], ◌∷◌, ◌++◌, length, refl, sym, ap, subst, ◌∙◌, arith, Option, Some, None}
-use Rattle.std.specs.Prelude.{nat_le}
+use Rattle.std.proofs.Common.{◌≡◌, ◌≢◌, ℕ, ◌<◌, Bool, true, false, not, cond, ◌||◌, eqb, inl, inr, List, [], ◌∷◌, ◌++◌, length, refl, sym, ap, subst, ◌∙◌, arith, Option, Some, None}
 use Rattle.std.specs.List.{flat_map, list_any, list_all, AllByRecursion}
 use Rattle.std.proofs.lemmas.Bool.{and_parts}
 use Rattle.std.proofs.lemmas.Bool.Decides.{Decides-eqb}
@@ -21,20 +20,20 @@ use Rattle.pipe_plan.specs.Faults.{repeats, IsWellFormed}
 use Rattle.pipe_plan.specs.declared.ir.JoinOptions.{JoinOptions}
 use Rattle.pipe_branches.specs.Branches.{is_scan, is_scan_at, built_side, probed_side}
 use Rattle.pipe_branches.proofs.Down.{walk-at, walk-below}
-use Rattle.pipe_branches.proofs.Sound.{or-true, member, any-member, under-self, under-trans, under-one, root-there, good-node, first_false}
+use Rattle.pipe_branches.proofs.Sound.{member, any-member, under-self, under-trans, under-one, root-there, good-node, first_false}
 use Rattle.pipe_branches.proofs.Covers.{under-cases, side-member, self-member, second_false}
 use Rattle.pipe_branches.proofs.Readers.{there-under, input-under, under-low, one-reader, apart}
-use Rattle.pipe_events.specs.Stages.{Stage, Scan, Each, Union, Sort, Joined, JoinStage, Key, Stages, feeds, through, own_rows, stage_rows, rows, rows_at, rows_to, IsBelow}
+use Rattle.pipe_events.specs.Stages.{Stage, Each, Union, Joined, JoinStage, Stages, feeds, through, own_rows, stage_rows, rows, rows_at, rows_to, IsBelow}
 use Rattle.pipe_events.specs.Worlds.{ends}
 use Rattle.pipe_events.specs.PlanStages.{stage_of, stage_at, Setting, stages_of}
 use Rattle.pipe_events.proofs.StageLemmas.{node_split}
 use Rattle.pipe_events.proofs.PlanLemmas.{stages_have_rows}
 use Rattle.pipe_legs.specs.Shape.{Kind, Begins, Unites, Joins, Sorts, kind_of, kind_at, union_kind, is_joining, is_sorting, sources_by, joins_by, sources_at, joins_at, sources_of, joins_of}
 use Rattle.pipe_legs.specs.Shape as kind
-use Rattle.pipe_legs.specs.Chains.{Chain, through_first, ends_in, goes_through, reads, reader, chain_of}
+use Rattle.pipe_legs.specs.Chains.{through_first, ends_in, goes_through, reads, reader, chain_of}
 use Rattle.pipe_legs.specs.Meaning.{Tree, tree_of, join_own, is_source_over, is_read_whole, is_part}
-use Rattle.pipe_legs.proofs.Tests.{by_test, eq-is, eq-true, eq-false, not-both, or-case, or-first, or-right, and-cases, and-both}
-use Rattle.pipe_legs.proofs.Chains.{ReadsBelow, found_one, found_none, found_is, read_by, chain_from, chain_none, chain_up}
+use Rattle.pipe_legs.proofs.Tests.{by_test, eq-is, eq-false, not-both, or-case, or-first, or-right, and-cases, and-both}
+use Rattle.pipe_legs.proofs.Chains.{ReadsBelow, found_one, found_none, found_is, chain_from, chain_none, chain_up}
 use Rattle.pipe_legs.proofs.Trees.{IsInput, EndsAt, AreApart, AreInputs, HasRows, under_inputs, IsTree}
 
 -- ---- nodes under the root
@@ -44,7 +43,7 @@ there plan root n good u =
     let root_in = (root-there plan root good.faultless).0 in
     let l = under-low plan root root n good root_in (under-self plan.nodes root root_in) u in omega arith
 
-stage_is : (plan : Plan) (root n : ℕ) → is_under plan.nodes root n ≡ true → stage_at plan root n ≡ stage_of plan.frames (schemas_to plan n) (node_at plan.nodes n)
+pub stage_is : (plan : Plan) (root n : ℕ) → is_under plan.nodes root n ≡ true → stage_at plan root n ≡ stage_of plan.frames (schemas_to plan n) (node_at plan.nodes n)
 stage_is plan root n u = ap (λ b. cond b (stage_of plan.frames (schemas_to plan n) (node_at plan.nodes n)) (Union [])) u
 
 once : (plan : Plan) (root n : ℕ) → IsWellFormed plan root → is_under plan.nodes root n ≡ true → repeats (inputs_of (node_at plan.nodes n)) ≡ false
@@ -80,11 +79,11 @@ read_member frames schema (node.Join left right left_on right_on options) i h = 
 read_member frames schema (node.Sort k by options) i h = or-first (eqb k i) false h
 
 -- a reader is under the root, and has the node as an input
-record IsReading (plan : Plan) (root r i : ℕ) : Type 0 where
-  under : is_under plan.nodes root r ≡ true
-  reads_it : member i (inputs_of (node_at plan.nodes r)) ≡ true
+pub record IsReading (plan : Plan) (root r i : ℕ) : Type 0 where
+  pub under : is_under plan.nodes root r ≡ true
+  pub reads_it : member i (inputs_of (node_at plan.nodes r)) ≡ true
 
-reading : (plan : Plan) (root r i : ℕ) → reads (stage_at plan root r) i ≡ true → IsReading plan root r i
+pub reading : (plan : Plan) (root r i : ℕ) → reads (stage_at plan root r) i ≡ true → IsReading plan root r i
 reading plan root r i h =
     by_test (IsReading plan root r i) (is_under plan.nodes root r)
     (λ u. record { under = u; reads_it = read_member plan.frames (schemas_to plan r) (node_at plan.nodes r) i (ap (λ s. reads s i) (sym (stage_is plan root r u)) ∙ h) })
@@ -382,7 +381,7 @@ joins_same plan root n (Sorts i) a b are same = same i are.lower
 -- ---- scans that a source reads together
 
 -- which nodes are read by a source
-part_reader : (plan : Plan) (root n : ℕ) → is_part plan root n ≡ true → (r : ℕ) × ((reads (stage_at plan root r) n ≡ true) × (is_source_over (kind_at plan.nodes r) ≡ true))
+pub part_reader : (plan : Plan) (root n : ℕ) → is_part plan root n ≡ true → (r : ℕ) × ((reads (stage_at plan root r) n ≡ true) × (is_source_over (kind_at plan.nodes r) ≡ true))
 part_reader plan root n h =
     let size = length plan.nodes in
     let split : (o : Option ℕ) → reader (stage_at plan root) size n ≡ o → is_read_whole (kind_at plan.nodes) o ≡ true → (r : ℕ) × ((reads (stage_at plan root r) n ≡ true) × (is_source_over (kind_at plan.nodes r) ≡ true)) = elim [

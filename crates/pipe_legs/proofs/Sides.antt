@@ -1,8 +1,8 @@
 -- The sides of joins that are built.
-use Rattle.std.proofs.Common.{◌≡◌, ◌≢◌, ℕ, ◌<◌, ◌≤◌, Bool, true, false, cond, ◌||◌, ◌==◌, ◌⊎◌, inl, inr, List, [], ◌∷◌, refl, sym, ap, subst, ◌∙◌, arith}
+use Rattle.std.proofs.Common.{◌≡◌, ℕ, true, false, ◌||◌, ◌==◌, ◌⊎◌, inl, inr, refl, sym, ap, subst, ◌∙◌, arith}
 use Rattle.pipe_legs.specs.Shape.{Kind, Begins, Each, Unites, Joins, Sorts, is_joining}
 use Rattle.pipe_legs.specs.Meaning.{Tree, is_join_at, is_built_under, side_at}
-use Rattle.pipe_legs.proofs.Tests.{by_test, eq-is, not-both, or-case, or-right, and-cases, and-both}
+use Rattle.pipe_legs.proofs.Tests.{eq-is, not-both, or-case, or-right, and-cases, and-both}
 use Rattle.pipe_legs.proofs.Trees.{AreInputs, IsTree}
 
 -- a join under the root

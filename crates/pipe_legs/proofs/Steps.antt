@@ -1,14 +1,14 @@
 -- Trails through an operator and into a sink.
-use Rattle.std.proofs.Common.{◌≡◌, ◌≢◌, ℕ, zero, suc, ◌+◌, ◌<◌, ◌≤◌, Bool, true, false, not, cond, ◌||◌, ◌==◌, List, [], ◌∷◌, ◌++◌, map, refl, sym, ap, subst, ◌∙◌, arith, append_assoc}
+use Rattle.std.proofs.Common.{◌≡◌, ℕ, zero, suc, ◌+◌, ◌<◌, Bool, true, false, not, cond, ◌||◌, ◌==◌, List, [], ◌∷◌, ◌++◌, map, refl, sym, ap, ◌∙◌, arith, append_assoc}
 use Rattle.std.proofs.lemmas.List.{append-nil}
 use Rattle.std.specs.List.{flat_map, AllByRecursion}
 use Rattle.pipe_frame.proofs.Weights.{total, total-append}
 use Rattle.pipe_branches.specs.declared.branch.SinkAt.{SinkAt}
 use Rattle.pipe_legs.specs.Meaning.{Meaning}
 use Rattle.pipe_legs.specs.Legs.{Leg}
-use Rattle.pipe_legs.specs.Ways.{one, occurs, legs_to, legs_through, starts_from, IsSinkOf}
-use Rattle.pipe_legs.proofs.Tests.{by_test, eq-is, flat-append, occurs-append, not-nil}
-use Rattle.pipe_legs.proofs.Trails.{Trail, put_operator, put_sink, through, closed_by, sunk, trail_to, trail_through, trail_starts, opened, last_of, IsStep, AreSteps, AreOrdered, IsTrail}
+use Rattle.pipe_legs.specs.Ways.{one, legs_to, legs_through, starts_from, IsSinkOf}
+use Rattle.pipe_legs.proofs.Tests.{by_test, eq-is, occurs-append, not-nil}
+use Rattle.pipe_legs.proofs.Trails.{Trail, put_sink, through, closed_by, sunk, trail_to, trail_through, trail_starts, opened, last_of, IsStep, AreSteps, AreOrdered, IsTrail}
 
 -- a trail by its parts
 abbrev pub trail : ℕ → List Leg → ℕ → List ℕ → Bool → Trail

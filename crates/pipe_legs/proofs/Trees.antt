@@ -1,7 +1,6 @@
 -- What a well-formed plan is by its parts: all that the laws of branches rest on.
 use Rattle.std.proofs.Common.{◌≡◌, ◌≢◌, ℕ, ◌<◌, ◌≤◌, Bool, true, false, ◌||◌, List, [], ◌∷◌, ◌++◌}
 use Rattle.std.specs.List.{flat_map, list_any, AllByRecursion}
-use Rattle.pipe_frame.specs.Rows.{Row}
 use Rattle.pipe_frame.proofs.Weights.{SameBag}
 use Rattle.pipe_legs.specs.Shape.{Kind, Begins, Each, Unites, Joins, Sorts, sources_by, joins_by, is_joining, is_sorting}
 use Rattle.pipe_legs.specs.Meaning.{Tree}

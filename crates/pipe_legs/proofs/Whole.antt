@@ -1,26 +1,25 @@
 -- The branches of a well-formed plan can be run.
-use Rattle.std.proofs.Common.{◌≡◌, ℕ, zero, suc, ◌+◌, ◌<◌, ◌≤◌, Bool, true, false, cond, ◌||◌, ◌==◌, ◌⊎◌, inl, inr, List, [], ◌∷◌, ◌++◌, length, map, refl, sym, ap, subst, ◌∙◌, arith}
+use Rattle.std.proofs.Common.{◌≡◌, ℕ, zero, suc, ◌+◌, ◌<◌, ◌≤◌, Bool, true, false, cond, ◌||◌, ◌==◌, inl, inr, List, [], ◌∷◌, ◌++◌, length, map, refl, sym, ap, subst, ◌∙◌, arith}
 use Rattle.std.specs.List.{flat_map, list_any, AllByRecursion}
-use Rattle.pipe_frame.specs.Rows.{Row, Same}
-use Rattle.pipe_frame.proofs.Weights.{total, SameBag, total-append, total-flat_map, total-same, Same-from_bag}
+use Rattle.pipe_frame.specs.Rows.{Row}
+use Rattle.pipe_frame.proofs.Weights.{total, total-append, total-flat_map, Same-from_bag}
 use Rattle.pipe_plan.specs.Plan.{Plan}
 use Rattle.pipe_plan.specs.Under.{is_under}
 use Rattle.pipe_plan.specs.Faults.{IsWellFormed}
-use Rattle.pipe_branches.specs.declared.branch.SinkAt.{SinkAt}
 use Rattle.pipe_branches.specs.declared.branch.SinkAt.TheVariants as at
 use Rattle.pipe_legs.specs.Shape.{Kind, Begins, Each, Unites, Joins, Sorts, is_joining, sources_by, joins_by, sources_of}
-use Rattle.pipe_legs.specs.Meaning.{Meaning, Place, OutOf, Into, comes, from, is_place, due, Tree, is_join_at, is_sort_at, side_at, meaning, tree_of, meaning_of}
+use Rattle.pipe_legs.specs.Meaning.{Meaning, Place, OutOf, Into, comes, from, Tree, is_join_at, tree_of, meaning_of}
 use Rattle.pipe_legs.specs.Legs.{Leg, Way, ways_of}
-use Rattle.pipe_legs.specs.Ways.{one, occurs, legs_to, way_to, feeds, legs_through, way_through, passes, starts, way_starts, begun, starts_from, starts_of, leg_brings, legs_bring, way_brings, brought, own_brings, IsLeg, AreLegs, MayGoOn, IsWay, Behind, AreOrdered, CanRun}
-use Rattle.pipe_legs.specs.Laws.{IsRun, LegsAreChains, BuiltSidesComeFirst, LegsBeginAtSources, LegsBeginOnce, EveryJoinIsRun, SinksHaveTheirRows, NodesHaveTheirRows, BranchesCanRun}
-use Rattle.pipe_legs.proofs.Tests.{by_test, eq-is, eq-true, not-both, or-case, or-first, or-right, and-cases, some-left, flat-total, occurs-append, occurs-total}
+use Rattle.pipe_legs.specs.Ways.{one, occurs, feeds, legs_through, passes, starts, begun, starts_from, starts_of, leg_brings, legs_bring, way_brings, brought, own_brings, AreLegs, IsWay, AreOrdered, CanRun}
+use Rattle.pipe_legs.specs.Laws.{LegsAreChains, BuiltSidesComeFirst, LegsBeginAtSources, LegsBeginOnce, EveryJoinIsRun, SinksHaveTheirRows, NodesHaveTheirRows, BranchesCanRun}
+use Rattle.pipe_legs.proofs.Tests.{by_test, eq-is, eq-true, not-both, or-case, or-first, or-right, and-cases, some-left, occurs-append, occurs-total}
 use Rattle.pipe_legs.proofs.Trees.{IsInput, AreApart, AreInputs, under_inputs, IsTree}
 use Rattle.pipe_legs.proofs.Trails.{Trail, trail_to, trail_through, trail_starts, opened, IsStep, AreSteps, some_legs, IsTrail, IsCut, none_free, or_own, IsCutAt, closed_by, sunk}
 use Rattle.pipe_legs.proofs.Trails as trail
-use Rattle.pipe_legs.proofs.Steps.{left, repeated, left_passed, all_sink, closed_sunk}
+use Rattle.pipe_legs.proofs.Steps.{repeated, left_passed, all_sink, closed_sunk}
 use Rattle.pipe_legs.proofs.Cuts.{of_sink}
 use Rattle.pipe_legs.proofs.Sides.{not_ordered, sides_stay}
-use Rattle.pipe_legs.proofs.Nodes.{CutAt, cuts, know_all}
+use Rattle.pipe_legs.proofs.Nodes.{cuts, know_all}
 use Rattle.pipe_legs.proofs.Totals.{sums}
 use Rattle.pipe_legs.proofs.Paths.{way_of_trail, within, trails, are_trails, ways_are}
 use Rattle.pipe_legs.proofs.Plans.{there, is_tree}
@@ -28,18 +27,18 @@ use Rattle.pipe_legs.proofs.Plans.{there, is_tree}
 -- ---- sources stand once
 
 -- each of some nodes once, and all of them within others
-record Once (within : ℕ → Bool) (xs : List ℕ) : Type 0 where
-  few : (n : ℕ) → occurs n xs ≤ 1
-  inside : (n : ℕ) → 0 < occurs n xs → within n ≡ true
+pub record Once (within : ℕ → Bool) (xs : List ℕ) : Type 0 where
+  pub few : (n : ℕ) → occurs n xs ≤ 1
+  pub inside : (n : ℕ) → 0 < occurs n xs → within n ≡ true
 
-two_once : (wa wb within : ℕ → Bool) (a b : List ℕ) → Once wa a → Once wb b → ((k : ℕ) → wa k ≡ true → wb k ≡ true → ⊥) → ((k : ℕ) → wa k ≡ true → within k ≡ true) → ((k : ℕ) → wb k ≡ true → within k ≡ true) → Once within (a ++ b)
+pub two_once : (wa wb within : ℕ → Bool) (a b : List ℕ) → Once wa a → Once wb b → ((k : ℕ) → wa k ≡ true → wb k ≡ true → ⊥) → ((k : ℕ) → wa k ≡ true → within k ≡ true) → ((k : ℕ) → wb k ≡ true → within k ≡ true) → Once within (a ++ b)
 two_once wa wb within a b x y apart ua ub = record {
   few = λ n. (let e = occurs-append n a b in let l = x.few n in let r = y.few n in
       elim (some-left (occurs n a)) [ inl z ↦ omega arith | inr p ↦ elim (some-left (occurs n b)) [ inl z ↦ omega arith | inr q ↦ absurd (apart n (x.inside n p) (y.inside n q)) ] ]);
   inside = λ n h. (let e = occurs-append n a b in elim (some-left (occurs n a)) [ inl z ↦ ub n (y.inside n (omega arith)) | inr p ↦ ua n (x.inside n p) ]);
 }
 
-more_once : (wa within : ℕ → Bool) (n : ℕ) (a : List ℕ) → Once wa a → wa n ≡ false → within n ≡ true → ((k : ℕ) → wa k ≡ true → within k ≡ true) → Once within (n ∷ a)
+pub more_once : (wa within : ℕ → Bool) (n : ℕ) (a : List ℕ) → Once wa a → wa n ≡ false → within n ≡ true → ((k : ℕ) → wa k ≡ true → within k ≡ true) → Once within (n ∷ a)
 more_once wa within n a x out own up = record {
   few = λ k. by_test (occurs k (n ∷ a) ≤ 1) (n == k)
       (λ e. (let c = ap one e in elim (some-left (occurs k a)) [ inl z ↦ omega arith | inr p ↦ absurd (not-both (wa n) (ap wa (eq-is n k e) ∙ x.inside k p) out) ]))
@@ -47,21 +46,21 @@ more_once wa within n a x out own up = record {
   inside = λ k h. by_test (within k ≡ true) (n == k) (λ e. ap within (sym (eq-is n k e)) ∙ own) (λ e. (let c = ap one e in up k (x.inside k (omega arith))));
 }
 
-raise_once : (wa within : ℕ → Bool) (a : List ℕ) → ((k : ℕ) → wa k ≡ true → within k ≡ true) → Once wa a → Once within a
+pub raise_once : (wa within : ℕ → Bool) (a : List ℕ) → ((k : ℕ) → wa k ≡ true → within k ≡ true) → Once wa a → Once within a
 raise_once wa within a up x = record { few = x.few; inside = λ n h. up n (x.inside n h) }
 
-list_once : (t : Tree) (f : ℕ → List ℕ) (n : ℕ) (is : List ℕ) → AreApart t is → AllByRecursion (λ i. Once (t.under i) (f i)) is → Once (λ k. list_any (λ o. t.under o k) is) (flat_map f is)
+pub list_once : (t : Tree) (f : ℕ → List ℕ) (n : ℕ) (is : List ℕ) → AreApart t is → AllByRecursion (λ i. Once (t.under i) (f i)) is → Once (λ k. list_any (λ o. t.under o k) is) (flat_map f is)
 list_once t f n [] apart known = record { few = λ k. omega arith; inside = λ k h. absurd (omega arith) }
 list_once t f n (i ∷ is) apart known =
     two_once (t.under i) (λ k. list_any (λ o. t.under o k) is) (λ k. list_any (λ o. t.under o k) (i ∷ is)) (f i) (flat_map f is) known.0 (list_once t f n is apart.1 known.1) (λ k a b. apart.0 k a b)
     (λ k a. or-first (t.under i k) (list_any (λ o. t.under o k) is) a) (λ k b. or-right (t.under i k) (list_any (λ o. t.under o k) is) b)
 
-in_any : (t : Tree) (n k : ℕ) (is : List ℕ) → AllByRecursion (IsInput t n) is → list_any (λ o. t.under o k) is ≡ true → t.under n k ≡ true
+pub in_any : (t : Tree) (n k : ℕ) (is : List ℕ) → AllByRecursion (IsInput t n) is → list_any (λ o. t.under o k) is ≡ true → t.under n k ≡ true
 in_any t n k [] are h = absurd (let e : false ≡ true = h in cc)
 in_any t n k (i ∷ is) are h = by_test (t.under n k ≡ true) (t.under i k) (are.0.within k)
     (λ e. in_any t n k is are.1 (sym (ap (λ v. v || list_any (λ o. t.under o k) is) e) ∙ h))
 
-above_not : (t : Tree) (n i : ℕ) → IsTree t → i < n → t.under t.root i ≡ true → t.under i n ≡ false
+pub above_not : (t : Tree) (n i : ℕ) → IsTree t → i < n → t.under t.root i ≡ true → t.under i n ≡ false
 above_not t n i good lt u = by_test (t.under i n ≡ false) (t.under i n) (λ e. (let l = good.lower i n u e in absurd (omega arith))) (λ e. e)
 
 at_once : (t : Tree) (n : ℕ) (x : Kind) → IsTree t → t.under t.root n ≡ true → AreInputs t n x → ((i : ℕ) → i < n → t.under t.root i ≡ true → Once (t.under i) (t.sources i)) → Once (t.under n) (sources_by t.sources n x)
@@ -111,7 +110,7 @@ part_listed t n j (Joins b p) are h inside =
     ]
 part_listed t n j (Sorts i) are h inside = inside i are.lower are.under h
 
-join_listed : (t : Tree) (bound n j : ℕ) → IsTree t → n < bound → t.under t.root n ≡ true → is_join_at t j ≡ true → t.under n j ≡ true → 0 < occurs j (t.joins n)
+pub join_listed : (t : Tree) (bound n j : ℕ) → IsTree t → n < bound → t.under t.root n ≡ true → is_join_at t j ≡ true → t.under n j ≡ true → 0 < occurs j (t.joins n)
 join_listed t zero n j good lt u join h = absurd (omega arith)
 join_listed t (suc bound) n j good lt u join h =
     let c = and-cases (t.under t.root j) (is_joining (t.kind j)) join in

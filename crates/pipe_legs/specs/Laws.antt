@@ -1,16 +1,15 @@
 -- The laws of branches, leg by leg.
-use Rattle.std.specs.Prelude.{◌≡◌, ℕ, ◌+◌, ◌<◌, ◌≤◌, List, [], ◌∷◌, ◌++◌, true}
+use Rattle.std.specs.Prelude.{◌≡◌, ℕ, ◌<◌, ◌≤◌, List, ◌++◌, true}
 use Rattle.std.specs.List.{flat_map, AllByRecursion}
-use Rattle.pipe_frame.specs.Rows.{Row, Same}
+use Rattle.pipe_frame.specs.Rows.{Same}
 use Rattle.pipe_frame.proofs.Weights.{total}
 use Rattle.pipe_plan.specs.Plan.{Plan}
-use Rattle.pipe_plan.specs.Under.{is_under}
 use Rattle.pipe_plan.specs.PlanRows.{rows_of}
 use Rattle.pipe_plan.specs.Faults.{IsWellFormed}
 use Rattle.pipe_legs.specs.Shape.{sources_of}
-use Rattle.pipe_legs.specs.Meaning.{Meaning, OutOf, Into, due, is_place, meaning_of}
+use Rattle.pipe_legs.specs.Meaning.{Meaning, OutOf, Into, is_place, meaning_of}
 use Rattle.pipe_legs.specs.Legs.{Way, ways_of}
-use Rattle.pipe_legs.specs.Ways.{occurs, feeds, passes, begun, starts_of, brought, own_brings, IsWay, AreOrdered, CanRun}
+use Rattle.pipe_legs.specs.Ways.{feeds, passes, begun, starts_of, brought, own_brings, IsWay, AreOrdered, CanRun, IsSound}
 
 -- each leg of a plan's branches is the chain of where it begins, goes upwards, and goes on only
 -- behind a sort's sink
@@ -71,3 +70,8 @@ abbrev pub BranchesCanRun : Type 0
 BranchesCanRun =
     (plan : Plan) (root : ℕ) → IsWellFormed plan root
     → CanRun (meaning_of plan root) (ways_of plan root)
+
+-- the meaning of a plan is sound: its joins stand once, chains go on, and so on
+abbrev pub MeaningsAreSound : Type 0
+MeaningsAreSound =
+    (plan : Plan) (root : ℕ) → IsWellFormed plan root → IsSound (meaning_of plan root)

@@ -3,7 +3,7 @@ use Rattle.std.specs.Prelude.{ℕ, List, [], ◌∷◌, ◌++◌, Bool, true, fa
 use Rattle.std.specs.List.{flat_map}
 use Rattle.pipe_frame.specs.Rows.{Row}
 use Rattle.pipe_plan.specs.Plan.{Plan}
-use Rattle.pipe_plan.specs.Under.{node_at, is_under}
+use Rattle.pipe_plan.specs.Under.{is_under}
 use Rattle.pipe_plan.specs.PlanRows.{rows_of}
 use Rattle.pipe_events.specs.Stages.{Stage, through, own_rows}
 use Rattle.pipe_events.specs.Worlds.{at_join}

@@ -1,5 +1,5 @@
 -- What is counted and expected of branches, as far as they haven't run.
-use Rattle.std.specs.Prelude.{◌≡◌, ℕ, ◌+◌, ◌<◌, ◌≤◌, List, [], ◌∷◌, ◌++◌, true, Bool, ◌==◌, if◌then◌else◌}
+use Rattle.std.specs.Prelude.{◌≡◌, ℕ, ◌+◌, ◌<◌, ◌≤◌, List, [], ◌∷◌, ◌++◌, true, false, Bool, ◌==◌, if◌then◌else◌}
 use Rattle.std.specs.List.{flat_map, AllByRecursion}
 use Rattle.pipe_frame.specs.Rows.{Row, Same}
 use Rattle.pipe_frame.proofs.Weights.{total}
@@ -142,3 +142,21 @@ pub record CanRun (m : Meaning) (ps : List Way) : Type 0 where
   -- what legs and the joins' own rows bring to a place is what has to come there
   pub rows : (x : Place) → is_place m x ≡ true →
       Same (brought m x ps ++ flat_map (own_brings m x) m.joins) (due m x)
+
+-- ---- what the meaning of each plan grants
+
+pub record IsSound (m : Meaning) : Type 0 where
+  pub apart : (n : ℕ) → m.is_sort n ≡ true → m.is_join n ≡ true → ⊥
+  pub low_sort : (n : ℕ) → m.is_sort n ≡ true → n < m.ordered
+  pub low_join : (n : ℕ) → m.is_join n ≡ true → n < m.ordered
+  -- the joins, each once; no other node has rows of its own
+  pub few : (n : ℕ) → occurs n m.joins ≤ 1
+  pub listed : (n : ℕ) → m.is_join n ≡ true → 0 < occurs n m.joins
+  pub only : (n : ℕ) → m.is_join n ≡ false → m.own n ≡ []
+  pub own : (j : ℕ) → m.is_join j ≡ true → m.side j j ≡ true
+  -- chains go on
+  pub chained : (n op : ℕ) (ops : List ℕ) → m.above n ≡ op ∷ ops →
+      (m.above op ≡ ops) × (m.above_sink op ≡ m.above_sink n)
+  -- the probe side of a join goes through it
+  pub probed : (j : ℕ) → m.is_join j ≡ true → m.above (m.probed j) ≡ j ∷ m.above j
+  pub run : (j : ℕ) → m.is_join j ≡ true → m.is_run (m.probed j) ≡ true

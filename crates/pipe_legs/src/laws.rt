@@ -1,6 +1,6 @@
 //! The laws of branches, leg by leg.
 
-ghost use Rattle.pipe_legs.specs.Laws.{LegsAreChains, BuiltSidesComeFirst, LegsBeginAtSources, LegsBeginOnce, EveryJoinIsRun, SinksHaveTheirRows, NodesHaveTheirRows, BranchesCanRun};
+ghost use Rattle.pipe_legs.specs.Laws.{LegsAreChains, BuiltSidesComeFirst, LegsBeginAtSources, LegsBeginOnce, EveryJoinIsRun, SinksHaveTheirRows, NodesHaveTheirRows, BranchesCanRun, MeaningsAreSound};
 
 /// Each leg of the branches of a well-formed plan has the operators and the sink of the chain of where it begins, and
 /// goes upwards. Only behind the sink of a sort there is a further leg.
@@ -43,4 +43,10 @@ pub fn nodes_have_their_rows()
 /// The branches of a well-formed plan can be run, in order.
 pub fn branches_can_run()
     ensures { BranchesCanRun }
+{}
+
+/// The meaning of a well-formed plan is sound: its joins stand once, chains go on, and what comes out of the probe side
+/// of a join goes through the join.
+pub fn meanings_are_sound()
+    ensures { MeaningsAreSound }
 {}

@@ -1,0 +1,5 @@
+use Rattle.pipe_driver.proofs.Passing.{passed}
+use Rattle.pipe_driver.proofs.laws.legs_pass.Goals as goal
+
+pub returns : goal.returns
+returns c = passed
