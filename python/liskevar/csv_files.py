@@ -9,25 +9,20 @@ import itertools
 import os
 import re
 import warnings
-from collections.abc import Callable, Iterable, Iterator, Mapping, Sequence
-from datetime import date, datetime
+from collections.abc import Iterable, Iterator, Sequence
+from datetime import datetime
 from decimal import Decimal
 from typing import Any
 
-from .dtypes import GUESSED, RANGES, STRING, Cell, DType, Guess
-from .errors import JobTooLong, Refused
-from .limits import BYTES_OF_A_JOB, too_long
-from .tables import Column, Table, told_types
+from .dtypes import RANGES, STRING, Cell, DType, Guess
+from .errors import Refused
+from .job import check_size
+from .tables import Column, Table, Types, told_types
 
-WHOLE = re.compile(r"0|-?[1-9][0-9]{0,39}")
-HEXADECIMAL = re.compile(r"(?:[0-9a-f]{2})*")
+WHOLE = "0|-?[1-9][0-9]{0,39}"
 DATE = r"[0-9]{1,2}[./-][0-9]{1,2}[./-](?:[0-9]{4}|[0-9]{2})|[0-9]{4}[./][0-9]{1,2}[./][0-9]{1,2}"
 # What the fields of a column may look like; and of those that are no type here, how they are read, and as what.
-LOOKS = {
-    "numbers": WHOLE,
-    "decimals": re.compile(rf"{WHOLE.pattern}|-?[0-9]*\.[0-9]+|-?[0-9]+\."),
-    "dates": re.compile(DATE),
-}
+LOOKS = {"numbers": WHOLE, "decimals": rf"{WHOLE}|-?[0-9]*\.[0-9]+|-?[0-9]+\.", "dates": DATE}
 WAYS = {"decimals": ("Cents", "as numbers"), "dates": ("%d.%m.%Y", "as 2026-11-29, which sorts as a date")}
 # Stands for a field that is written as two quotes, until it is read; no file that is UTF-8 has it.
 EMPTY = "\udc00"
@@ -74,26 +69,17 @@ def _marked(line: str, delimiter: str, inside: bool) -> tuple[str, bool]:
 
     As Python's `csv` reads it: a quote that doesn't begin a field is a part of it.
     """
-    at = 0
-    while True:
-        if not inside and line.startswith('""', at) and line[at + 2 : at + 3] in (delimiter, "\r", "\n", ""):
-            line = line[:at] + EMPTY + line[at + 2 :]
-        elif inside or line.startswith('"', at):
-            end = line.find('"', at if inside else at + 1)
-            while end >= 0 and line.startswith('""', end):
-                end = line.find('"', end + 2)
-            if end < 0:
-                return line, True
-            inside, at = False, end + 1
-        following = line.find(delimiter, at)
-        if following < 0:
-            return line, False
-        at = following + 1
+    other = f"[^{re.escape(delimiter)}]*"
+    pattern = rf'("(?:[^"]|"")*("?){other}|{other})({re.escape(delimiter)}|\Z)'
+    fields = re.findall(pattern, '"' + line if inside else line)
+    shown = [EMPTY + it[2:] if it.rstrip("\r\n") == '""' else it for it, _, _ in fields]
+    shown[0] = fields[0][0][1:] if inside else shown[0]
+    goes_on = any(it.startswith('"') and not end for it, end, _ in fields)
+    return "".join(it + end for it, (_, _, end) in zip(shown, fields)), goes_on
 
 
 def _header(path: str, header: list[str], names: Sequence[str] | None) -> list[str]:
-    header = ["" if it == EMPTY else it for it in header]
-    found = header if names is None else list(names)
+    found = ["" if it == EMPTY else it for it in header] if names is None else list(names)
     if len(found) != len(header):
         raise Refused(f"{path}, line 1: {len(header)} columns, and {len(found)} names are given")
     for place, name in enumerate(found):
@@ -115,11 +101,11 @@ def blocks(path: str, delimiter: str) -> Iterator[list[list[str]]]:
         yield [header]
         width, count = len(header), 1
         while block := list(itertools.islice(reader, BLOCK)):
-            if width == 1:
-                block = [row or [""] for row in block]
+            # a blank line is an empty field where there is one column
+            block = [row or [""] for row in block] if width == 1 else block
             if set(map(len, block)) != {width}:
-                place = next(k for k, row in enumerate(block) if len(row) != width)
-                found = f"{len(block[place])} fields, where the header has {width}" if block[place] else "an empty line"
+                place, row = next((k, row) for k, row in enumerate(block) if len(row) != width)
+                found = f"{len(row)} fields, where the header has {width}" if row else "an empty line"
                 raise Refused(f"{path}, line {line_of(path, delimiter, count + place)}: {found}")
             count += len(block)
             yield block
@@ -130,29 +116,29 @@ def blocks(path: str, delimiter: str) -> Iterator[list[list[str]]]:
 def line_of(path: str, delimiter: str, number: int) -> int:
     """The line on which a record ends; the header is record 0."""
     reader = csv.reader(_lines(path, delimiter), delimiter=delimiter, strict=True)
-    for _ in itertools.islice(reader, number + 1):
-        pass
+    next(itertools.islice(reader, number, None))
     return reader.line_num
 
 
-class Field(Column):
-    """A column of a file: its fields, empty for null and EMPTY for two quotes."""
+class Fields:
+    """The fields of a column, empty for null and EMPTY for two quotes, and the types that all of them spell."""
 
-    def __init__(self, source: tuple[str, str], name: str, place: int, fields: list[str], empty_is_text: bool) -> None:
-        (self.path, self.delimiter), self.place, self.empty_is_text, self.name = source, place, empty_is_text, name
-        self.distinct = set(fields) - {"", EMPTY}
+    def __init__(self, source: tuple[str, str], name: str, place: int, values: list[str], empty_is_text: bool) -> None:
+        (self.path, self.delimiter), self.name, self.place, self.values = source, name, place, values
+        self.empty = "" if empty_is_text else None
+        self.distinct = set(values) - {"", EMPTY}
+        self.looks = next((it for it in LOOKS if self.distinct and self._spell(LOOKS[it])), "")
         self._ends: dict[int, tuple[int, int] | None] = {}
-        of = (word for word, it in LOOKS.items() if self.distinct and all(map(it.fullmatch, self.distinct)))
-        self.looks = next(of, "")
-        is_empty = not self.distinct and EMPTY not in fields
-        super().__init__(name, fields, Guess(self.fits, GUESSED, is_empty, self._hint()), self._cells)
+
+    def _spell(self, pattern: str) -> bool:
+        return all(map(re.compile(pattern).fullmatch, self.distinct))
 
     def _number_ends(self, scale: int) -> tuple[int, int] | None:
         """The least and the greatest number, where all fields spell numbers of so many digits, in their one way."""
         if scale not in self._ends:
-            pattern = re.compile(rf"-?(?:0|[1-9][0-9]{{0,39}})(?:\.[0-9]{{1,{scale}}}0*)?") if scale else WHOLE
-            are_numbers = all(map(pattern.fullmatch, self.distinct))
-            numbers = [_number(it, scale) if scale else int(it) for it in self.distinct] if are_numbers else []
+            decimals = rf"-?(?:0|[1-9][0-9]{{0,39}})(?:\.[0-9]{{1,{scale}}}0*)?"
+            are_numbers = self._spell(decimals if scale else WHOLE)
+            numbers = [_number(it, scale) for it in self.distinct] if are_numbers else []
             self._ends[scale] = (min(numbers, default=0), max(numbers, default=0)) if are_numbers else None
         return self._ends[scale]
 
@@ -163,40 +149,38 @@ class Field(Column):
             return ends is not None and least <= ends[0] and ends[1] <= greatest
         if dtype.base == "Boolean":
             return self.distinct <= {"true", "false"}
-        return dtype == STRING or all(map(HEXADECIMAL.fullmatch, self.distinct))
+        return dtype == STRING or self._spell("(?:[0-9a-f]{2})*")
 
-    def _hint(self) -> str:
-        """What a mismatch of types says of it."""
-        if not self.looks:
-            return ""
-        if self.looks == "numbers":
-            return f"; --types {self.name}:String (types=) reads {self.name!r} of {self.path} as texts"
-        return f"; {self.path} gives texts that look like {self.looks}: tell {WAYS[self.looks][0]} by types= or --types"
+    def column(self, told: DType | str | None) -> Column:
+        """The column, of the type that is told or of the form of its dates, which become texts in the order of ISO.
 
-    def warn(self) -> None:
-        """Says that texts will sort and join as texts, where they look like something else."""
+        Where nothing is told its type is a guess, and a warning says that texts sort and join as texts where they look
+        like something else.
+        """
+        if isinstance(told, str):
+            dates = [it if not it or it == EMPTY else self._iso(row, it, told) for row, it in enumerate(self.values)]
+            texts = Fields((self.path, self.delimiter), self.name, self.place, dates, self.empty is not None)
+            return Column(self.name, dates, STRING, texts.cells)
+        if told:
+            self._check(told)
+            return Column(self.name, self.values, told, self.cells)
+        hint = f"; --types {self.name}:String (types=) reads {self.name!r} of {self.path} as texts" if self.looks else ""
         if self.looks in WAYS:
             form, what = WAYS[self.looks]
+            hint = f"; {self.path} gives texts that look like {self.looks}: tell {form} by types= or --types"
             how = f"types={{{self.name!r}: {form!r}}} (--types {self.name}:{form}) reads them {what}"
             words = f"{self.path}: {self.name!r} looks like {self.looks}, and is read as texts, which sort and join as texts"
             warnings.warn(f"{words}; {how}", TypeWarning, stacklevel=2)
+        is_empty = not self.distinct and EMPTY not in self.values
+        return Column(self.name, self.values, Guess(self.fits, is_empty=is_empty, hint=hint), self.cells)
 
-    def tell(self, text: str, dtype: DType | None) -> None:
-        """The type is told: one of the program's, or the form of its dates, which become texts in the order of ISO."""
-        if dtype is None:
-            self.values = [it if not it or it == EMPTY else self._iso(it, text, row) for row, it in enumerate(self.values)]
-            dtype = STRING
-            self.distinct = set(self.values) - {"", EMPTY}
-        self.type = dtype
-        self._check(dtype)
-
-    def _iso(self, field: str, form: str, row: int) -> str:
+    def _iso(self, row: int, field: str, form: str) -> str:
         try:
             found = datetime.strptime(field, form)
         except ValueError:
             raise self._refused(row, f"{field!r} isn't of the form {form}") from None
         has_time = any(it in form for it in ("%H", "%I", "%M", "%S", "%X", "%c"))
-        return found.isoformat() if has_time else date.isoformat(found.date())
+        return found.isoformat() if has_time else found.date().isoformat()
 
     def _refused(self, row: int, words: str) -> Refused:
         line = line_of(self.path, self.delimiter, row + 1)
@@ -204,18 +188,21 @@ class Field(Column):
 
     def _check(self, dtype: DType) -> None:
         """Refused with the place of the first field that is none of the type."""
-        if self.fits(dtype):
-            return
-        source = self.path, self.delimiter
-        row = next(k for k, it in enumerate(self.values) if not Field(source, self.name, self.place, [it], False).fits(dtype))
-        raise self._refused(row, f"{self.values[row]!r} is no {dtype}")
+        for row, it in enumerate(() if self.fits(dtype) else self.values):
+            if not Fields((self.path, self.delimiter), self.name, self.place, [it], False).fits(dtype):
+                raise self._refused(row, f"{it!r} is no {dtype}")
 
-    def _cells(self, dtype: DType) -> list[Cell]:
-        """The cells; two quotes are the empty text in columns of texts, and else null."""
+    def cells(self, dtype: DType) -> list[Cell]:
+        """The cells of a type; two quotes are the empty text in columns of texts, and else null."""
         self._check(dtype)
-        is_text = dtype.base in ("String", "Binary")
-        cells: dict[str, Cell] = dict(zip(self.distinct, map(_converter(dtype), self.distinct)))
-        cells |= {EMPTY: "" if is_text else None, "": "" if is_text and self.empty_is_text else None}
+        cells: dict[str, Cell] = {"": None, EMPTY: None}
+        if dtype.kind in ("text", "bytes"):
+            cells = {**dict(zip(self.distinct, self.distinct)), "": self.empty, EMPTY: ""}
+        elif dtype.kind == "truth":
+            cells |= {"true": True, "false": False}
+        else:
+            numbers = ((it, _number(it, dtype.scale)) for it in self.distinct)
+            cells.update((it, str(number) if dtype.base == "Int128" else number) for it, number in numbers)
         return list(map(cells.__getitem__, self.values))
 
 
@@ -224,65 +211,31 @@ def _number(field: str, scale: int) -> int:
     return int(whole + digits[:scale].ljust(scale, "0"))
 
 
-def _converter(dtype: DType) -> Callable[[str], Cell]:
-    """What makes cells of the fields of a type."""
-    if dtype.scale:
-        return lambda field: _number(field, dtype.scale)
-    if dtype.kind == "number" and dtype.base != "Int128":
-        return int
-    if dtype.base == "Boolean":
-        return lambda field: field == "true"
-    return str
-
-
 def read_csv(
-    path: str,
-    *,
-    delimiter: str | None = None,
-    names: Sequence[str] | None = None,
-    types: Mapping[str, str] | None = None,
-    columns: Iterable[str] | None = None,
-    read: Iterable[str] | None = None,
-    empty_is_text: bool = False,
-    most_bytes: int = 4 * BYTES_OF_A_JOB,
-) -> Table:
-    """The table of a file, or some of its columns; JobTooLong as soon as these have more than `most_bytes`.
+    path: str, *, delimiter: str | None = None, names: Sequence[str] | None = None, types: Types | None = None,
+    read: Iterable[str] | None = None, empty_is_text: bool = False, jobs: int = 4,
+) -> Table:  # fmt: skip
+    """The table of a file; JobTooLong as soon as its columns have more bytes than so many jobs.
 
-    Of the columns those of `read` alone have values: whoever tells it knows that no other is asked for them.
+    Those of `read` alone have values, where it is told: no other column is asked for them.
     """
     delimiter = delimiter or delimiter_of(path)
     rows = blocks(path, delimiter)
     header = _header(path, next(rows)[0], names)
-    kept = [place for place, name in enumerate(header) if columns is None or name in set(columns)]
-    lists: list[list[str]] = [[] for _ in kept]
-    valued = [(fields, place) for fields, place in zip(lists, kept) if read is None or header[place] in set(read)]
+    fields: list[list[str]] = [[] for _ in header]
+    valued = [place for place, name in enumerate(header) if read is None or name in set(read)]
     height = size = 0
     for block in rows:
         turned = list(zip(*block))
-        for fields, place in valued:
-            fields.extend(turned[place])
-            size += sum(map(len, turned[place])) + len(block)
         height += len(block)
-        if size > most_bytes:
-            raise JobTooLong(too_long(f"{path}, by row {height}, in {len(valued)} columns", size))
-    found = [Field((path, delimiter), header[place], place, fields, empty_is_text) for place, fields in zip(kept, lists)]
-    _tell(path, found, types)
-    return Table(os.path.basename(path), found, height)
-
-
-def _tell(path: str, columns: Sequence[Field], types: Mapping[str, str] | None) -> None:
+        for place in valued:
+            fields[place].extend(turned[place])
+            size += sum(map(len, turned[place])) + len(block)
+        check_size(f"{path}, by row {height}, in {len(valued)} columns", size, jobs)
     forms = {name: text for name, text in (types or {}).items() if "%" in text}
-    plain = {name: text for name, text in (types or {}).items() if name not in forms}
-    names = [it.name for it in columns]
-    told = told_types({**plain, **dict.fromkeys(forms, "String")}, names, path)
-    for it in columns:
-        if it.name in told:
-            it.tell(forms.get(it.name, ""), None if it.name in forms else told[it.name])
-        else:
-            it.warn()
-
-
-# ---- rows as CSV
+    told = told_types({**(types or {}), **dict.fromkeys(forms, "String")}, header, path)
+    made = [Fields((path, delimiter), it, place, fields[place], empty_is_text) for place, it in enumerate(header)]
+    return Table(os.path.basename(path), [it.column(forms.get(it.name) or told.get(it.name)) for it in made], height)
 
 
 def text_of(value: Any) -> str:
@@ -294,7 +247,7 @@ def text_of(value: Any) -> str:
     return value.hex() if isinstance(value, bytes) else str(value)
 
 
-def field_of(value: Any, delimiter: str, null: str) -> str:
+def _field(value: Any, delimiter: str, null: str) -> str:
     """One field, as RFC 4180 has it: null is an empty field, the empty text two quotes."""
     if value is None:
         return null
@@ -305,17 +258,14 @@ def field_of(value: Any, delimiter: str, null: str) -> str:
 
 
 def csv_lines(
-    names: Sequence[str], rows: Iterable[Sequence[Any]], delimiter: str = ",", end: str = "\n", null: str = ""
+    names: Sequence[str], rows: Sequence[Sequence[Any]], delimiter: str = ",", end: str = "\n", null: str = ""
 ) -> Iterator[str]:
     """The lines of a CSV file. In a file of one column a null is two quotes, so that no line is blank."""
-    yield delimiter.join(field_of(it, delimiter, '""') for it in names) + end
-    if len(names) > 1 or null:
-        for row in rows:
-            yield delimiter.join([field_of(it, delimiter, null) for it in row]) + end
-        return
-    values = [row[0] for row in rows]
-    if None in values and "" in values:
-        words = "has nulls and empty texts, which a CSV of one column can't tell apart; give --null WORD (null=)"
-        raise Refused(f"{names[0]!r} {words}")
-    for value in values:
-        yield field_of(value, delimiter, '""') + end
+    if len(names) == 1 and not null:
+        null = '""'
+        if {(None,), ("",)} <= {tuple(row) for row in rows}:
+            words = "has nulls and empty texts, which a CSV of one column can't tell apart; give --null WORD (null=)"
+            raise Refused(f"{names[0]!r} {words}")
+    yield delimiter.join(_field(it, delimiter, '""') for it in names) + end
+    for row in rows:
+        yield delimiter.join([_field(it, delimiter, null) for it in row]) + end

@@ -1,26 +1,36 @@
 """What liskevar refuses, as exceptions.
 
-Each status of the program has a class of its own, so that a caller can tell them apart. Mistakes that are found before
-anything runs are the same classes: a plan's fault is a `PlanError` whether this package or the program told it.
+Each status of the program has a class of its own. Mistakes that are found before anything runs are the same classes: a
+plan's fault is a `PlanError` whether this package or the program told it.
 """
 
+from __future__ import annotations
+
 from .places import Place
+
+BY_STATUS: dict[int, type[LiskevarError]] = {}
 
 
 class LiskevarError(Exception):
     """Anything that is refused.
 
-    `status` is the program's status, or 0 where the program was never asked. `fault` is the program's word for it,
-    `node` the number of the plan's node, `name` the column, and `place` the user's own call that made the node.
+    `status` is the program's, 0 where it was never asked; `fault` its word for it, `node` the number of the plan's node,
+    `name` the column, `place` the user's call that made the node, and `why` what the program's command `why` tells.
     """
 
     status = 0
 
+    def __init_subclass__(cls, status: int = 0) -> None:
+        cls.status = status
+        if status:
+            BY_STATUS[status] = cls
+
     def __init__(
-        self, words: str, *, fault: str = "", node: int | None = None, name: str | None = None, place: Place | None = None
-    ) -> None:
-        super().__init__(f"{place}: {words}" if place else words)
-        self.words, self.fault, self.node, self.name, self.place = words, fault, node, name, place
+        self, words: str, *, fault: str = "", node: int | None = None, name: str | None = None,
+        place: Place | None = None, why: str = "",
+    ) -> None:  # fmt: skip
+        super().__init__((f"{place}: {words}" if place else words) + (f"\n{why}" if why else ""))
+        self.words, self.fault, self.node, self.name, self.place, self.why = words, fault, node, name, place, why
 
 
 class Refused(LiskevarError):
@@ -41,67 +51,41 @@ class NotOffered(LiskevarError):
     """The program that was found hasn't the command that is asked for."""
 
 
-class BadWords(LiskevarError):
-    """Status 1: the words are no command."""
-
-    status = 1
+class BadWords(LiskevarError, status=1):
+    """The words are no command."""
 
 
-class ReadFault(LiskevarError):
-    """Status 2: a read failed."""
-
-    status = 2
+class ReadFault(LiskevarError, status=2):
+    """A read failed."""
 
 
-class JobTooLong(LiskevarError):
-    """Status 3: the job has more than 33,554,432 bytes."""
-
-    status = 3
+class JobTooLong(LiskevarError, status=3):
+    """The job has more than 33,554,432 bytes."""
 
 
-class NotJson(LiskevarError):
-    """Status 4: the text isn't JSON, or nests too deep."""
-
-    status = 4
+class NotJson(LiskevarError, status=4):
+    """The text isn't JSON, or nests too deep."""
 
 
-class NotAJob(LiskevarError):
-    """Status 5: the value spells no job."""
-
-    status = 5
+class NotAJob(LiskevarError, status=5):
+    """The value spells no job."""
 
 
-class PlanError(LiskevarError):
-    """Status 6: a number is out of its range, or the plan has a fault."""
-
-    status = 6
+class PlanError(LiskevarError, status=6):
+    """A number is out of its range, or the plan has a fault."""
 
 
-class TooMany(LiskevarError):
-    """Status 7: more than 4,096 nodes, or a node with more rows than the limit."""
-
-    status = 7
+class TooMany(LiskevarError, status=7):
+    """More than 4,096 nodes, or a node with more rows than the limit."""
 
 
-class Stopped(LiskevarError):
-    """Status 8: stopped."""
-
-    status = 8
+class Stopped(LiskevarError, status=8):
+    """Stopped."""
 
 
-class WriteFault(LiskevarError):
-    """Status 9: writing failed."""
-
-    status = 9
+class WriteFault(LiskevarError, status=9):
+    """Writing failed."""
 
 
-class OutOfMemory(LiskevarError):
-    """Status 10: there wasn't enough memory, or the program couldn't be built."""
-
-    status = 10
-
-
-BY_STATUS: dict[int, type[LiskevarError]] = {
-    it.status: it
-    for it in (BadWords, ReadFault, JobTooLong, NotJson, NotAJob, PlanError, TooMany, Stopped, WriteFault, OutOfMemory)
-}
+class OutOfMemory(LiskevarError, status=10):
+    """There wasn't enough memory, or the program couldn't be built."""

@@ -2,12 +2,11 @@
 
 from __future__ import annotations
 
-import datetime
 from collections.abc import Callable, Iterable, Sequence
 from decimal import Decimal
 from typing import Any
 
-from .dtypes import BINARY, BOOLEAN, GUESSED, INT64, STRING, DType, Guess, Mismatch, Type, Typing, dtype_of
+from .dtypes import BOOLEAN, TEXTS, DType, Guess, Mismatch, Type, Typing, dtype_of, type_of
 
 Schema = dict[str, Type]
 INFIX = {
@@ -18,10 +17,6 @@ SINGLE = ("not", "is_null", "is_not_null")
 # Chains of these are kept flat, and spelled as balanced pairs: a job may nest about 60 of them.
 CHAINED = ("and", "or", "add", "mul")
 DEEPEST = 58
-
-
-class UnknownName(Exception):
-    """A column that the frame hasn't."""
 
 
 def _operator(op: str, turned: bool = False) -> Callable[[Expr, Any], Expr]:
@@ -117,7 +112,7 @@ def lit(value: Any, dtype: str | None = None) -> Expr:
         told = dtype_of(dtype)
         told.cell(value)
         return Expr("lit", value=value, type=told)
-    if not isinstance(value, (bool, int, str, bytes, Decimal, float, datetime.date, datetime.time, type(None))):
+    if not isinstance(value, (int, bytes, Decimal, float, *TEXTS, type(None))):
         raise TypeError(f"{value!r} is no value that a column can hold")
     return Expr("lit", value=value)
 
@@ -132,70 +127,50 @@ def all_of(parts: Sequence[Expr]) -> Expr:
     return parts[0] if len(parts) == 1 else Expr("and", parts) if parts else lit(True)
 
 
-def names_in(expr: Expr) -> list[str]:
-    """The columns that it reads, from left to right."""
-    return [str(expr.value)] if expr.op == "col" else [name for it in expr.args for name in names_in(it)]
+def names_in(*exprs: Expr) -> list[str]:
+    """The columns that they read, from left to right."""
+    return [name for it in exprs for name in ([str(it.value)] if it.op == "col" else names_in(*it.args))]
 
 
-# ---- types
-
-
-def _literal_type(value: Any) -> Type:
-    if isinstance(value, bool):
-        return BOOLEAN
-    if isinstance(value, (str, datetime.date, datetime.time)):
-        return STRING
-    if isinstance(value, bytes):
-        return BINARY
-    if value is None:
-        return Guess(lambda dtype: True, is_empty=True)
-    tried: tuple[DType, ...] = GUESSED[:3]
-    if not isinstance(value, int):
-        exact = Decimal(repr(value)) if isinstance(value, float) else value
-        exponent = exact.as_tuple().exponent
-        if not isinstance(exponent, int) or exponent < -18:
-            raise ValueError(f"{value!r} has no exact type here")
-        tried = (DType("Int64", max(-exponent, 0)), DType("Int128", max(-exponent, 0)))
-    if not any(it.holds(value) for it in tried):
-        raise ValueError(f"{value!r} doesn't fit 128 bits")
-    return Guess(lambda dtype: dtype.holds(value), tried)
+def _type(expr: Expr) -> Type:
+    """The type of a bound expression."""
+    assert expr.type is not None
+    return expr.type
 
 
 def _one_type(args: Sequence[Expr], typing: Typing) -> tuple[Type, Typing]:
     """One type for all of them. Whole numbers that are written out take that of the others."""
     free = [it for it in args if isinstance(it.type, Guess) and it.op == "lit" and type(it.value) is int]
     fixed = [it for it in args if not any(it is other for other in free)] or free[:1]
-    first = fixed[0].type or INT64
+    first = _type(fixed[0])
     for it in fixed[1:]:
-        typing = typing.unify(first, it.type or INT64)
+        typing = typing.unify(first, _type(it))
     for it in free:
-        typing = typing.holding(first, it.value)
+        typing = typing.unify(first, it.value)
         it.type = first
     return first, typing
 
 
 def _arithmetic(op: str, args: list[Expr], typing: Typing) -> tuple[Type, Typing]:
     """The type of whole numbers or decimals that all have; a product of decimals has the digits of both."""
-    types = [typing.resolve(it.type or INT64) for it in args]
+    types = [typing.resolve(_type(it)) for it in args]
     if op != "mul" or not any(it.scale for it in types):
         made, typing = _one_type(args, typing)
-        return made, typing.holding(made, 0)
-    bases, scale = {it.base for it in types}, sum(it.scale for it in types)
-    if len(bases) > 1 or scale > 18:
+        return made, typing.unify(made, 0)
+    scale = sum(it.scale for it in types)
+    if len({it.base for it in types}) > 1 or scale > 18:
         raise Mismatch(types[0], types[1])
     for it, dtype in zip(args, types):
-        typing = typing.unify(it.type or INT64, dtype)
+        typing = typing.unify(_type(it), dtype)
     return DType(types[0].base, scale), typing
 
 
 def bind(expr: Expr, schema: Schema, typing: Typing) -> tuple[Expr, Typing]:
-    """The expression with the type of each part, over columns; UnknownName or Mismatch where it has none."""
+    """The expression with the type of each part, over columns that there are; Mismatch where it has none."""
     if expr.op == "col":
-        if expr.value not in schema:
-            raise UnknownName(expr.value)
-        return Expr("col", value=expr.value, type=schema[str(expr.value)]), typing
+        return Expr("col", value=expr.value, type=schema[expr.value]), typing
     if expr.op == "lit":
-        return Expr("lit", value=expr.value, type=expr.type or _literal_type(expr.value)), typing
+        return Expr("lit", value=expr.value, type=expr.type or type_of([expr.value])), typing
     args = []
     for it in expr.args:
         bound, typing = bind(it, schema, typing)
@@ -205,20 +180,15 @@ def bind(expr: Expr, schema: Schema, typing: Typing) -> tuple[Expr, Typing]:
         made, typing = _arithmetic(expr.op, args, typing)
     elif expr.op in ("and", "or", "not"):
         for it in args:
-            typing = typing.unify(it.type or BOOLEAN, BOOLEAN)
+            typing = typing.unify(_type(it), BOOLEAN)
     elif expr.op not in SINGLE:
         _, typing = _one_type(args, typing)
     return Expr(expr.op, args, type=made), typing
 
 
-# ---- spelling
-
-
 def _paired(op: str, parts: list[Any]) -> Any:
-    if len(parts) == 1:
-        return parts[0]
     half = len(parts) // 2
-    return {op: [_paired(op, parts[:half]), _paired(op, parts[half:])]}
+    return {op: [_paired(op, parts[:half]), _paired(op, parts[half:])]} if half else parts[0]
 
 
 def spelled(expr: Expr, typing: Typing) -> Any:
@@ -226,7 +196,7 @@ def spelled(expr: Expr, typing: Typing) -> Any:
     if expr.op == "col":
         return {"col": expr.value}
     if expr.op == "lit":
-        dtype = typing.resolve(expr.type or INT64)
+        dtype = typing.resolve(_type(expr))
         return {"lit": {"type": dtype.base, "value": dtype.cell(expr.value)}}
     parts = [spelled(it, typing) for it in expr.args]
     return {expr.op: parts[0]} if expr.op in SINGLE else _paired(expr.op, parts)
@@ -254,7 +224,8 @@ def written(expr: Expr) -> str:
     if expr.op == "col":
         return str(expr.value)
     if expr.op == "lit":
-        return "null" if expr.value is None else str(expr.value).lower() if expr.value in (True, False) else repr(expr.value)
+        return "null" if expr.value is None else repr(expr.value).lower() if expr.value in (True, False) else repr(expr.value)
+    parts = [written(it) for it in expr.args]
     if expr.op in INFIX:
-        return f"({f' {INFIX[expr.op]} '.join(map(written, expr.args))})"
-    return f"not {written(expr.args[0])}" if expr.op == "not" else f"{written(expr.args[0])} {expr.op.replace('_', ' ')}"
+        return f"({f' {INFIX[expr.op]} '.join(parts)})"
+    return f"not {parts[0]}" if expr.op == "not" else f"{parts[0]} {expr.op.replace('_', ' ')}"

@@ -2,56 +2,55 @@
 
 from __future__ import annotations
 
-import dataclasses
 from collections.abc import Iterable, Mapping, Sequence
+from dataclasses import dataclass, replace
 from typing import Any, Union
 
 from . import nodes as plan
 from .csv_files import read_csv
 from .drawing import Picture, picture
+from .dtypes import DType
 from .errors import Refused
 from .expr import Expr, all_of, col, lit, names_in
-from .job import Job, Settings, in_order, job_of, types_of
-from .nodes import Joining, Key, Node, fail, unknown
-from .places import Place, place_of_caller
+from .job import Settings, job_text, plan_of
+from .nodes import Joining, Key, Node, fail, known
+from .places import Place
 from .program import ask, want
 from .rows import Rows, rows_of_lines
-from .tables import Table, table_of_pandas, table_of_rows
+from .tables import Table, Types, table_of_pandas, table_of_rows
 
 Names = Union[str, Sequence[str]]
 Exprs = Union[str, Expr, Sequence[Union[str, Expr]]]
+Flags = Union[bool, Sequence[bool]]
 HIDDEN = "sort key "
 
 
-def _list(names: Names | None) -> list[str]:
-    return [] if names is None else [names] if isinstance(names, str) else list(names)
+def _list(given: Any) -> list[Any]:
+    """One thing or several as a list."""
+    return [] if given is None else [given] if isinstance(given, (str, Expr)) else list(given)
 
 
-def _exprs(given: Iterable[Any], named: Mapping[str, Any]) -> list[tuple[str, Expr]]:
-    """Expressions with the names of their columns."""
-    found = []
-    for it in given:
-        for part in it if isinstance(it, (list, tuple)) else [it]:
-            expr = col(part) if isinstance(part, str) else lit(part)
-            if expr.output is None:
-                raise fail("BadNode", f"{expr!r} has no name: give it one by alias, or as name=..")
-            found.append((expr.output, expr))
-    return [*found, *((name, col(it) if isinstance(it, str) else lit(it)) for name, it in named.items())]
+def _expr(given: Any) -> Expr:
+    return col(given) if isinstance(given, str) else lit(given)
 
 
-def _flags(flags: bool | Sequence[bool], count: int, what: str) -> list[bool]:
+def _flags(flags: Flags, count: int, what: str) -> list[bool]:
     found = [flags] * count if isinstance(flags, bool) else list(flags)
     if len(found) != count:
         raise fail("BadSort", f"{len(found)} flags in {what}, for {count} keys")
     return found
 
 
-@dataclasses.dataclass(frozen=True)
+@dataclass(frozen=True)
 class Order:
     """The order that rows are to come in; it is made last, where the plan ends."""
 
-    keys: tuple[Key, ...]
-    place: Place | None
+    keys: tuple[Key, ...] = ()
+    place: Place | None = None
+
+    def renamed(self, names: Mapping[str, str]) -> Order:
+        """The same order by columns of other names."""
+        return Order(tuple(replace(it, name=names.get(it.name, it.name)) for it in self.keys), self.place)
 
 
 class LazyFrame:
@@ -63,11 +62,14 @@ class LazyFrame:
     `row_limit`; `JobTooLong` before anything runs; and `NotOffered` where there is no program.
     """
 
-    def __init__(self, node: Node, order: Order | None = None, hidden: Sequence[str] = ()) -> None:
+    def __init__(self, node: Node, order: Order = Order(), hidden: Sequence[str] = ()) -> None:
         # hidden columns, the last of the node's, are keys of the order that the caller doesn't see
         self._node, self._order, self._hidden = node, order, tuple(hidden)
 
-    # ---- what it is
+    @property
+    def types(self) -> dict[str, DType]:
+        """The type of each column, as `Rows` has them."""
+        return {name: it for name, it in self._node.types().items() if name not in self._hidden}
 
     @property
     def columns(self) -> list[str]:
@@ -77,7 +79,7 @@ class LazyFrame:
     @property
     def schema(self) -> dict[str, str]:
         """The type of each column, known before anything runs."""
-        return {name: it for name, it in self._node.types().items() if name not in self._hidden}
+        return {name: str(it) for name, it in self.types.items()}
 
     def __repr__(self) -> str:
         return f"<LazyFrame {', '.join(f'{name}: {it}' for name, it in self.schema.items())}>"
@@ -88,80 +90,72 @@ class LazyFrame:
 
     def _ended(self) -> Node:
         """The node with its order; a slice of a sort has it already."""
-        if self._order is None:
+        if not self._order.keys:
             return self._node
         made = plan.ordered(self._node, self._order.keys, None, self._order.place)
-        words = ("by", "descending", "nulls_last")
-        is_done = self._node.kind == "Sort" and all(self._node.said[it] == made.said[it] for it in words)
+        is_done = self._node.kind == "Sort" and made.said == {**self._node.said, "slice": None}
         return self._node if is_done else made
 
-    def _check(self, exprs: Iterable[Expr]) -> None:
-        for expr in exprs:
-            for name in names_in(expr):
-                if name not in self.columns:
-                    raise unknown(name, self.columns)
+    def _over(self, node: Node) -> LazyFrame:
+        """A frame of the same order over another node."""
+        return LazyFrame(node, self._order, self._hidden)
 
-    # ---- rows and columns
+    def _named(self, given: Iterable[Any], named: Mapping[str, Any]) -> list[tuple[str, Expr]]:
+        """Expressions over the columns, with the names that they get."""
+        exprs = [_expr(part) for it in given for part in (it if isinstance(it, (list, tuple)) else [it])]
+        for it in exprs:
+            if it.output is None:
+                raise fail("BadNode", f"{it!r} has no name: give it one by alias, or as name=..")
+        found = [(str(it.output), it) for it in exprs] + [(name, _expr(it)) for name, it in named.items()]
+        known(names_in(*(it for _, it in found)), self.columns)
+        return found
 
     def filter(self, *predicates: Expr) -> LazyFrame:
         """The rows where all predicates are true; a null isn't."""
-        self._check(predicates)
-        return LazyFrame(plan.filtered(self._node, all_of([lit(it) for it in predicates])), self._order, self._hidden)
+        known(names_in(*predicates), self.columns)
+        return self._over(plan.filtered(self._node, all_of([lit(it) for it in predicates])))
 
     def select(self, *exprs: Exprs, **named: Any) -> LazyFrame:
         """Columns and expressions, in place of all columns; the order of a sort is kept."""
-        found = _exprs(exprs, named)
-        self._check(it for _, it in found)
-        return self._selected(found)
+        return self._selected(self._named(exprs, named))
 
-    def _selected(self, found: list[tuple[str, Expr]]) -> LazyFrame:
-        keys: list[Key] = []
-        hidden: list[tuple[str, Expr]] = []
+    def _selected(self, found: Sequence[tuple[str, Expr]]) -> LazyFrame:
         plain = {str(it.value): name for name, it in found if it.op == "col"}
-        for key in self._order.keys if self._order else ():
-            if key.name not in plain:
-                plain[key.name] = f"{HIDDEN}{len(hidden)}"
-                hidden.append((plain[key.name], col(key.name)))
-            keys.append(dataclasses.replace(key, name=plain[key.name]))
-        every = [*found, *hidden]
+        lost = [it.name for it in self._order.keys if it.name not in plain]
+        hidden = {it: f"{HIDDEN}{place}" for place, it in enumerate(lost)}
+        every = [*found, *((name, col(it)) for it, name in hidden.items())]
         if all(it.op == "col" and it.value == name for name, it in every):
             node = plan.projected(self._node, [name for name, _ in every])
         else:
             node = plan.computed(self._node, every, added=False)
-        order = self._order and Order(tuple(keys), self._order.place)
-        return LazyFrame(node, order, [name for name, _ in hidden])
+        return LazyFrame(node, self._order.renamed({**plain, **hidden}), list(hidden.values()))
 
     def with_columns(self, *exprs: Exprs, **named: Any) -> LazyFrame:
         """Columns added, or put in the place of those that have their names."""
-        found = _exprs(exprs, named)
-        self._check(it for _, it in found)
-        keys = {it.name for it in self._order.keys} if self._order else set()
-        if self._hidden or any(name in keys for name, _ in found):
+        found = self._named(exprs, named)
+        if self._hidden or {name for name, _ in found} & {it.name for it in self._order.keys}:
             new = dict(found)
             kept = [(name, new.pop(name, col(name))) for name in self.columns]
             return self._selected([*kept, *new.items()])
-        return LazyFrame(plan.computed(self._node, found, added=True), self._order)
+        return self._over(plan.computed(self._node, found, added=True))
 
     def drop(self, *names: Names) -> LazyFrame:
         """All columns but some."""
-        dropped = [it for given in names for it in _list(given)]
-        self._check(col(it) for it in dropped)
+        dropped = known([it for given in names for it in _list(given)], self.columns)
         return self.select([it for it in self.columns if it not in dropped])
 
     def rename(self, names: Mapping[str, str]) -> LazyFrame:
         """Other names for some columns, all at once."""
-        self._check(col(it) for it in names)
-        node = plan.renamed(self._node, {old: new for old, new in names.items() if old != new}) if names else self._node
-        keys = [dataclasses.replace(it, name=names.get(it.name, it.name)) for it in self._order.keys] if self._order else []
-        return LazyFrame(node, self._order and Order(tuple(keys), self._order.place), self._hidden)
+        known(names, self.columns)
+        changed = {old: new for old, new in names.items() if old != new}
+        node = plan.renamed(self._node, changed) if names else self._node
+        return LazyFrame(node, self._order.renamed(names), self._hidden)
 
     def unpivot(
         self, on: Names, *, index: Names | None = None, variable_name: str = "variable", value_name: str = "value"
     ) -> LazyFrame:
         """A row for each row and each column of `on`; these get one type. The order of a sort is lost."""
         return LazyFrame(plan.unpivoted(self._seen(), _list(on), _list(index), variable_name, value_name))
-
-    # ---- joins and unions
 
     def join(
         self, other: LazyFrame, on: Exprs | None = None, how: str = "inner", *, left_on: Exprs | None = None,
@@ -178,30 +172,27 @@ class LazyFrame:
             raise fail("BadJoin", f"joined with {type(other).__name__}, and a LazyFrame is wanted")
         words = {None: "JoinSpecific", True: "CoalesceColumns", False: "KeepColumns"}[coalesce]
         joining = Joining("full" if how == "outer" else how, nulls_equal, words, suffix)
-        keys = [_keys(on if on is not None else it) for it in (left_on, right_on)]
-        return LazyFrame(plan.joined(self._seen(), other._seen(), keys[0], keys[1], joining))
+        left, right = (list(map(_expr, _list(it if on is None else on))) for it in (left_on, right_on))
+        return LazyFrame(plan.joined(self._seen(), other._seen(), left, right, joining))
 
-    # ---- order
-
-    def sort(
-        self, by: Names, *more: str, descending: bool | Sequence[bool] = False, nulls_last: bool | Sequence[bool] = False
-    ) -> LazyFrame:
+    def sort(self, by: Names, *more: str, descending: Flags = False, nulls_last: Flags = False) -> LazyFrame:
         """The rows in the order of some columns; rows that tie come in the order of all columns, nulls first.
 
         The order stands until the end of the plan, through filters, selects, renames and slices. Joins, unions and
         unpivots lose it.
         """
-        names = [*_list(by), *more]
-        self._check(col(it) for it in names)
-        flags = zip(names, _flags(descending, len(names), "descending"), _flags(nulls_last, len(names), "nulls_last"))
-        order = Order(tuple(Key(*it) for it in flags), place_of_caller())
-        plan.ordered(self._seen(), order.keys)
-        return LazyFrame(self._seen(), order)
+        names = known([*_list(by), *more], self.columns)
+        flags = (_flags(it, len(names), word) for it, word in ((descending, "descending"), (nulls_last, "nulls_last")))
+        return self._sorted([Key(*it) for it in zip(names, *flags)])
+
+    def _sorted(self, keys: Sequence[Key]) -> LazyFrame:
+        made = plan.ordered(self._seen(), keys)
+        return LazyFrame(self._seen(), Order(tuple(keys), made.place))
 
     def slice(self, offset: int, length: int) -> LazyFrame:
         """`length` rows from the row `offset` on, counted from 0; without a sort, in the order of all columns."""
-        order = self._order or Order(tuple(map(Key, self.columns)), None)
-        return LazyFrame(plan.ordered(self._node, order.keys, (offset, length)), self._order, self._hidden)
+        keys = self._order.keys or tuple(map(Key, self.columns))
+        return self._over(plan.ordered(self._node, keys, (offset, length)))
 
     def head(self, n: int = 5) -> LazyFrame:
         """The first rows; without a sort, in the order of all columns."""
@@ -209,24 +200,20 @@ class LazyFrame:
 
     limit = head
 
-    # ---- what is done with it
-
     def job(self, **numbers: int) -> bytes:
         """The text of the job. Keys of the order that were left out of a select are its last columns."""
-        return self._job(numbers).text
-
-    def _job(self, numbers: Mapping[str, int]) -> Job:
-        return job_of(self._ended(), Settings(**numbers))
+        settings = Settings(**numbers)
+        return job_text(plan_of(self._ended()), settings)
 
     def collect(self, *, optimize: bool = False, **numbers: int) -> Rows:
         """Has the program run the plan. `workers`, `chunk_rows` and `row_limit` may be told."""
-        job = self._job(numbers)
-        text = job.text
+        settings, plan = Settings(**numbers), plan_of(self._ended())
+        text, nodes = job_text(plan, settings), plan.nodes
         if optimize:
             want("optimize")
-            text = ask("optimize", text, job.nodes)
-        lines = ask("run", text, () if optimize else job.nodes, job.settings.row_limit)
-        return rows_of_lines(lines, {name: job.schema[name] for name in self.columns})
+            # other nodes run then than those that the caller made
+            text, nodes = ask("optimize", text, nodes), []
+        return rows_of_lines(ask("run", text, nodes, settings.row_limit).splitlines(), self.types)
 
     def to_pandas(self, **numbers: Any) -> Any:
         """The rows as a pandas frame."""
@@ -245,14 +232,11 @@ class LazyFrame:
 
     def explain(self, **numbers: int) -> str:
         """The pipelines into which the program cuts the plan, one a line."""
-        job = self._job(numbers)
-        return ask("explain", job.text, job.nodes).decode().rstrip("\n")
+        return ask("explain", self.job(**numbers), plan_of(self._ended()).nodes).decode().rstrip("\n")
 
     def show(self, pipelines: bool = False) -> Picture:
         """A picture of the plan (SVG), with the pipelines that the program tells below it where they are asked for."""
-        told = self.explain().splitlines() if pipelines else []
-        nodes, inputs = in_order(self._ended())
-        return Picture(picture(dict(enumerate(nodes)), dict(enumerate(inputs)), told))
+        return Picture(picture(plan_of(self._ended()), self.explain().splitlines() if pipelines else ()))
 
     def distribute(self, **told: Any) -> Rows:
         """Has the plan run in parts by Dask, where the program has the command `parts`."""
@@ -262,21 +246,13 @@ class LazyFrame:
         return distributed.distribute(self, **told)  # type: ignore[no-any-return]
 
 
-def _keys(keys: Any) -> list[Expr]:
-    given = [] if keys is None else [keys] if isinstance(keys, (str, Expr)) else list(keys)
-    return [col(it) if isinstance(it, str) else it for it in given]
-
-
-# ---- where frames begin
-
-
 def frame_of(table: Table) -> LazyFrame:
     """A frame that scans a table."""
     return LazyFrame(plan.scan(table))
 
 
 def scan_csv(
-    path: str, *, types: Mapping[str, str] | None = None, columns: Sequence[str] | None = None, delimiter: str | None = None,
+    path: str, *, types: Types | None = None, columns: Sequence[str] | None = None, delimiter: str | None = None,
     names: Sequence[str] | None = None, empty_is_text: bool = False,
 ) -> LazyFrame:  # fmt: skip
     """The rows of a CSV file, or of a TSV file by its ending.
@@ -285,21 +261,18 @@ def scan_csv(
     dates), or is what fits all its values and the plan that reads it: whole numbers, true and false, else texts. An
     empty field is null, two quotes are the empty text. `columns` are the only ones that are read.
     """
-    table = read_csv(path, types=types, columns=columns, delimiter=delimiter, names=names, empty_is_text=empty_is_text)
-    for name in columns or ():
-        if name not in table.schema():
-            raise unknown(name, table.schema(), f" in {path}")
-    return frame_of(table)
+    table = read_csv(path, types=types, read=columns, delimiter=delimiter, names=names, empty_is_text=empty_is_text)
+    return LazyFrame(plan.scan(table, columns))
 
 
 def from_rows(
-    rows: Iterable[Any], columns: Sequence[str] | None = None, *, types: Mapping[str, str] | None = None, name: str = "rows"
+    rows: Iterable[Any], columns: Sequence[str] | None = None, *, types: Types | None = None, name: str = "rows"
 ) -> LazyFrame:
     """Rows of Python: mappings, or sequences with the names of their columns."""
     return frame_of(table_of_rows(rows, columns, types, name))
 
 
-def from_pandas(frame: Any, *, types: Mapping[str, str] | None = None, name: str = "frame") -> LazyFrame:
+def from_pandas(frame: Any, *, types: Types | None = None, name: str = "frame") -> LazyFrame:
     """A pandas frame without its index. Floats are taken where they are whole, or where a decimal type is told."""
     return frame_of(table_of_pandas(frame, types, name))
 
@@ -307,8 +280,3 @@ def from_pandas(frame: Any, *, types: Mapping[str, str] | None = None, name: str
 def concat(frames: Sequence[LazyFrame]) -> LazyFrame:
     """The rows of all frames, which have the same columns in the same order; each column gets one type."""
     return LazyFrame(plan.united([it._seen() for it in frames]))
-
-
-def output_types(frame: LazyFrame) -> dict[str, Any]:
-    """The types of a frame's columns, as `Rows` has them."""
-    return {name: it for name, it in types_of(frame._node).items() if name in frame.columns}

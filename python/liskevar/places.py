@@ -9,6 +9,7 @@ import os
 import sys
 from collections.abc import Iterator
 from dataclasses import dataclass
+from types import FrameType
 
 PACKAGE = os.path.dirname(os.path.abspath(__file__))
 _told: contextvars.ContextVar[Place | None] = contextvars.ContextVar("told", default=None)
@@ -37,13 +38,10 @@ def told_as(text: str) -> Iterator[None]:
 
 def place_of_caller() -> Place | None:
     """The line of the first caller that is no part of this package; None where there is none."""
-    told = _told.get()
-    if told is not None:
-        return told
-    frame = sys._getframe(1)
-    while frame is not None and str(frame.f_globals.get("__name__")).split(".")[0] == __package__:
-        frame = frame.f_back  # type: ignore[assignment]
-    if frame is None or frame.f_code.co_filename.startswith("<frozen"):
-        return None
+    frame: FrameType | None = sys._getframe(1)
+    while frame and str(frame.f_globals.get("__name__")).split(".")[0] == __package__:
+        frame = frame.f_back
+    if _told.get() or frame is None or frame.f_code.co_filename.startswith("<frozen"):
+        return _told.get()
     path, line = frame.f_code.co_filename, frame.f_lineno
     return Place(f"{path}:{line}", linecache.getline(path, line).strip())

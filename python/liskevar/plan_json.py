@@ -1,16 +1,19 @@
 """Plans as JSON: arrays of nodes as docs/FORMATS.md has them, and whole jobs, read as nodes."""
 
 import json
-from collections.abc import Sequence
+from collections.abc import Callable, Sequence
 from typing import Any
 
-from . import nodes as plan
+from . import nodes as made
 from .dtypes import dtype_of
 from .errors import LiskevarError, PlanError, Refused
 from .expr import read
+from .job import Plan
 from .nodes import Joining, Key, Node
 from .places import told_as
 from .tables import Column, Table
+
+NO_JOB = (KeyError, TypeError, ValueError, IndexError, AttributeError)
 
 
 def read_json(path: str, text: str) -> Any:
@@ -23,108 +26,93 @@ def read_json(path: str, text: str) -> Any:
         raise Refused(f"{path}: nested too deep") from error
 
 
-def _sort(value: dict[str, Any], below: Node) -> Node:
-    by, count = value["by"], len(value["by"])
-    flags = [value[it] * count if len(value[it]) == 1 else value[it] for it in ("descending", "nulls_last")]
-    if any(len(it) != count for it in flags):
-        raise plan.fail("BadSort", "as many flags as keys are wanted, or one")
-    keys = [Key(*it) for it in zip(by, *flags)]
-    return plan.ordered(below, keys, None if value["slice"] is None else (value["slice"][0], value["slice"][1]))
+def _sort(below: Node, by: Sequence[str], descending: list[bool], nulls_last: list[bool], slice: Any) -> Node:
+    flags = [it * len(by) if len(it) == 1 else it for it in (descending, nulls_last)]
+    if any(len(it) != len(by) for it in flags):
+        raise made.fail("BadSort", "as many flags as keys are wanted, or one")
+    return made.ordered(below, [Key(*it) for it in zip(by, *flags)], None if slice is None else (slice[0], slice[1]))
 
 
-def _join(value: dict[str, Any], inputs: Sequence[Node]) -> Node:
-    keys = [[read(it) for it in value[side]] for side in ("left_on", "right_on")]
-    joining = Joining(value["how"], value["join_nulls"], value["coalesce"], value["suffix"])
-    made = plan.joined(inputs[0], inputs[1], keys[0], keys[1], joining)
-    made.said.update(rows_left=value["rows_left"], rows_right=value["rows_right"])
-    return made
+def _join(
+    left: Node, right: Node, left_on: Any, right_on: Any, rows_left: Any, rows_right: Any, **how: Any
+) -> Node:
+    keys = [[read(it) for it in on] for on in (left_on, right_on)]
+    node = made.joined(left, right, keys[0], keys[1], Joining(**how))
+    node.said.update(rows_left=rows_left, rows_right=rows_right)
+    return node
 
 
-def _node(value: dict[str, Any], inputs: list[Node], tables: Sequence[Table]) -> Node:
-    """A node over its inputs."""
-    match value["node"]:
-        case "DataFrameScan":
-            if not 0 <= value["frame"] < len(tables):
-                raise plan.fail("BadNode", f"there is no frame {value['frame']}")
-            return plan.scan(tables[value["frame"]], value["columns"])
-        case "Filter":
-            return plan.filtered(inputs[0], read(value["predicate"]))
-        case "SimpleProjection":
-            return plan.projected(inputs[0], value["columns"])
-        case "Select" | "HStack" as kind:
-            return plan.computed(inputs[0], [(it["name"], read(it["expr"])) for it in value["exprs"]], kind == "HStack")
-        case "Unpivot":
-            return plan.unpivoted(inputs[0], value["on"], value["index"], value["variable"], value["value"])
-        case "Rename":
-            return plan.renamed(inputs[0], {it["existing"]: it["new"] for it in value["pairs"]})
-        case "Union":
-            return plan.united(inputs)
-        case "Join":
-            return _join(value, inputs)
-        case "Sort":
-            return _sort(value, inputs[0])
-        case kind:
-            raise ValueError(f"no kind of node is called {kind!r}")
+# What makes a node of the nodes that it reads and of what it is told.
+MAKERS: dict[str, Callable[..., Node]] = {
+    "Filter": lambda below, predicate: made.filtered(below, read(predicate)),
+    "SimpleProjection": lambda below, columns: made.projected(below, columns),
+    "Select": lambda below, exprs: made.computed(below, [(it["name"], read(it["expr"])) for it in exprs], False),
+    "HStack": lambda below, exprs: made.computed(below, [(it["name"], read(it["expr"])) for it in exprs], True),
+    "Unpivot": made.unpivoted,
+    "Rename": lambda below, pairs: made.renamed(below, {it["existing"]: it["new"] for it in pairs}),
+    "Union": lambda *inputs: made.united(inputs),
+    "Join": _join,
+    "Sort": _sort,
+}
 
 
-def input_numbers(value: dict[str, Any]) -> list[int]:
+def _input_numbers(value: dict[str, Any]) -> list[int]:
     """The numbers of the nodes that a node reads."""
-    match value["node"]:
-        case "DataFrameScan":
-            return []
-        case "Union":
-            return list(value["inputs"])
-        case "Join":
-            return [value["left"], value["right"]]
-        case _:
-            return [value["input"]]
+    return list(value.get("inputs", ())) + [value[it] for it in ("input", "left", "right") if it in value]
 
 
-def nodes_under(values: Any, root: int, tables: Sequence[Table]) -> dict[int, Node]:
-    """The nodes under the root, by their numbers; PlanError with the node's number where it has a fault."""
-    if not isinstance(values, list) or not values:
-        raise Refused("a plan is an array of one node or more")
-    found: dict[int, Node] = {}
-    waiting, under = [root], set()
-    while waiting:
-        n = waiting.pop()
-        if not isinstance(n, int) or not 0 <= n < len(values):
-            raise PlanError(f"there is no node {n}", fault="BadNode", node=root)
-        under.add(n)
-        waiting += [it for it in _told(values[n], n, input_numbers) if isinstance(it, int) and it < n]
-    for n in sorted(under):
-        numbers = _told(values[n], n, input_numbers)
-        if any(it not in found for it in numbers) or len(set(numbers)) < len(numbers):
-            raise PlanError("an input isn't smaller, or stands twice", fault="BadNode", node=n)
-        with told_as(f"node {n}"):
-            found[n] = _told(values[n], n, lambda it: _node(it, [found[k] for k in numbers], tables))  # noqa: B023
-    return found
+def _node(value: dict[str, Any], inputs: Sequence[Node], tables: Sequence[Table]) -> Node:
+    """A node over its inputs."""
+    said = {name: it for name, it in value.items() if name not in ("node", "input", "inputs", "left", "right")}
+    if value["node"] != "DataFrameScan":
+        return MAKERS[value["node"]](*inputs, **said)
+    if not 0 <= value["frame"] < len(tables):
+        raise made.fail("BadNode", f"there is no frame {value['frame']}")
+    return made.scan(tables[value["frame"]], value["columns"])
 
 
-def _told(value: Any, n: int, work: Any) -> Any:
+def _told(n: int, work: Callable[..., Any], *given: Any) -> Any:
     """What `work` makes of a node; Refused where the node isn't as docs/FORMATS.md has it."""
     try:
-        return work(value)
+        return work(*given)
     except LiskevarError as error:
         error.node = n
         raise
-    except (KeyError, TypeError, ValueError, IndexError, AttributeError) as error:
+    except NO_JOB as error:
         raise Refused(f"node {n} isn't as docs/FORMATS.md has it: {type(error).__name__} {error}") from error
 
 
-class JobText:
-    """A job that is read from JSON: its tables and the nodes under its root."""
+def plan_under(values: Any, root: Any, tables: Sequence[Table]) -> Plan:
+    """The plan of the nodes under a root, in their order; PlanError with the node's number where one has a fault."""
+    if not isinstance(values, list) or not values:
+        raise Refused("a plan is an array of one node or more")
+    waiting, under = [(root, root)], set()
+    found: dict[int, Node] = {}
+    while waiting:
+        n, reader = waiting.pop()
+        if not isinstance(n, int) or not 0 <= n < len(values) or n in under or n > reader:
+            raise PlanError("an input isn't there, isn't smaller or is read twice", fault="BadNode", node=reader)
+        under.add(n)
+        waiting += [(it, n) for it in _told(n, _input_numbers, values[n])]
+    for n in sorted(under):
+        inputs = [found[it] for it in _input_numbers(values[n])]
+        with told_as(f"node {n}"):
+            found[n] = _told(n, _node, values[n], inputs, tables)
+    numbers = {it: n for n, it in enumerate(found)}
+    return Plan(list(found.values()), [[numbers[it] for it in _input_numbers(values[n])] for n in found])
 
-    def __init__(self, path: str, text: str) -> None:
-        job = read_json(path, text)
-        try:
-            self.tables = [_table(f"frame {n}", it) for n, it in enumerate(job["frames"])]
-            self.values, self.root = job["plan"], job["root"]
-        except (KeyError, TypeError, ValueError, AttributeError) as error:
-            raise Refused(f"{path}: no job: {type(error).__name__} {error}") from error
-        self.nodes = nodes_under(self.values, self.root, self.tables)
+
+def plan_of_job(path: str, text: str) -> Plan:
+    """The plan of a job that is read from JSON; its tables have no cells."""
+    job = read_json(path, text)
+    try:
+        tables = [_table(f"frame {n}", it["columns"]) for n, it in enumerate(job["frames"])]
+        values, root = job["plan"], job["root"]
+    except NO_JOB as error:
+        raise Refused(f"{path}: no job: {type(error).__name__} {error}") from error
+    return plan_under(values, root, tables)
 
 
-def _table(name: str, frame: Any) -> Table:
-    columns = [Column(it["name"], it["values"], dtype_of(it["type"]), lambda dtype: []) for it in frame["columns"]]
-    return Table(name, columns, len(columns[0].values))
+def _table(name: str, columns: Any) -> Table:
+    made = [Column(it["name"], it["values"], dtype_of(it["type"]), lambda dtype: []) for it in columns]
+    return Table(name, made, len(made[0].values))

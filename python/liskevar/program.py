@@ -12,7 +12,9 @@ from .errors import BY_STATUS, LiskevarError, NotOffered
 from .nodes import Node
 from .places import PACKAGE
 
-LINE = re.compile(r"error (?P<status>\d+): (?P<fault>[^:\n]*?)(?: at node (?P<node>\d+))?(?:: (?P<name>\".*\"))?\n?", re.DOTALL)
+LINE = re.compile(r'error \d+: (?P<fault>[^:\n]*?)(?: at node (?P<node>\d+))?(?:: (?P<name>".*"))?\n?', re.DOTALL)
+# The statuses of which the command `why` tells more.
+EXPLAINED = (4, 5, 6, 7)
 
 
 @functools.lru_cache(maxsize=8)
@@ -22,8 +24,8 @@ def _built(path: str) -> None:
         raise NotOffered(f"{path} built no program; what it says stands above")
 
 
-def find_program() -> list[str]:
-    """The words that call the program.
+def find_program() -> str:
+    """The program's path.
 
     Looked for in this order: the variable LISKEVAR_PROGRAM; `./liskevar` of the repository that this package lies in,
     which builds the program where it isn't there; `bin/liskevar` beside the package's folder; `liskevar` on PATH.
@@ -37,49 +39,55 @@ def find_program() -> list[str]:
     found = told or (beside if os.path.isfile(beside) else shutil.which("liskevar"))
     if found is None:
         raise NotOffered("the program liskevar isn't found: install it, or set LISKEVAR_PROGRAM to its path")
-    return [found]
+    return found
+
+
+def _called(words: Sequence[str], text: bytes = b"") -> subprocess.CompletedProcess[bytes]:
+    """What the program does, told words and a text."""
+    program, environment = find_program(), {"MALLOC_ARENA_MAX": "1", **os.environ}
+    try:
+        return subprocess.run([program, *words], input=text, capture_output=True, env=environment, check=False)
+    except OSError as error:
+        raise NotOffered(f"{program}: {error.strerror}") from error
 
 
 def ask(command: str, text: bytes, nodes: Sequence[Node] = (), row_limit: int = 0) -> bytes:
     """What a command prints; an exception for each status but 0, with the place of the node that it names."""
-    words = [*find_program(), *command.split()]
-    environment = {"MALLOC_ARENA_MAX": "1", **os.environ}
-    try:
-        done = subprocess.run(words, input=text, stdout=subprocess.PIPE, stderr=subprocess.PIPE, env=environment, check=False)
-    except OSError as error:
-        raise NotOffered(f"{words[0]}: {error.strerror}") from error
-    if done.returncode != 0:
-        raise refusal(done.returncode, done.stderr.decode(errors="replace"), nodes, row_limit)
-    return done.stdout
+    done = _called([command], text)
+    if done.returncode == 0:
+        return done.stdout
+    told, why = done.stderr.decode(errors="replace"), ""
+    if done.returncode in EXPLAINED and offers("why"):
+        why = _called(["why"], text).stdout.decode(errors="replace").strip()
+    raise refusal(done.returncode, told, nodes, row_limit, "" if why.startswith("ok") else why)
 
 
-def refusal(status: int, told: str, nodes: Sequence[Node], row_limit: int) -> LiskevarError:
-    """The exception of a status and of the line that came with it."""
+def refusal(status: int, told: str, nodes: Sequence[Node], row_limit: int, why: str = "") -> LiskevarError:
+    """The exception of a status, of the line that came with it and of what `why` tells."""
     words = next((it for it in told.splitlines() if it.startswith("error ")), "")
-    found = LINE.fullmatch(words)
-    kind = BY_STATUS.get(status, LiskevarError)
+    found, kind = LINE.fullmatch(words), BY_STATUS.get(status, LiskevarError)
     if found is None:
-        return kind(f"the program ended with status {status}: {told.strip()}")
+        return kind(f"the program ended with status {status}: {told.strip()}", why=why)
     number = int(found["node"]) if found["node"] else None
     node = nodes[number] if number is not None and number < len(nodes) else None
     if found["fault"] == "TooMany" and row_limit:
         what = f"the {node.kind}" if node else "a node"
         words += f": {what} has more than {row_limit:,} rows; set row_limit (--row-limit) higher if that is meant"
     name = json.loads(found["name"]) if found["name"] else None
-    return kind(words, fault=found["fault"], node=number, name=name, place=node.place if node else None)
+    return kind(words, fault=found["fault"], node=number, name=name, place=node.place if node else None, why=why)
 
 
 @functools.lru_cache(maxsize=8)
-def _help(words: tuple[str, ...]) -> str:
-    return subprocess.run([*words, "--help"], stdout=subprocess.PIPE, check=False).stdout.decode(errors="replace")
+def _help(program: str) -> str:
+    return _called(["--help"]).stdout.decode(errors="replace")
 
 
 def offers(command: str) -> bool:
     """Whether the program that is found has a command, by its `--help`."""
-    return re.search(rf"^liskevar {re.escape(command)}\b", _help(tuple(find_program())), re.MULTILINE) is not None
+    return re.search(rf"^liskevar {re.escape(command)}\b", _help(find_program()), re.MULTILINE) is not None
 
 
 def want(command: str) -> None:
     """NotOffered where the program hasn't the command."""
     if not offers(command):
-        raise NotOffered(f"{find_program()[0]} has no command {command!r}: a newer build is wanted")
+        raise NotOffered(f"{find_program()} has no command {command!r}: a newer build is wanted")

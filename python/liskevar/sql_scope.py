@@ -2,16 +2,17 @@
 
 from __future__ import annotations
 
-from collections.abc import Sequence
-from dataclasses import dataclass, field
+from collections.abc import Mapping
+from dataclasses import dataclass, field, replace
 from typing import Any
 
 from . import nodes as plan
-from .expr import Expr, all_of, col, lit
-from .nodes import Joining, Node, joined_names
-from .sql_text import Text, bare
+from .expr import Expr, Schema, all_of, col, lit
+from .nodes import Joining, Node
+from .sql_text import Text, bare, match
 
 EQUALITIES = ("eq", "nullsafeeq", "is")
+Moved = Mapping[str, str | None]
 BLURRED = "after USING in an outer join {!r} isn't one table's column; write it without its table"
 
 
@@ -30,44 +31,51 @@ class Part:
 class Scope:
     """A node of the plan, the tables whose columns it has, and the columns that USING made one of several."""
 
+    text: Text
     node: Node
     parts: list[Part]
     shared: dict[str, str] = field(default_factory=dict)
 
     def over(self, node: Node) -> Scope:
         """The same tables over another node with their columns."""
-        return Scope(node, self.parts, self.shared)
+        return replace(self, node=node)
 
-    def places(self, column: Any, text: Text) -> list[tuple[str, str | None]]:
+    def places(self, name: str, table: str = "") -> list[tuple[str, str | None]]:
         """The columns that a name may mean: as written, and in the plan."""
-        if not column.table:
-            name = text.match(column, list(self.shared), column.name)
-            if name is not None:
-                return [(name, self.shared[name])]
-        found: list[tuple[str, str | None]] = []
-        for part in self.parts:
-            if not column.table or text.match(column, [part.alias], column.table) is not None:
-                name = text.match(column, list(part.columns), column.name)
-                found += [] if name is None else [(name, part.columns[name])]
-        return found
+        shared = None if table else match(name, self.shared)
+        if shared is not None:
+            return [(shared, self.shared[shared])]
+        parts = [it for it in self.parts if not table or match(table, [it.alias]) is not None]
+        found = ((match(name, it.columns), it.columns) for it in parts)
+        return [(written, columns[written]) for written, columns in found if written is not None]
 
-    def find(self, column: Any, text: Text) -> Expr:
-        """The column of a name; SqlError where it is none, or several."""
-        found = self.places(column, text)
+    def column(self, name: str, table: str, at: Any) -> tuple[str, str]:
+        """The column of a name, as written and in the plan; SqlError where it is none, or several."""
+        found = self.places(name, table)
         if len(found) > 1:
-            raise text.refuse(column, f"{column.name!r} is a column of several tables; write one of them before it")
+            raise self.text.refuse(at, f"{name!r} is a column of several tables; write one of them before it")
         if not found:
             names = [f"{part.alias}.{it}" for part in self.parts for it in part.columns]
-            raise text.refuse(column, f"no column {column.sql()}; there are {', '.join(names)}")
-        if found[0][1] is None:
-            raise text.refuse(column, BLURRED.format(column.name))
-        return col(found[0][1])
+            raise self.text.refuse(at, f"no column {f'{table}.' if table else ''}{name}; there are {', '.join(names)}")
+        written, real = found[0]
+        if real is None:
+            raise self.text.refuse(at, BLURRED.format(name))
+        return written, real
 
-    def written(self, column: Any, text: Text) -> str:
-        """The name of a column as its table has it."""
-        return self.places(column, text)[0][0]
+    def find(self, node: Any) -> Expr:
+        """The column that a part of the query names."""
+        return col(self.column(node.name, node.table, node)[1])
+
+    def expression(self, node: Any) -> Expr:
+        """An expression over the columns."""
+        return self.text.expression(node, self.find)
+
+    def turned(self, count: int) -> Scope:
+        """The same scope with its first tables behind the others."""
+        return replace(self, parts=self.parts[count:] + self.parts[:count])
 
 
+@dataclass
 class Sides:
     """Two scopes, and the conditions under which their rows meet.
 
@@ -75,91 +83,78 @@ class Sides:
     side's names come first.
     """
 
-    def __init__(self, text: Text, left: Scope, right: Scope, is_nested: bool = False) -> None:
-        self.text, self.left, self.right, self.is_nested = text, left, right, is_nested
-        self.pairs: list[tuple[Expr, Expr]] = []
-        self.of_left: list[Expr] = []
-        self.of_right: list[Expr] = []
-        self.mixed: list[Any] = []
-        self.null_safe: list[Any] = []
-
-    def copy(self) -> Sides:
-        """The same sides and conditions, to be added to."""
-        made = Sides(self.text, self.left, self.right, self.is_nested)
-        for name in ("pairs", "of_left", "of_right", "mixed", "null_safe"):
-            setattr(made, name, list(getattr(self, name)))
-        return made
+    text: Text
+    left: Scope
+    right: Scope
+    is_nested: bool = False
+    pairs: list[tuple[Expr, Expr]] = field(default_factory=list)
+    null_safe: list[Any] = field(default_factory=list)
+    of_left: list[Expr] = field(default_factory=list)
+    of_right: list[Expr] = field(default_factory=list)
+    mixed: list[Any] = field(default_factory=list)
+    using: dict[str, tuple[str, str]] = field(default_factory=dict)
 
     def tie(self, left: Expr, right: Expr, null_safe: Any = None) -> None:
         """A pair of keys; nulls meet where a condition that is null-safe is told."""
         self.pairs.append((left, right))
         self.null_safe.append(null_safe)
 
-    def _side(self, column: Any) -> int:
-        """0 where a column is the left side's, 1 where it is the right one's."""
-        found = [bool(it.places(column, self.text)) for it in (self.left, self.right)]
-        if all(found) and not self.is_nested:
-            raise self.text.refuse(column, f"{column.name!r} is a column of several tables; write one of them before it")
-        if not any(found):
-            Scope(self.left.node, self.left.parts + self.right.parts).find(column, self.text)
-        return 1 if found[1] else 0
+    def use(self, name: str, at: Any) -> None:
+        """A pair of keys of one name, which become one column."""
+        (written, left), (_, right) = self.left.column(name, "", at), self.right.column(name, "", at)
+        self.using[written] = left, right
+        self.tie(col(left), col(right))
 
-    def _sides(self, node: Any) -> set[int]:
-        return {self._side(it) for it in self.text.columns(node)}
+    def _having(self, column: Any) -> list[int]:
+        """The sides that have a column: 0 for the left one, 1 for the right one."""
+        return [n for n, it in enumerate((self.left, self.right)) if it.places(column.name, column.table)]
+
+    def _side(self, column: Any) -> int:
+        found = self._having(column)
+        if not found or (len(found) > 1 and not self.is_nested):
+            # tells that the name is none or several
+            replace(self.left, parts=self.left.parts + self.right.parts, shared={}).find(column)
+        return found[-1]
+
+    def _sides(self, node: Any) -> list[int]:
+        return sorted({self._side(it) for it in self.text.columns(node)})
+
+    def _expr(self, node: Any) -> Expr:
+        scopes = self.left, self.right
+        return self.text.expression(node, lambda column: scopes[self._side(column)].find(column))
+
+    def _ends(self, node: Any) -> list[Any]:
+        """The ends of an equality between the two sides, left before right; none of all else."""
+        ends = [node.this, node.expression] if node.key in EQUALITIES else []
+        sides = [self._sides(it) for it in ends]
+        return ends if sides == [[0], [1]] else ends[::-1] if sides == [[1], [0]] else []
 
     def is_link(self, node: Any) -> bool:
         """Whether it is an equality between the two sides, all of whose columns they have."""
-        node = bare(node)
-        if node.key not in EQUALITIES:
-            return False
-        for column in self.text.columns(node):
-            if sum(bool(it.places(column, self.text)) for it in (self.left, self.right)) != 1:
-                return False
-        sides = [self._sides(it) for it in (node.this, node.expression)]
-        return sides in ([{0}, {1}], [{1}, {0}])
-
-    def _expr(self, node: Any) -> Expr:
-        return self.text.expression(node, lambda column, text: (self.left, self.right)[self._side(column)].find(column, text))
+        return all(len(self._having(it)) == 1 for it in self.text.columns(node)) and bool(self._ends(bare(node)))
 
     def add(self, node: Any) -> None:
         """One more condition."""
         node = bare(node)
-        sides = self._sides(node)
+        sides, ends = self._sides(node), self._ends(node)
         if len(sides) < 2:
-            (self.of_right if sides == {1} else self.of_left).append(self._expr(node))
-            return
-        parts = [node.this, node.expression] if node.key in EQUALITIES else []
-        ends = [self._sides(it) for it in parts]
-        if ends in ([{0}, {1}], [{1}, {0}]):
-            left, right = (self._expr(it) for it in (parts if ends[0] == {0} else reversed(parts)))
-            self.tie(left, right, node if node.key != "eq" else None)
+            (self.of_right if sides == [1] else self.of_left).append(self._expr(node))
+        elif ends:
+            self.tie(self._expr(ends[0]), self._expr(ends[1]), node if node.key != "eq" else None)
         else:
             self.mixed.append(node)
 
     def _check(self, how: str) -> None:
         if self.mixed and how != "inner":
-            words = f"a condition of both tables that is no equality can't be taken in {how.upper()} joins and subqueries"
+            words = "a condition of both tables that is no equality can't be taken in outer joins and subqueries"
             raise self.text.refuse(self.mixed[0], words)
         safe = [it for it in self.null_safe if it is not None]
         if safe and len(safe) < len(self.null_safe):
             raise self.text.refuse(safe[0], "an equality that takes nulls stands beside others that don't")
 
-    def _suffix(self, left: Sequence[str], right: Sequence[str], alias: str, using: Sequence[str] = ()) -> str:
-        """What is put behind right names that the left side has, so that no name stands twice."""
-        suffix = f"_{alias}"
-        while True:
-            names = joined_names(left, [it for it in right if it not in using], [], Joining("full", suffix=suffix))
-            every = [*left, *names.values()]
-            if len(set(every)) == len(every):
-                return suffix
-            suffix += "_"
-
     def joined(self, how: str) -> Scope:
-        """The rows that meet, and what a left, right, full, semi or anti join adds or keeps."""
+        """The rows that meet, and what a left, full, semi or anti join adds or keeps."""
         self._check(how)
-        if how == "right":
-            made = self._turned().joined("left")
-            return Scope(made.node, made.parts[len(self.right.parts) :] + made.parts[: len(self.right.parts)])
         left, right, pairs = self.left.node, self.right.node, list(self.pairs)
         if self.of_left and how in ("inner", "semi"):
             left = plan.filtered(left, all_of(self.of_left))
@@ -172,48 +167,31 @@ class Sides:
             pairs.append((lit(True), all_of(self.of_right)))
         if not pairs:
             how, pairs = ("cross", []) if how == "inner" else (how, [(lit(True), lit(True))])
-        suffix = self._suffix(list(left.schema), list(right.schema), self.right.parts[0].alias)
-        joining = Joining(how, any(it is not None for it in self.null_safe), "KeepColumns", suffix)
+        joining, names = self._names(how, left.schema, right.schema)
         node = plan.joined(left, right, [a for a, _ in pairs], [b for _, b in pairs], joining)
-        scope = self._scope(node, joining, [])
-        if self.mixed:
-            scope = scope.over(plan.filtered(node, all_of([self.text.expression(it, scope.find) for it in self.mixed])))
-        return scope
+        scope = self.left.over(node) if how in ("semi", "anti") else self._scope(node, how, names)
+        return scope.over(plan.filtered(node, all_of([scope.expression(it) for it in self.mixed]))) if self.mixed else scope
 
-    def _turned(self) -> Sides:
-        made = Sides(self.text, self.right, self.left)
-        made.pairs = [(b, a) for a, b in self.pairs]
-        made.of_left, made.of_right, made.null_safe = self.of_right, self.of_left, self.null_safe
-        return made
+    def _names(self, how: str, left: Schema, right: Schema) -> tuple[Joining, dict[str, str]]:
+        """How the join is made, with a suffix so that no name stands twice; and the names of the right columns."""
+        nulls, suffix = any(it is not None for it in self.null_safe), f"_{self.right.parts[0].alias}"
+        while True:
+            joining = Joining(how, nulls, "CoalesceColumns" if self.using else "KeepColumns", suffix)
+            names = joining.names(left, right, [it for _, it in self.using.values()])
+            if len({*left, *names.values()}) == len(left) + len(names):
+                return joining, names
+            suffix += "_"
 
-    def _scope(self, node: Node, joining: Joining, dropped: Sequence[str]) -> Scope:
+    def _scope(self, node: Node, how: str, names: dict[str, str]) -> Scope:
         """The tables of both sides over their join."""
-        if joining.how in ("semi", "anti"):
-            return self.left.over(node)
-        names = joined_names(self.left.node.schema, self.right.node.schema, dropped, joining)
-        parts = [Part(it.alias, {n: old and names.get(old, old) for n, old in it.columns.items()}) for it in self.right.parts]
-        shared = {name: names.get(old, old) for name, old in self.right.shared.items()}
-        return Scope(node, self.left.parts + parts, {**shared, **self.left.shared})
-
-    def joined_using(self, how: str, names: Sequence[str]) -> Scope:
-        """A join whose key is columns of one name on both sides, which become one column."""
-        if how == "right":
-            made = self._turned().joined_using("left", names)
-            return Scope(made.node, made.parts[len(self.right.parts) :] + made.parts[: len(self.right.parts)], made.shared)
-        keys = []
-        for name in names:
-            column = self.text.column(name)
-            keys.append([str(it.find(column, self.text).value) for it in (self.left, self.right)])
-        of_left, of_right = zip(*keys)
-        suffix = self._suffix(list(self.left.node.schema), list(self.right.node.schema), self.right.parts[0].alias, of_right)
-        joining = Joining(how, False, "CoalesceColumns", suffix)
-        node = plan.joined(self.left.node, self.right.node, [*map(col, of_left)], [*map(col, of_right)], joining)
-        if how in ("semi", "anti"):
-            return self.left.over(node)
-        scope = self._scope(node, joining, of_right)
-        shared = {self.text.column(name).name: old for name, old in zip(names, of_left)}
-        count, parts = len(self.left.parts), []
-        for place, it in enumerate(scope.parts):
-            own = {name: shared[name] if how == "inner" or (how == "left" and place < count) else None for name in shared}
-            parts.append(Part(it.alias, {name: own.get(name, old) for name, old in it.columns.items()}))
-        return Scope(node, parts, {**scope.shared, **shared})
+        # a key that became one column is everybody's own in an inner join, and the left side's in a left one
+        of_left: Moved = {left: left if how in ("inner", "left") else None for left, _ in self.using.values()}
+        of_right: Moved = {**names, **{right: left if how == "inner" else None for left, right in self.using.values()}}
+        parts = []
+        for moved, side in ((of_left, self.left), (of_right, self.right)):
+            for part in side.parts:
+                columns = {name: real and moved.get(real, real) for name, real in part.columns.items()}
+                parts.append(Part(part.alias, columns))
+        shared = {name: names.get(real, real) for name, real in self.right.shared.items()}
+        shared |= self.left.shared | {name: left for name, (left, _) in self.using.items()}
+        return Scope(self.text, node, parts, shared)

@@ -3,7 +3,7 @@
 from __future__ import annotations
 
 import contextlib
-from collections.abc import Callable, Iterator, Sequence
+from collections.abc import Callable, Iterable, Iterator
 from decimal import Decimal
 from typing import Any
 
@@ -11,11 +11,12 @@ from .errors import PlanError, Refused, SqlError
 from .expr import Expr, all_of, any_of, lit
 from .places import Place, told_as
 
-BINARY = {
+# Operations of two parts, by sqlglot's names; those that compare nulls too have no one word in a plan.
+PAIRS = {
     "eq": "eq", "neq": "not_eq", "lt": "lt", "lte": "lt_eq", "gt": "gt", "gte": "gt_eq", "add": "add", "sub": "sub",
-    "mul": "mul", "and": "and", "or": "or",
+    "mul": "mul", "and": "and", "or": "or", "is": "", "nullsafeeq": "", "nullsafeneq": "",
 }  # fmt: skip
-Find = Callable[[Any, "Text"], Expr]
+Find = Callable[[Any], Expr]
 
 
 def bare(node: Any) -> Any:
@@ -23,6 +24,20 @@ def bare(node: Any) -> Any:
     while node.key == "paren":
         node = node.this
     return node
+
+
+def match(text: str, names: Iterable[str]) -> str | None:
+    """The name that is meant: the same one, or the only one that differs in capitals alone."""
+    alike = [it for it in names if it.lower() == text.lower()]
+    return text if text in alike else alike[0] if len(alike) == 1 else None
+
+
+def conjuncts(node: Any) -> list[Any]:
+    """The parts of a chain of AND; none of no condition."""
+    if node is None:
+        return []
+    node = bare(node)
+    return conjuncts(node.this) + conjuncts(node.expression) if node.key == "and" else [node]
 
 
 class Text:
@@ -60,8 +75,6 @@ class Text:
             raise SqlError("one query is wanted", query, 1, 1)
         self.tree = trees[0]
 
-    # ---- places
-
     def _index(self, node: Any) -> int:
         """The first token of a part, as far as it is known."""
         marked = [(it, self.marks[id(it)][1]) for it, *_ in node.walk() if id(it) in self.marks]
@@ -72,19 +85,15 @@ class Text:
     def where(self, node: Any, *words: str) -> tuple[int, int]:
         """The line and column of a part, or of the last of some words before its end."""
         index = self._index(node)
-        for back in range(index, -1, -1) if words else ():
-            if self.tokens[back].text.upper().split(" ")[0] in words:
-                index = back
-                break
-        token = self.tokens[index]
+        before = (it for it in range(index, -1, -1) if self.tokens[it].text.upper().split(" ")[0] in words)
+        token = self.tokens[next(before, index)]
         kind = token.token_type.name
         quotes = 2 + token.text.count("'") if kind == "STRING" else 2 if kind == "IDENTIFIER" else 0
         return token.line, max(1, token.col - quotes)
 
     def refuse(self, node: Any, words: str, *near: str) -> SqlError:
         """The error of a part that can't be taken."""
-        line, column = self.where(node, *near)
-        return SqlError(words, self.query, line, column)
+        return SqlError(words, self.query, *self.where(node, *near))
 
     def place(self, node: Any) -> Place:
         """The place of a part."""
@@ -98,18 +107,6 @@ class Text:
                 yield
             except PlanError as error:
                 raise self.refuse(node, error.words) from None
-
-    # ---- parts
-
-    def match(self, node: Any, names: Sequence[str], written: str | None = None) -> str | None:
-        """The name that is meant: the same one, or the only one that differs in capitals alone."""
-        text = node.name if written is None else written
-        alike = [it for it in names if it.lower() == text.lower()]
-        return text if text in names else alike[0] if len(alike) == 1 else None
-
-    def column(self, name: str) -> Any:
-        """A column of that name, at no place."""
-        return self.exp.column(name)
 
     def columns(self, node: Any) -> list[Any]:
         """The columns in a part, from left to right."""
@@ -126,64 +123,43 @@ class Text:
             if found is not None:
                 raise self.refuse(found, f"{found.sql()} can't be taken: the program doesn't group")
 
-    def with_of(self, node: Any) -> list[Any]:
-        """The queries that WITH names before a query."""
-        found = node.args.get("with")
-        if found is not None and found.args.get("recursive"):
-            raise self.refuse(found, "WITH RECURSIVE can't be taken", "RECURSIVE", "WITH")
-        return list(found.expressions) if found is not None else []
-
-    def conjuncts(self, node: Any) -> list[Any]:
-        """The parts of a chain of AND."""
-        node = bare(node)
-        return [part for it in (node.this, node.expression) for part in self.conjuncts(it)] if node.key == "and" else [node]
-
     def expression(self, node: Any, find: Find) -> Expr:
         """An expression over the columns that `find` finds; SqlError where it has none."""
         node = bare(node)
-        made = self._leaf(node, find)
-        made = self._test(node, find) if made is None else made
-        if made is not None:
-            return made
-        if node.key in BINARY:
-            left, right = (self.expression(it, find) for it in (node.this, node.expression))
-            return left._with(BINARY[node.key], right)
+        if node.key == "column" and node.this.key == "identifier":
+            return find(node)
+        if node.key in ("literal", "boolean", "null"):
+            return self._literal(node)
         if node.key == "not":
             return ~self.expression(node.this, find)
         if node.key == "neg":
             inner = self.expression(node.this, find)
             return lit(-inner.value) if inner.op == "lit" and inner.value is not None else -inner
+        if node.key == "in" and node.expressions and not self.has_query(node):
+            return any_of([self.expression(node.this, find) == self.expression(it, find) for it in node.expressions])
+        if node.key == "between" or node.key in PAIRS:
+            parts = ("this", "low", "high") if node.key == "between" else ("this", "expression")
+            return _operation(node.key, *(self.expression(node.args[it], find) for it in parts))
         if self.has_query(node):
             raise self.refuse(node, "a subquery stands in FROM, or in WHERE as EXISTS or IN, and nowhere else")
         words = "can't be taken: expressions have columns, values, + - *, comparisons, AND, OR, NOT"
         raise self.refuse(node, f"{node.sql()} {words}")
 
-    def _leaf(self, node: Any, find: Find) -> Expr | None:
-        """A column or a value."""
-        if node.key == "column" and node.this.key == "identifier":
-            return find(node, self)
-        if node.key == "literal":
-            if node.is_string:
-                return lit(node.name)
-            if not node.name.replace(".", "", 1).isdigit() or len(node.name) > 60:
-                raise self.refuse(node, f"{node.name} is no number of exact digits")
-            return lit(Decimal(node.name) if "." in node.name else int(node.name))
-        if node.key == "boolean":
-            return lit(bool(node.this))
-        return lit(None) if node.key == "null" else None
+    def _literal(self, node: Any) -> Expr:
+        if node.key != "literal" or node.is_string:
+            return lit({"null": None, "boolean": bool(node.this)}.get(node.key, node.name))
+        if not node.name.replace(".", "", 1).isdigit() or len(node.name) > 60:
+            raise self.refuse(node, f"{node.name} is no number of exact digits")
+        return lit(Decimal(node.name) if "." in node.name else int(node.name))
 
-    def _test(self, node: Any, find: Find) -> Expr | None:
-        """BETWEEN, IN of values, IS."""
-        if node.key == "between":
-            value, low, high = (self.expression(node.args[it], find) for it in ("this", "low", "high"))
-            return all_of([value >= low, value <= high])
-        if node.key == "in" and node.expressions and not self.has_query(node):
-            value = self.expression(node.this, find)
-            return any_of([value == self.expression(it, find) for it in node.expressions])
-        if node.key not in ("is", "nullsafeeq", "nullsafeneq"):
-            return None
-        left, right = (self.expression(it, find) for it in (node.this, node.expression))
-        if right.op == "lit" and right.value is None:
-            return left.is_null() if node.key != "nullsafeneq" else left.is_not_null()
-        same = ((left == right) & left.is_not_null() & right.is_not_null()) | (left.is_null() & right.is_null())
-        return ~same if node.key == "nullsafeneq" else same
+
+def _operation(key: str, left: Expr, right: Expr, high: Any = None) -> Expr:
+    """An operation of two parts, and BETWEEN of three."""
+    if key == "between":
+        return all_of([left >= right, left <= high])
+    if PAIRS[key]:
+        return left._with(PAIRS[key], right)
+    if right.op == "lit" and right.value is None:
+        return left.is_not_null() if key == "nullsafeneq" else left.is_null()
+    same = ((left == right) & left.is_not_null() & right.is_not_null()) | (left.is_null() & right.is_null())
+    return ~same if key == "nullsafeneq" else same

@@ -8,8 +8,8 @@ import warnings
 
 import liskevar as lk
 import pytest
-from liskevar import limits
 from liskevar.csv_files import csv_lines, read_csv
+from liskevar.job import BYTES_OF_A_JOB
 
 
 def quiet(path, **told):
@@ -190,11 +190,11 @@ def test_a_table_is_one_frame(write):
 
 
 def test_a_job_that_is_too_long_is_told(write, monkeypatch):
+    assert BYTES_OF_A_JOB == 33_554_432
     path = write("a.csv", "k,text\n" + "".join(f"{it},{'x' * 100}\n" for it in range(1000)))
     monkeypatch.setattr("liskevar.job.BYTES_OF_A_JOB", 50_000)
     with pytest.raises(lk.JobTooLong, match="a.csv, columns k, text: .* Take fewer columns"):
         lk.scan_csv(path).job()
     assert lk.scan_csv(path).select("k").job()
     with pytest.raises(lk.JobTooLong, match="by row"):
-        read_csv(path, most_bytes=50_000)
-    assert limits.BYTES_OF_A_JOB == 33_554_432
+        read_csv(path, jobs=1)

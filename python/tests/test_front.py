@@ -103,6 +103,40 @@ def test_what_a_line_tells():
     assert program.refusal(10, "liskevar: no toolchain\n", (), 0).words.endswith("status 10: liskevar: no toolchain")
 
 
+@pytest.fixture
+def stand_in(tmp_path, monkeypatch):
+    """Puts in the program's place what refuses each job with a status and, if it has that command, tells why."""
+
+    def work(status, why=None):
+        path = tmp_path / f"stand_in_{status}_{why is not None}"
+        tells = f"echo 'liskevar why [FILE]' ;;\nwhy) grep -q '\"plan\"' && printf '%s\\n' '{why}'; exit {status}" if why else ""
+        refuses = f"echo 'error {status}: TooMany at node 0' >&2; exit {status}"
+        path.write_text(f"#!/bin/sh\ncase $1 in\n--help) echo 'liskevar run'; {tells} ;;\n*) {refuses} ;;\nesac\n")
+        path.chmod(0o755)
+        monkeypatch.setenv("LISKEVAR_PROGRAM", str(path))
+
+    return work
+
+
+@pytest.mark.parametrize("status", range(1, 11))
+def test_why_is_told_where_the_program_tells_it(orders, stand_in, status):
+    words = "node 0 gives 2 rows\n  and 1 is the limit"
+    stand_in(status, words)
+    with pytest.raises(BY_STATUS[status]) as told:
+        orders.collect()
+    is_told = status in (4, 5, 6, 7)
+    assert told.value.why == (words if is_told else "") and str(told.value).endswith(words) == is_told
+    assert told.value.node == 0 and "TooMany at node 0" in told.value.words
+
+
+@pytest.mark.parametrize("why", [None, "ok\n1 node"])
+def test_without_a_why_the_line_stands_alone(orders, stand_in, why):
+    stand_in(7, why)
+    with pytest.raises(lk.TooMany) as told:
+        orders.collect(row_limit=1)
+    assert told.value.why == "" and str(told.value).endswith("set row_limit (--row-limit) higher if that is meant")
+
+
 @pytest.mark.program
 def test_too_many_rows(orders):
     with pytest.raises(lk.TooMany) as told:
@@ -331,7 +365,8 @@ def test_plans_of_json(two, examples, write):
     job = json.loads(run("plan", plan, *two, "--job"))
     with open(plan, encoding="utf-8") as file:
         nodes = json.load(file)
-    assert job["plan"][2:] == nodes[2:] and [it["name"] for it in job["frames"][1]["columns"]] == ["order", "part", "paid"]
+    assert job["plan"][2:4] == nodes[2:4] and [it["name"] for it in job["frames"][1]["columns"]] == ["order", "part", "paid"]
+    assert job["plan"][4] == {**nodes[4], "descending": [False, False], "nulls_last": [False, False]}
     nodes[3]["predicate"] = {"is_null": {"col": "piad"}}
     assert "node 3: no column 'piad'" in run("plan", write("p.json", json.dumps(nodes)), *two, "--job", status=6)
     assert "node 0 isn't as docs/FORMATS.md has it" in run("plan", write("p.json", '[{"node":"Scan"}]'), *two, "--job", status=1)
