@@ -40,11 +40,11 @@ def _tables(given: Any, paths: Sequence[str], read: Iterable[str] | None = None)
         raise Refused(f"--names is given {len(given.names)} times, for {len(paths)} files")
     types, found, tables = dict(map(_type_of, given.types)), set(), []
     for path, names in zip(paths, [*given.names, *[None] * len(paths)]):
-        delimiter = delimiter_of(path, given.tabs)
         own = {it: types[it] for it in names or _header(path, given) if it in types}
         found |= set(own)
-        form: dict[str, Any] = {"delimiter": delimiter, "names": names, "empty_is_text": given.empty_is_text, "types": own}
-        tables.append(read_csv(path, **form) if read is None else read_csv(path, read={*read, *own}, jobs=1, **form))
+        told: dict[str, Any] = {} if read is None else {"read": {*read, *own}, "jobs": 1}
+        told |= {"names": names, "types": own, "empty_is_text": given.empty_is_text}
+        tables.append(read_csv(path, delimiter=delimiter_of(path, given.tabs), **told))
     for name in types:
         if name not in found:
             raise Refused(f"--types names {name!r}, which is no column of any file")
@@ -198,7 +198,7 @@ def _common(parser: argparse.ArgumentParser, outputs: bool) -> None:
     add("--names", action="append", default=[], **NAMES,
         help="names in place of the header's; given again for the second file, and so on")  # fmt: skip
     add("--tabs", **TABS)
-    add("--empty-is-text", action="store_true", help="an empty field of a column of texts is the empty text, and no null")
+    add("--empty-is-text", action="store_true", help="an empty field in a column of texts is the empty text, no null")
     add("--workers", type=int, default=4)
     add("--chunk-rows", type=int, default=65_536)
     add("--row-limit", type=int, default=ROW_LIMIT, help=f"the rows a node may have; {ROW_LIMIT:,} if not told")

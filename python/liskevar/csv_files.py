@@ -39,7 +39,7 @@ def delimiter_of(path: str, tabs: bool = False) -> str:
 
 
 def _lines(path: str, delimiter: str) -> Iterator[str]:
-    """The lines of a file, with each `""` that is a whole field marked; a mark of byte order is no part of the first."""
+    """The lines of a file without its mark of byte order, with each `""` that is a whole field marked."""
     inside = False
     try:
         with open(path, encoding="utf-8-sig", newline="") as file:
@@ -164,15 +164,16 @@ class Fields:
         if told:
             self._check(told)
             return Column(self.name, self.values, told, self.cells)
-        hint = f"; --types {self.name}:String (types=) reads {self.name!r} of {self.path} as texts" if self.looks else ""
-        if self.looks in WAYS:
-            form, what = WAYS[self.looks]
-            hint = f"; {self.path} gives texts that look like {self.looks}: tell {form} by types= or --types"
-            how = f"types={{{self.name!r}: {form!r}}} (--types {self.name}:{form}) reads them {what}"
-            words = f"{self.path}: {self.name!r} looks like {self.looks}, and is read as texts, which sort and join as texts"
+        path, name, looks = self.path, self.name, self.looks
+        hint = f"; --types {name}:String (types=) reads {name!r} of {path} as texts" if looks else ""
+        if looks in WAYS:
+            form, what = WAYS[looks]
+            hint = f"; {path} gives texts that look like {looks}: tell {form} by types= or --types"
+            how = f"types={{{name!r}: {form!r}}} (--types {name}:{form}) reads them {what}"
+            words = f"{path}: {name!r} looks like {looks}, and is read as texts, which sort and join as texts"
             warnings.warn(f"{words}; {how}", TypeWarning, stacklevel=2)
         is_empty = not self.distinct and EMPTY not in self.values
-        return Column(self.name, self.values, Guess(self.fits, is_empty=is_empty, hint=hint), self.cells)
+        return Column(name, self.values, Guess(self.fits, is_empty=is_empty, hint=hint), self.cells)
 
     def _iso(self, row: int, field: str, form: str) -> str:
         try:

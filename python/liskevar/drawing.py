@@ -12,8 +12,11 @@ from .nodes import Node
 WIDEST = 46
 LINE, GLYPH, FONT = 17, 7.3, 'font-family="monospace" font-size="12"'
 FILLS = {"DataFrameScan": "#eef5fb", "Join": "#fdf3e4", "Sort": "#eef7ee", "Union": "#fdf3e4"}
-ARROW = '<path d="M0,0 L8,4 L0,8 z" fill="#555"/>'
-ARROW = f'<defs><marker id="to" markerWidth="9" markerHeight="9" refX="8" refY="4" orient="auto">{ARROW}</marker></defs>'
+ARROW = (
+    '<defs><marker id="to" markerWidth="9" markerHeight="9" refX="8" refY="4" orient="auto">'
+    '<path d="M0,0 L8,4 L0,8 z" fill="#555"/></marker></defs>'
+)
+LINK = 'stroke="#555" fill="none" marker-end="url(#to)"'
 
 
 class Picture(str):
@@ -119,7 +122,7 @@ def picture(plan: Plan, told: Sequence[str] = ()) -> str:
         x, y = lefts[column], tops[row]
         for i in plan.inputs[n]:
             a, b = lefts[at[i][0]] + widths[at[i][0]], tops[at[i][1]] + 30
-            parts.append(f'<path d="M{a},{b} L{x - 30},{b} L{x},{y + 30}" stroke="#555" fill="none" marker-end="url(#to)"/>')
+            parts.append(f'<path d="M{a},{b} L{x - 30},{b} L{x},{y + 30}" {LINK}/>')
         size, fill = f'width="{widths[column]}" height="{boxes[n]}"', FILLS.get(plan.nodes[n].kind, "white")
         parts.append(f'<rect x="{x}" y="{y}" {size} rx="4" fill="{fill}" stroke="#555"/>')
         parts += [_text_at(x + 9, y + 19 + LINE * k, line) for k, line in enumerate(texts[n])]

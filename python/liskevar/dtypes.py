@@ -30,7 +30,7 @@ EXACT = Context(prec=90)
 
 @dataclass(frozen=True)
 class DType:
-    """A type of the program. `scale` digits after the point make a whole number a decimal: Cents is Int64 of scale 2."""
+    """A type of the program; `scale` digits after the point make whole numbers decimals: Cents is Int64 of scale 2."""
 
     base: str
     scale: int = 0

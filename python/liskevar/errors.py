@@ -14,8 +14,8 @@ BY_STATUS: dict[int, type[LiskevarError]] = {}
 class LiskevarError(Exception):
     """Anything that is refused.
 
-    `status` is the program's, 0 where it was never asked; `fault` its word for it, `node` the number of the plan's node,
-    `name` the column, `place` the user's call that made the node, and `why` what the program's command `why` tells.
+    `status` is the program's, 0 where it was never asked; `fault` its word for it, `node` the node's number, `name` the
+    column, `place` the user's call that made the node, and `why` what the program's command `why` tells.
     """
 
     status = 0

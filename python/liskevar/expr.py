@@ -75,7 +75,7 @@ class Expr:
         return Expr("not", (self,))
 
     def __bool__(self) -> bool:
-        raise TypeError("an expression has no truth of its own: write & for and, | for or, ~ for not, each side in brackets")
+        raise TypeError("an expression has no truth: write & for and, | for or, ~ for not, each side in brackets")
 
     def is_null(self) -> Expr:
         """Whether the value is null; never null itself."""
@@ -103,7 +103,7 @@ def col(name: str) -> Expr:
 
 
 def lit(value: Any, dtype: str | None = None) -> Expr:
-    """A value. A number takes the type of what it is compared with; `dtype` tells another. An expression stays itself."""
+    """A value, or the same expression. A number takes the type of what it is compared with, or is of `dtype`."""
     if isinstance(value, Expr):
         return value
     # what numpy and pandas hand out
@@ -224,7 +224,7 @@ def written(expr: Expr) -> str:
     if expr.op == "col":
         return str(expr.value)
     if expr.op == "lit":
-        return "null" if expr.value is None else repr(expr.value).lower() if expr.value in (True, False) else repr(expr.value)
+        return {"None": "null", "True": "true", "False": "false"}.get(repr(expr.value), repr(expr.value))
     parts = [written(it) for it in expr.args]
     if expr.op in INFIX:
         return f"({f' {INFIX[expr.op]} '.join(parts)})"

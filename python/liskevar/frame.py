@@ -56,8 +56,8 @@ class Order:
 class LazyFrame:
     """A plan over tables. Each call gives another frame.
 
-    Errors: `PlanError` at the call that makes a mistake (an unknown column, types that don't fit, a name twice, keys that
-    don't match), `Refused` for values and files that can't be taken. What runs the plan (`collect`, `to_pandas`,
+    Errors: `PlanError` at the call that makes a mistake (an unknown column, types that don't fit, a name twice, keys
+    that don't match), `Refused` for values and files that can't be taken. What runs the plan (`collect`, `to_pandas`,
     `write_csv`, `explain`) raises a class for each status of the program, `TooMany` where a node has more rows than
     `row_limit`; `JobTooLong` before anything runs; and `NotOffered` where there is no program.
     """

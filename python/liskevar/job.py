@@ -57,7 +57,8 @@ def plan_of(root: Node) -> Plan:
             waiting += [(node, True), *((it, False) for it in reversed(node.inputs))]
             continue
         if len(plan.nodes) == MOST_NODES:
-            raise TooMany(f"the plan has more than {MOST_NODES:,} nodes", fault="TooMany", node=MOST_NODES, place=root.place)
+            words = f"the plan has more than {MOST_NODES:,} nodes"
+            raise TooMany(words, fault="TooMany", node=MOST_NODES, place=root.place)
         first = len(done) - len(node.inputs)
         plan.inputs.append(done[first:])
         done[first:] = [len(plan.nodes)]
@@ -78,8 +79,9 @@ def _columns_of_scans(plan: Plan) -> dict[int, list[str]]:
 def check_size(what: str, size: int, times: int = 1) -> None:
     """JobTooLong, with what to do, where something has more bytes than so many jobs may have."""
     if size > times * BYTES_OF_A_JOB:
-        words = f"{what}: {size:,} bytes, and a job has at most {BYTES_OF_A_JOB:,}. Take fewer columns (columns=, --columns,"
-        raise JobTooLong(f"{words} select), or fewer rows of the files, or cut the files into parts")
+        words = f"{what}: {size:,} bytes, and a job has at most {BYTES_OF_A_JOB:,}"
+        ways = "Take fewer columns (columns=, --columns, select), or fewer rows of the files, or cut the files into parts"
+        raise JobTooLong(f"{words}. {ways}")
 
 
 def said_by(value: Any, root: Node) -> Any:

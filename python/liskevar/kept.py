@@ -12,6 +12,7 @@ from .job import ROW_LIMIT, Settings, compact, said_by, with_version
 from .program import ask, want
 from .recon import table_of, two_tables
 from .rows import Rows, rows_of_lines
+from .tables import value_column
 
 SIDES = ("left", "right")
 
@@ -48,13 +49,10 @@ class KeptJoin:
         values = [row.get(it) for it in schema] if isinstance(row, dict) else list(row)
         if len(values) != len(schema) or (isinstance(row, dict) and not set(row) <= set(schema)):
             raise Refused(f"{row!r} is no row of the columns {', '.join(schema)}")
-        cells = []
-        for name, value in zip(schema, values):
-            dtype = self._join.typing.resolve(schema[name])
-            try:
-                cells.append(dtype.cell(value))
-            except (ValueError, ArithmeticError):
-                raise Refused(f"column {name!r}: {value!r} is no {dtype}") from None
+        cells, what = [], f"an edit of the {side} table"
+        for (name, it), value in zip(schema.items(), values):
+            dtype = self._join.typing.resolve(it)
+            cells += value_column(what, name, [value], dtype).spell(dtype)
         self._edits.append(compact([side, word, cells]))
 
     def insert(self, side: str, row: Any) -> None:

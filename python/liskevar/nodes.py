@@ -252,7 +252,8 @@ class Joining:
             raise fail("BadJoin", f"{left} left keys and {right} right ones: as many are wanted, and one or more")
         for side in keys if self.coalesced else []:
             if len({it.value for it in side if it.op == "col"}) < len(side):
-                raise fail("BadJoin", "keys that become one column are plain columns, each once; coalesce=False keeps both")
+                words = "keys that become one column are plain columns, each once; coalesce=False keeps both"
+                raise fail("BadJoin", words)
 
 
 def _keys(sides: Sequence[Node], keys: Sequence[Sequence[Expr]], typing: Typing) -> tuple[list[list[Expr]], Typing]:

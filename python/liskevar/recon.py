@@ -68,13 +68,14 @@ def reconciliation_text(tables: Sequence[Table], on: Sequence[str], nulls_equal:
     joint = plan.joined(plan.scan(tables[0]), plan.scan(tables[1]), keys, keys, joining)
     said = two_tables(tables, on, joint.typing.resolve, settings)
     numbers = f'"workers":{settings.workers},"chunk_rows":{settings.chunk_rows}'
-    return with_version(f'{numbers},{said},"on":{compact(list(on))},"join_nulls":{compact(nulls_equal)}', "the two tables")
+    key = f'"on":{compact(list(on))},"join_nulls":{compact(nulls_equal)}'
+    return with_version(f"{numbers},{said},{key}", "the two tables")
 
 
 def reconcile(
     left: LazyFrame, right: LazyFrame, on: str | Sequence[str], *, nulls_equal: bool = False, **numbers: int
 ) -> Reconciliation:
-    """Which rows have a partner in the other table: one whose columns of `on` are equal, null to null with `nulls_equal`."""
+    """Which rows have a partner in the other table: one of equal columns `on`, null to null with `nulls_equal`."""
     tables, settings = [table_of(left), table_of(right)], Settings(**numbers)
     text = reconciliation_text(tables, [on] if isinstance(on, str) else on, nulls_equal, settings)
     scans = [plan.scan(it) for it in tables]

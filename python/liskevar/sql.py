@@ -1,4 +1,4 @@
-"""SQL over frames, read by sqlglot: selects, joins of every kind, subqueries, EXISTS and IN, UNION ALL, ORDER BY, LIMIT.
+"""SQL over frames, read by sqlglot: selects, all joins, subqueries, EXISTS and IN, UNION ALL, ORDER BY, LIMIT.
 
 What the program can't do (grouping, DISTINCT, functions, CASE, ..) is refused with its line and column in the query.
 """
@@ -13,7 +13,7 @@ from . import nodes as plan
 from .expr import Expr, all_of, col, lit
 from .frame import HIDDEN, LazyFrame, Order, concat
 from .nodes import Key
-from .sql_scope import BLURRED, Part, Scope, Sides
+from .sql_scope import BLURRED, Scope, Sides
 from .sql_text import Text, bare, conjuncts, match
 
 MOST = 2**63 - 1
@@ -71,7 +71,8 @@ class Query:
             if value and name not in TAKEN:
                 word = WORDS.get(name, name.upper())
                 at = value[0] if isinstance(value, list) else value
-                raise self.text.refuse(at, f"{word} can't be taken: the program doesn't group, and has no such clause", word)
+                words = f"{word} can't be taken: the program doesn't group, and has no such clause"
+                raise self.text.refuse(at, words, word)
         if node.args.get("distinct") and node.key == "select":
             raise self.text.refuse(node, "DISTINCT can't be taken: the program keeps equal rows", "DISTINCT")
 
@@ -95,20 +96,23 @@ class Query:
         with self.text.at(node.expression):
             named = [(new, col(old)) for new, old in zip(left.columns, right.columns)]
             made = concat([left, LazyFrame(right._seen())._selected(named)])
-        names = [(it, self._output_key(it, left.columns)) for it in _orders(node)]
-        return self._ended(node, made, [_key(*it) for it in names])
+        keys = []
+        for it in _orders(node):
+            name = self._output_key(it, made.columns)
+            if name is None:
+                words = f"no column {it.this.sql()} to order by; there are {', '.join(made.columns)}"
+                raise self.text.refuse(it.this, words)
+            keys.append(_key(it, name))
+        return self._ended(node, made, keys)
 
-    def _output_key(self, ordered: Any, names: Sequence[str]) -> str:
+    def _output_key(self, ordered: Any, names: Sequence[str]) -> str | None:
         """The output column that a key of ORDER BY names, by its name or its number."""
         key = bare(ordered.this)
-        if key.key == "literal" and not key.is_string:
-            if not key.name.isdigit() or not 1 <= int(key.name) <= len(names):
-                raise self.text.refuse(key, f"there is no column {key.name}: the query gives {len(names)}")
-            return names[int(key.name) - 1]
-        found = match(key.name, names) if key.key == "column" and not key.table else None
-        if found is None:
-            raise self.text.refuse(key, f"no column {key.sql()} to order by; there are {', '.join(names)}")
-        return found
+        if key.key != "literal" or key.is_string:
+            return match(key.name, names) if key.key == "column" and not key.table else None
+        if not key.name.isdigit() or not 1 <= int(key.name) <= len(names):
+            raise self.text.refuse(key, f"there is no column {key.name}: the query gives {len(names)}")
+        return names[int(key.name) - 1]
 
     def _ended(self, node: Any, frame: LazyFrame, keys: Iterable[Key], hidden: Sequence[str] = ()) -> LazyFrame:
         """ORDER BY, LIMIT and OFFSET; of a key that stands twice the first counts."""
@@ -140,24 +144,16 @@ class Query:
         keys: list[Key] = []
         hidden: dict[str, Expr] = {}
         for it in _orders(node):
-            known, expr = self._order_key(it, scope, outputs)
-            keys.append(_key(it, known or f"{HIDDEN}{len(hidden)}"))
-            if known is None:
-                hidden[keys[-1].name] = expr
+            found = self._output_key(it, list(outputs))
+            if found is None:
+                expr = scope.expression(it.this)
+                same = (name for name, out in outputs.items() if out.op == "col" == expr.op and out.value == expr.value)
+                found = next(same, f"{HIDDEN}{len(hidden)}")
+                hidden |= {} if found in outputs else {found: expr}
+            keys.append(_key(it, found))
         with self.text.at(node.expressions[0] if node.expressions else node):
             made = LazyFrame(scope.node)._selected([*outputs.items(), *hidden.items()])
         return self._ended(node, made, keys, list(hidden))
-
-    def _order_key(self, ordered: Any, scope: Scope, outputs: Mapping[str, Expr]) -> tuple[str | None, Expr]:
-        """What a key of ORDER BY is, and the output column that it is, if any."""
-        key = bare(ordered.this)
-        is_name = key.key == "column" and not key.table and match(key.name, outputs) is not None
-        if is_name or (key.key == "literal" and not key.is_string):
-            name = self._output_key(ordered, list(outputs))
-            return name, outputs[name]
-        expr = scope.expression(key)
-        same = (name for name, it in outputs.items() if it.op == "col" == expr.op and it.value == expr.value)
-        return next(same, None), expr
 
     def _outputs(self, it: Any, scope: Scope) -> list[tuple[str, Expr]]:
         """The columns that an item of the select list gives, with their names."""
@@ -169,11 +165,11 @@ class Query:
 
     def _all(self, star: Any, scope: Scope) -> list[tuple[str, Expr]]:
         """The columns of all tables, or of one."""
-        parts = [part for part in scope.parts if star.key == "star" or match(star.table, [part.alias])]
-        if not parts:
-            raise self.text.refuse(star, f"no table {star.table}; there are {', '.join(it.alias for it in scope.parts)}")
+        tables = [columns for it, columns in scope.tables.items() if star.key == "star" or match(star.table, [it])]
+        if not tables:
+            raise self.text.refuse(star, f"no table {star.table}; there are {', '.join(scope.tables)}")
         shared = scope.shared if star.key == "star" else {}
-        pairs = [(name, shared.get(name, real)) for part in parts for name, real in part.columns.items()]
+        pairs = [(name, shared.get(name, real)) for columns in tables for name, real in columns.items()]
         # a column that USING shares stands once, where the first table has it, as sqlite3 has it
         kept = [it for place, it in enumerate(pairs) if it[0] not in shared or it not in pairs[:place]]
         for name in (name for name, real in kept if real is None):
@@ -198,7 +194,7 @@ class Query:
     def _scope(self, frame: LazyFrame, alias: str) -> Scope:
         """A frame as a table."""
         seen = frame._seen()
-        return Scope(self.text, seen, [Part(alias, {it: it for it in seen.schema})])
+        return Scope(self.text, seen, {alias: {it: it for it in seen.schema}})
 
     def _from(self, node: Any) -> tuple[Scope, list[Any]]:
         """What FROM gives, and the conjuncts of WHERE that are left to do."""
@@ -223,8 +219,8 @@ class Query:
     def _beside(self, scope: Scope, node: Any) -> Scope:
         """A further table, whose name is a new one."""
         source = self._source(node)
-        alias = source.parts[0].alias
-        if match(alias, [it.alias for it in scope.parts]) is not None:
+        alias = next(iter(source.tables))
+        if match(alias, scope.tables) is not None:
             raise self.text.refuse(node, f"the table name {alias!r} stands twice; give one an alias")
         return source
 
@@ -245,7 +241,7 @@ class Query:
             raise self.text.refuse(node.this, f"{node.kind} JOIN can't be taken")
         using = [it.name for it in node.args.get("using") or []]
         if node.args.get("natural"):
-            using = [it for it in right.parts[0].columns if any(it in part.columns for part in left.parts)]
+            using = [it for columns in right.tables.values() for it in columns if left.places(it)]
         # a right join is a left one with its sides turned
         is_right = how == "RIGHT"
         sides = Sides(self.text, *((right, left) if is_right else (left, right)))
@@ -257,7 +253,8 @@ class Query:
             sides.add(it)
         with self.text.at(node.this):
             made = sides.joined("left" if is_right else how.lower())
-        return made.turned(len(right.parts)) if is_right else made
+        # the left side's tables stand first again
+        return replace(made, tables={it: made.tables[it] for it in left.tables | right.tables if it in made.tables})
 
     def _where(self, scope: Scope, where: Sequence[Any]) -> Scope:
         tests = [it for it in where if self.text.has_query(it)]

@@ -17,23 +17,16 @@ BLURRED = "after USING in an outer join {!r} isn't one table's column; write it 
 
 
 @dataclass(frozen=True)
-class Part:
-    """A table of a scope: its name, and its columns with their names in the plan.
-
-    None stands for a column that USING made one with another table's: in an outer join it isn't the table's own any more.
-    """
-
-    alias: str
-    columns: dict[str, str | None]
-
-
-@dataclass(frozen=True)
 class Scope:
-    """A node of the plan, the tables whose columns it has, and the columns that USING made one of several."""
+    """A node of the plan, the tables whose columns it has, and the columns that USING made one of several.
+
+    Of each table the names of its columns in the plan. None stands for a column that USING made one with another
+    table's: in an outer join it isn't the table's own any more.
+    """
 
     text: Text
     node: Node
-    parts: list[Part]
+    tables: dict[str, dict[str, str | None]]
     shared: dict[str, str] = field(default_factory=dict)
 
     def over(self, node: Node) -> Scope:
@@ -45,8 +38,8 @@ class Scope:
         shared = None if table else match(name, self.shared)
         if shared is not None:
             return [(shared, self.shared[shared])]
-        parts = [it for it in self.parts if not table or match(table, [it.alias]) is not None]
-        found = ((match(name, it.columns), it.columns) for it in parts)
+        tables = [columns for it, columns in self.tables.items() if not table or match(table, [it]) is not None]
+        found = ((match(name, columns), columns) for columns in tables)
         return [(written, columns[written]) for written, columns in found if written is not None]
 
     def column(self, name: str, table: str, at: Any) -> tuple[str, str]:
@@ -55,7 +48,7 @@ class Scope:
         if len(found) > 1:
             raise self.text.refuse(at, f"{name!r} is a column of several tables; write one of them before it")
         if not found:
-            names = [f"{part.alias}.{it}" for part in self.parts for it in part.columns]
+            names = [f"{alias}.{it}" for alias, columns in self.tables.items() for it in columns]
             raise self.text.refuse(at, f"no column {f'{table}.' if table else ''}{name}; there are {', '.join(names)}")
         written, real = found[0]
         if real is None:
@@ -69,10 +62,6 @@ class Scope:
     def expression(self, node: Any) -> Expr:
         """An expression over the columns."""
         return self.text.expression(node, self.find)
-
-    def turned(self, count: int) -> Scope:
-        """The same scope with its first tables behind the others."""
-        return replace(self, parts=self.parts[count:] + self.parts[:count])
 
 
 @dataclass
@@ -113,7 +102,7 @@ class Sides:
         found = self._having(column)
         if not found or (len(found) > 1 and not self.is_nested):
             # tells that the name is none or several
-            replace(self.left, parts=self.left.parts + self.right.parts, shared={}).find(column)
+            replace(self.left, tables=self.left.tables | self.right.tables, shared={}).find(column)
         return found[-1]
 
     def _sides(self, node: Any) -> list[int]:
@@ -170,11 +159,12 @@ class Sides:
         joining, names = self._names(how, left.schema, right.schema)
         node = plan.joined(left, right, [a for a, _ in pairs], [b for _, b in pairs], joining)
         scope = self.left.over(node) if how in ("semi", "anti") else self._scope(node, how, names)
-        return scope.over(plan.filtered(node, all_of([scope.expression(it) for it in self.mixed]))) if self.mixed else scope
+        mixed = [scope.expression(it) for it in self.mixed]
+        return scope.over(plan.filtered(node, all_of(mixed))) if mixed else scope
 
     def _names(self, how: str, left: Schema, right: Schema) -> tuple[Joining, dict[str, str]]:
         """How the join is made, with a suffix so that no name stands twice; and the names of the right columns."""
-        nulls, suffix = any(it is not None for it in self.null_safe), f"_{self.right.parts[0].alias}"
+        nulls, suffix = any(it is not None for it in self.null_safe), f"_{next(iter(self.right.tables))}"
         while True:
             joining = Joining(how, nulls, "CoalesceColumns" if self.using else "KeepColumns", suffix)
             names = joining.names(left, right, [it for _, it in self.using.values()])
@@ -187,11 +177,10 @@ class Sides:
         # a key that became one column is everybody's own in an inner join, and the left side's in a left one
         of_left: Moved = {left: left if how in ("inner", "left") else None for left, _ in self.using.values()}
         of_right: Moved = {**names, **{right: left if how == "inner" else None for left, right in self.using.values()}}
-        parts = []
+        tables = {}
         for moved, side in ((of_left, self.left), (of_right, self.right)):
-            for part in side.parts:
-                columns = {name: real and moved.get(real, real) for name, real in part.columns.items()}
-                parts.append(Part(part.alias, columns))
+            for alias, columns in side.tables.items():
+                tables[alias] = {name: real and moved.get(real, real) for name, real in columns.items()}
         shared = {name: names.get(real, real) for name, real in self.right.shared.items()}
         shared |= self.left.shared | {name: left for name, (left, _) in self.using.items()}
-        return Scope(self.text, node, parts, shared)
+        return Scope(self.text, node, tables, shared)
