@@ -3,7 +3,8 @@
 import html
 import itertools
 import textwrap
-from collections.abc import Sequence
+from collections.abc import Callable, Sequence
+from typing import Any
 
 from .expr import written
 from .job import Plan
@@ -35,22 +36,20 @@ def _printable(glyph: str) -> str:
     return glyph if is_plain else f"<U+{code:04X}>"
 
 
-def _builds_right(node: Node) -> bool:
+def _builds_right(said: dict[str, Any]) -> bool:
     """Whether a join builds its right side: in a left join, and else where the left is said to be larger."""
-    (left, left_guess), (right, right_guess) = node.said["rows_left"], node.said["rows_right"]
+    (left, left_guess), (right, right_guess) = said["rows_left"], said["rows_right"]
     is_known = left is not None and right is not None
-    return bool(node.said["how"] == "left" or (left > right if is_known else left_guess > right_guess))
+    return bool(said["how"] == "left" or (left > right if is_known else left_guess > right_guess))
 
 
-def _join_words(node: Node) -> str:
-    said = node.said
+def _join_words(said: dict[str, Any]) -> str:
     pairs = ", ".join(f"{written(a)} = {written(b)}" for a, b in zip(said["left_on"], said["right_on"]))
     nulls = ", nulls meet" if said["join_nulls"] else ""
-    return f"{said['how']}{' on ' + pairs if pairs else ''}{nulls}; builds {'right' if _builds_right(node) else 'left'}"
+    return f"{said['how']}{' on ' + pairs if pairs else ''}{nulls}; builds {'right' if _builds_right(said) else 'left'}"
 
 
-def _sort_words(node: Node) -> str:
-    said = node.said
+def _sort_words(said: dict[str, Any]) -> str:
     keys = []
     for name, descending, nulls_last in zip(said["by"], said["descending"], said["nulls_last"]):
         keys.append(f"{name} {'↓' if descending else '↑'}{' nulls last' if nulls_last else ''}")
@@ -58,29 +57,24 @@ def _sort_words(node: Node) -> str:
     return f"by {', '.join(keys)}{cut}"
 
 
-def _words(node: Node) -> str:
-    """What a node is told, in a line."""
-    said = node.said
-    match node.kind:
-        case "DataFrameScan":
-            return f"{node.table.name}, {node.rows:,} rows" if node.table else ""
-        case "Filter":
-            return written(said["predicate"])
-        case "Select" | "HStack":
-            return ", ".join(f"{it['name']} = {written(it['expr'])}" for it in said["exprs"])
-        case "Unpivot":
-            return f"on {', '.join(said['on'])}"
-        case "Rename":
-            return ", ".join(f"{it['existing']} as {it['new']}" for it in said["pairs"])
-        case "Join":
-            return _join_words(node)
-    return _sort_words(node) if node.kind == "Sort" else ""
+# What a node is told, in a line; of a projection and of a union the columns say all.
+WORDS: dict[str, Callable[[dict[str, Any]], str]] = {
+    "Filter": lambda said: written(said["predicate"]),
+    "Select": lambda said: ", ".join(f"{it['name']} = {written(it['expr'])}" for it in said["exprs"]),
+    "HStack": lambda said: WORDS["Select"](said),
+    "Unpivot": lambda said: f"on {', '.join(said['on'])}",
+    "Rename": lambda said: ", ".join(f"{it['existing']} as {it['new']}" for it in said["pairs"]),
+    "Join": _join_words,
+    "Sort": _sort_words,
+}
 
 
 def _lines(n: int, node: Node) -> list[str]:
     """The lines of a node's box; what would be the seventh of a part isn't told."""
+    words = WORDS[node.kind](node.said) if node.kind in WORDS else ""
+    words = f"{node.table.name}, {node.rows:,} rows" if node.table else words
     columns = ", ".join(f"{name} {dtype}" for name, dtype in node.types().items())
-    shown = ("".join(map(_printable, it)) for it in (f"{n}  {node.kind}", _words(node), columns))
+    shown = ("".join(map(_printable, it)) for it in (f"{n}  {node.kind}", words, columns))
     told = {"subsequent_indent": "  ", "max_lines": 6, "placeholder": " …"}
     return [line for it in shown for line in textwrap.wrap(it, WIDEST, **told)]  # type: ignore[arg-type]
 

@@ -13,7 +13,7 @@ from .dtypes import DType
 from .errors import Refused
 from .expr import Expr, all_of, col, lit, names_in
 from .job import Settings, job_text, plan_of
-from .nodes import Joining, Key, Node, fail, known
+from .nodes import Flags, Joining, Key, Node, fail, keys_of, known
 from .places import Place
 from .program import ask, want
 from .rows import Rows, rows_of_lines
@@ -21,7 +21,6 @@ from .tables import Table, Types, table_of_pandas, table_of_rows
 
 Names = Union[str, Sequence[str]]
 Exprs = Union[str, Expr, Sequence[Union[str, Expr]]]
-Flags = Union[bool, Sequence[bool]]
 HIDDEN = "sort key "
 
 
@@ -32,13 +31,6 @@ def _list(given: Any) -> list[Any]:
 
 def _expr(given: Any) -> Expr:
     return col(given) if isinstance(given, str) else lit(given)
-
-
-def _flags(flags: Flags, count: int, what: str) -> list[bool]:
-    found = [flags] * count if isinstance(flags, bool) else list(flags)
-    if len(found) != count:
-        raise fail("BadSort", f"{len(found)} flags in {what}, for {count} keys")
-    return found
 
 
 @dataclass(frozen=True)
@@ -182,8 +174,7 @@ class LazyFrame:
         unpivots lose it.
         """
         names = known([*_list(by), *more], self.columns)
-        flags = (_flags(it, len(names), word) for it, word in ((descending, "descending"), (nulls_last, "nulls_last")))
-        return self._sorted([Key(*it) for it in zip(names, *flags)])
+        return self._sorted(keys_of(names, descending, nulls_last))
 
     def _sorted(self, keys: Sequence[Key]) -> LazyFrame:
         made = plan.ordered(self._seen(), keys)

@@ -9,7 +9,7 @@ from __future__ import annotations
 import difflib
 from collections.abc import Callable, Iterable, Mapping, Sequence
 from dataclasses import dataclass, field, replace
-from typing import Any
+from typing import Any, Union
 
 from .dtypes import BOOLEAN, STRING, DType, Mismatch, Type, Typing
 from .errors import PlanError
@@ -18,6 +18,7 @@ from .places import Place, place_of_caller
 from .tables import Table
 
 HOWS = ("inner", "left", "full", "cross", "semi", "anti")
+Flags = Union[bool, Sequence[bool]]
 # What a node reads of its inputs so that it can give some columns.
 Reads = Callable[[set[str]], list[set[str]]]
 
@@ -183,6 +184,17 @@ class Key:
     name: str
     descending: bool = False
     nulls_last: bool = False
+
+
+def keys_of(by: Sequence[str], descending: Flags, nulls_last: Flags) -> list[Key]:
+    """The keys of a sort; of flags there is one for each, or one for all."""
+    flags = []
+    for word, given in (("descending", descending), ("nulls_last", nulls_last)):
+        told = [given] if isinstance(given, bool) else list(given)
+        flags.append(told * len(by) if len(told) == 1 else told)
+        if len(flags[-1]) != len(by):
+            raise fail("BadSort", f"{len(told)} flags in {word}, for {len(by)} keys")
+    return [Key(*it) for it in zip(by, *flags)]
 
 
 def ordered(below: Node, keys: Sequence[Key], slice: tuple[int, int] | None = None, place: Place | None = None) -> Node:

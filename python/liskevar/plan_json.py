@@ -9,7 +9,7 @@ from .dtypes import dtype_of
 from .errors import LiskevarError, PlanError, Refused
 from .expr import read
 from .job import Plan
-from .nodes import Joining, Key, Node
+from .nodes import Joining, Node
 from .places import told_as
 from .tables import Column, Table
 
@@ -27,10 +27,7 @@ def read_json(path: str, text: str) -> Any:
 
 
 def _sort(below: Node, by: Sequence[str], descending: list[bool], nulls_last: list[bool], slice: Any) -> Node:
-    flags = [it * len(by) if len(it) == 1 else it for it in (descending, nulls_last)]
-    if any(len(it) != len(by) for it in flags):
-        raise made.fail("BadSort", "as many flags as keys are wanted, or one")
-    return made.ordered(below, [Key(*it) for it in zip(by, *flags)], None if slice is None else (slice[0], slice[1]))
+    return made.ordered(below, made.keys_of(by, descending, nulls_last), slice and (slice[0], slice[1]))
 
 
 def _join(

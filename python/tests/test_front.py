@@ -179,6 +179,10 @@ def test_rows_of_python(orders):
     assert lk.from_rows([{"a": 1}, {"b": "x"}]).schema == {"a": "Int64", "b": "String"}
     days = lk.from_rows([(datetime.date(2026, 11, 29),)], ["d"])
     assert json.loads(days.job())["frames"][0]["columns"][0]["values"] == ["2026-11-29"]
+    tenths, eighths = (lk.from_rows([(Decimal(it),)], ["a"]) for it in ("2.5", "0.125"))
+    assert tenths.schema == {"a": "Decimal1"} and tenths.join(eighths, on="a").schema == {"a": "Decimal3"}
+    with pytest.raises(lk.Refused, match="doesn't fit 128 bits"):
+        lk.from_rows([(2**128,)], ["a"])
     for rows, words in [([(1, "x"), (2,)], "row 1: 1 values for 2"), ([(1, 1.5)], "float"), ([(1, "x"), ("y", 2)], "int, str")]:
         with pytest.raises(lk.Refused, match=words):
             lk.from_rows(rows, ["a", "b"])
