@@ -160,10 +160,10 @@ class Fields:
         if isinstance(told, str):
             dates = [it if not it or it == EMPTY else self._iso(row, it, told) for row, it in enumerate(self.values)]
             texts = Fields((self.path, self.delimiter), self.name, self.place, dates, self.empty is not None)
-            return Column(self.name, dates, STRING, texts.cells)
+            return Column(self.name, STRING, texts.cells)
         if told:
             self._check(told)
-            return Column(self.name, self.values, told, self.cells)
+            return Column(self.name, told, self.cells)
         path, name, looks = self.path, self.name, self.looks
         hint = f"; --types {name}:String (types=) reads {name!r} of {path} as texts" if looks else ""
         if looks in WAYS:
@@ -173,7 +173,7 @@ class Fields:
             words = f"{path}: {name!r} looks like {looks}, and is read as texts, which sort and join as texts"
             warnings.warn(f"{words}; {how}", TypeWarning, stacklevel=2)
         is_empty = not self.distinct and EMPTY not in self.values
-        return Column(name, self.values, Guess(self.fits, is_empty=is_empty, hint=hint), self.cells)
+        return Column(name, Guess(self.fits, is_empty=is_empty, hint=hint), self.cells)
 
     def _iso(self, row: int, field: str, form: str) -> str:
         try:

@@ -88,10 +88,6 @@ class LazyFrame:
         is_done = self._node.kind == "Sort" and made.said == {**self._node.said, "slice": None}
         return self._node if is_done else made
 
-    def _over(self, node: Node) -> LazyFrame:
-        """A frame of the same order over another node."""
-        return LazyFrame(node, self._order, self._hidden)
-
     def _named(self, given: Iterable[Any], named: Mapping[str, Any]) -> list[tuple[str, Expr]]:
         """Expressions over the columns, with the names that they get."""
         exprs = [_expr(part) for it in given for part in (it if isinstance(it, (list, tuple)) else [it])]
@@ -105,7 +101,8 @@ class LazyFrame:
     def filter(self, *predicates: Expr) -> LazyFrame:
         """The rows where all predicates are true; a null isn't."""
         known(names_in(*predicates), self.columns)
-        return self._over(plan.filtered(self._node, all_of([lit(it) for it in predicates])))
+        made = plan.filtered(self._node, all_of([lit(it) for it in predicates]))
+        return LazyFrame(made, self._order, self._hidden)
 
     def select(self, *exprs: Exprs, **named: Any) -> LazyFrame:
         """Columns and expressions, in place of all columns; the order of a sort is kept."""
@@ -129,7 +126,7 @@ class LazyFrame:
             new = dict(found)
             kept = [(name, new.pop(name, col(name))) for name in self.columns]
             return self._selected([*kept, *new.items()])
-        return self._over(plan.computed(self._node, found, added=True))
+        return LazyFrame(plan.computed(self._node, found, added=True), self._order)
 
     def drop(self, *names: Names) -> LazyFrame:
         """All columns but some."""
@@ -183,7 +180,7 @@ class LazyFrame:
     def slice(self, offset: int, length: int) -> LazyFrame:
         """`length` rows from the row `offset` on, counted from 0; without a sort, in the order of all columns."""
         keys = self._order.keys or tuple(map(Key, self.columns))
-        return self._over(plan.ordered(self._node, keys, (offset, length)))
+        return LazyFrame(plan.ordered(self._node, keys, (offset, length)), self._order, self._hidden)
 
     def head(self, n: int = 5) -> LazyFrame:
         """The first rows; without a sort, in the order of all columns."""

@@ -4,8 +4,6 @@ Nodes are numbered from their inputs up, left before right. Only the columns tha
 each frame once, however many scans read it.
 """
 
-from __future__ import annotations
-
 import json
 from collections.abc import Callable, Iterable
 from dataclasses import dataclass

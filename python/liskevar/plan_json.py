@@ -101,15 +101,12 @@ def plan_under(values: Any, root: Any, tables: Sequence[Table]) -> Plan:
 
 def plan_of_job(path: str, text: str) -> Plan:
     """The plan of a job that is read from JSON; its tables have no cells."""
-    job = read_json(path, text)
+    job, tables = read_json(path, text), []
     try:
-        tables = [_table(f"frame {n}", it["columns"]) for n, it in enumerate(job["frames"])]
+        for n, columns in enumerate(frame["columns"] for frame in job["frames"]):
+            empty = [Column(it["name"], dtype_of(it["type"]), lambda dtype: []) for it in columns]
+            tables.append(Table(f"frame {n}", empty, len(columns[0]["values"])))
         values, root = job["plan"], job["root"]
     except NO_JOB as error:
         raise Refused(f"{path}: no job: {type(error).__name__} {error}") from error
     return plan_under(values, root, tables)
-
-
-def _table(name: str, columns: Any) -> Table:
-    made = [Column(it["name"], it["values"], dtype_of(it["type"]), lambda dtype: []) for it in columns]
-    return Table(name, made, len(made[0].values))

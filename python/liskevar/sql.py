@@ -3,8 +3,6 @@
 What the program can't do (grouping, DISTINCT, functions, CASE, ..) is refused with its line and column in the query.
 """
 
-from __future__ import annotations
-
 from collections.abc import Iterable, Mapping, Sequence
 from dataclasses import replace
 from typing import Any
@@ -60,11 +58,7 @@ class Query:
         if found is not None and found.args.get("recursive"):
             raise self.text.refuse(found, "WITH RECURSIVE can't be taken", "RECURSIVE", "WITH")
         for cte in found.expressions if found is not None else ():
-            self.tables[cte.alias] = self._inside().query(cte.this)
-
-    def _inside(self) -> Query:
-        """A query inside this one, which sees its tables."""
-        return Query(self.text, self.tables)
+            self.tables[cte.alias] = Query(self.text, self.tables).query(cte.this)
 
     def _refuse_rest(self, node: Any) -> None:
         for name, value in node.args.items():
@@ -179,7 +173,7 @@ class Query:
     def _source(self, node: Any) -> Scope:
         """A table, or a subquery."""
         if node.key == "subquery":
-            frame = self._inside().query(node.this)
+            frame = Query(self.text, self.tables).query(node.this)
         elif node.key == "table" and node.this.key == "identifier" and not node.args.get("db"):
             name = match(node.name, self.tables)
             if name is None:
@@ -246,7 +240,9 @@ class Query:
         is_right = how == "RIGHT"
         sides = Sides(self.text, *((right, left) if is_right else (left, right)))
         for name in using:
-            sides.use(name, node.this)
+            (written, a), (_, b) = (it.column(name, "", node.this) for it in (sides.left, sides.right))
+            sides.using[written] = a, b
+            sides.tie(col(a), col(b))
         for it in conjuncts(node.args.get("on")):
             if self.text.has_query(it):
                 raise self.text.refuse(it, "a subquery in ON can't be taken")
@@ -262,7 +258,7 @@ class Query:
         if plain:
             exprs = [scope.expression(it) for it in plain]
             with self.text.at(plain[0]):
-                scope = scope.over(plan.filtered(scope.node, all_of(exprs)))
+                scope = replace(scope, node=plan.filtered(scope.node, all_of(exprs)))
         for it in tests:
             scope = self._tested(scope, it)
         return scope
@@ -294,13 +290,17 @@ class Query:
 
     def _inner(self, scope: Scope, inner: Any, is_in: bool) -> tuple[Sides, list[Expr]]:
         """A subquery's rows beside those outside, with what ties them, and the values that it selects."""
-        inside = self._inside()
+        inside = Query(self.text, self.tables)
         inside._name_ctes(inner)
         if inner.key != "select" or any(inner.args.get(it) for it in ("limit", "offset")):
             sides = Sides(self.text, scope, self._scope(inside.query(inner), "subquery"), is_nested=True)
             return sides, [col(it) for it in sides.right.node.schema]
         self._refuse_rest(inner)
-        self.text.refuse_aggregates(inner)
+        for it in inner.expressions:
+            # a function over all rows would give one even of none
+            found = it.find(self.text.exp.AggFunc)
+            if found is not None:
+                raise self.text.refuse(found, f"{found.sql()} can't be taken: the program doesn't group")
         source, where = inside._from(inner)
         values = [it for e in inner.expressions for _, it in self._outputs(e, source)] if is_in else []
         sides = Sides(self.text, scope, source, is_nested=True)

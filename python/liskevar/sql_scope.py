@@ -1,7 +1,5 @@
 """The tables that a query sees, and how two of them are joined."""
 
-from __future__ import annotations
-
 from collections.abc import Mapping
 from dataclasses import dataclass, field, replace
 from typing import Any
@@ -28,10 +26,6 @@ class Scope:
     node: Node
     tables: dict[str, dict[str, str | None]]
     shared: dict[str, str] = field(default_factory=dict)
-
-    def over(self, node: Node) -> Scope:
-        """The same tables over another node with their columns."""
-        return replace(self, node=node)
 
     def places(self, name: str, table: str = "") -> list[tuple[str, str | None]]:
         """The columns that a name may mean: as written, and in the plan."""
@@ -87,12 +81,6 @@ class Sides:
         """A pair of keys; nulls meet where a condition that is null-safe is told."""
         self.pairs.append((left, right))
         self.null_safe.append(null_safe)
-
-    def use(self, name: str, at: Any) -> None:
-        """A pair of keys of one name, which become one column."""
-        (written, left), (_, right) = self.left.column(name, "", at), self.right.column(name, "", at)
-        self.using[written] = left, right
-        self.tie(col(left), col(right))
 
     def _having(self, column: Any) -> list[int]:
         """The sides that have a column: 0 for the left one, 1 for the right one."""
@@ -158,9 +146,9 @@ class Sides:
             how, pairs = ("cross", []) if how == "inner" else (how, [(lit(True), lit(True))])
         joining, names = self._names(how, left.schema, right.schema)
         node = plan.joined(left, right, [a for a, _ in pairs], [b for _, b in pairs], joining)
-        scope = self.left.over(node) if how in ("semi", "anti") else self._scope(node, how, names)
+        scope = replace(self.left, node=node) if how in ("semi", "anti") else self._scope(node, how, names)
         mixed = [scope.expression(it) for it in self.mixed]
-        return scope.over(plan.filtered(node, all_of(mixed))) if mixed else scope
+        return replace(scope, node=plan.filtered(node, all_of(mixed))) if mixed else scope
 
     def _names(self, how: str, left: Schema, right: Schema) -> tuple[Joining, dict[str, str]]:
         """How the join is made, with a suffix so that no name stands twice; and the names of the right columns."""

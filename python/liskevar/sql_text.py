@@ -1,7 +1,5 @@
 """A query's text: its tree, the places of its parts, and its expressions."""
 
-from __future__ import annotations
-
 import contextlib
 from collections.abc import Callable, Iterable, Iterator
 from decimal import Decimal
@@ -115,13 +113,6 @@ class Text:
     def has_query(self, node: Any) -> bool:
         """Whether a part has a query in it."""
         return node.find(self.exp.Subqueryable) is not None
-
-    def refuse_aggregates(self, node: Any) -> None:
-        """SqlError where a select has a function over all rows: it would have a row even of none."""
-        for it in node.expressions:
-            found = it.find(self.exp.AggFunc)
-            if found is not None:
-                raise self.refuse(found, f"{found.sql()} can't be taken: the program doesn't group")
 
     def expression(self, node: Any, find: Find) -> Expr:
         """An expression over the columns that `find` finds; SqlError where it has none."""

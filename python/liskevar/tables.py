@@ -15,13 +15,12 @@ Types = Mapping[str, str]
 
 @dataclass(frozen=True, eq=False)
 class Column:
-    """A column: its name, its values as they came, and its type, which may be a guess.
+    """A column: its name, its type, which may be a guess, and what spells its values as cells of a type.
 
-    `spell` makes cells of the values in a type; Refused with the place of the first that is none.
+    `spell` raises Refused with the place of the first value that is none of the type.
     """
 
     name: str
-    values: Sequence[Any]
     type: Type
     spell: Callable[[DType], list[Cell]]
 
@@ -67,7 +66,7 @@ def value_column(table: str, name: str, values: Sequence[Any], told: DType | Non
         raise Refused(f"{table}, column {name!r}: {error}") from None
     if isinstance(dtype, DType):
         spell(dtype)
-    return Column(name, values, dtype, spell)
+    return Column(name, dtype, spell)
 
 
 def told_types(types: Types | None, names: Sequence[str], table: str) -> dict[str, DType]:
