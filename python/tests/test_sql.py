@@ -102,6 +102,20 @@ def test_queries_of_join_tutorials(query, rows):
         assert [collections.Counter(it) for it in (given, by_sqlite)] == [collections.Counter(rows)] * 2
 
 
+@pytest.mark.program
+def test_a_shared_column_stands_through_a_right_join():
+    query = "select id, reason from customers left join old_orders using (id) right join returns on order_id = id * 10 order by 1 nulls last, 2"
+    rows = [(1, "broken"), (None, None), (None, "late"), (None, "unknown")]
+    assert list(lk.sql(query, frames_of(TABLES)).collect()) == base_of(TABLES).execute(query).fetchall() == rows
+
+
+@pytest.mark.program
+@pytest.mark.parametrize("word, rows", [("semi", [(10,), (12,)]), ("anti", [(11,), (13,), (14,), (15,)])])
+def test_joins_that_keep_the_left_columns_alone(word, rows):
+    query = f"select o.id from orders o {word} join returns r on r.order_id = o.id order by 1"
+    assert list(lk.sql(query, frames_of(TABLES)).collect()) == rows
+
+
 @pytest.mark.parametrize("query, line, column, words", REFUSED)
 def test_refusals_have_their_place(query, line, column, words):
     with pytest.raises(lk.SqlError) as told:
