@@ -74,8 +74,7 @@ def _sort_keys(texts: Sequence[str], columns: Sequence[str]) -> list[Key]:
 
 
 def _settings(given: Any) -> Settings:
-    with told_as("--workers, --chunk-rows, --row-limit"):
-        return Settings(given.workers, given.chunk_rows, given.row_limit)
+    return Settings(given.workers, given.chunk_rows, given.row_limit)
 
 
 def _text(path: str) -> str:
@@ -147,9 +146,9 @@ def do_plan(given: Any) -> None:
 
 def do_reconcile(given: Any) -> None:
     """Tells which rows of two files have a partner in the other."""
-    tables = _tables(given, given.files, given.on)
+    tables, settings = _tables(given, given.files, given.on), _settings(given)
     with told_as("--on"):
-        text = reconciliation_text(tables, given.on, given.nulls_equal, _settings(given))
+        text = reconciliation_text(tables, given.on, given.nulls_equal, settings)
     _put(text if given.job else ask("reconcile", text, [frame_of(it)._node for it in tables], given.row_limit))
 
 
@@ -211,6 +210,20 @@ def _common(parser: argparse.ArgumentParser, outputs: bool) -> None:
         parser.add_argument("--null", **NULL)
 
 
+def _join_flags(add: Callable[..., Any]) -> None:
+    add("files", **TWO_FILES)
+    add("--how", choices=HOWS, default="inner")
+    add("--on", **NAMES, help="the key's columns, of one name on both sides")
+    add("--left-on", **NAMES, help="the left side's key columns")
+    add("--right-on", **NAMES, help="the right side's key columns")
+    add("--nulls-equal", **NULLS_EQUAL)
+    add("--coalesce", choices=("yes", "no"), help="whether keys become one column; not told: in inner and left joins")
+    add("--suffix", help="what a right column's name gets where the left side has it; _right if not told")
+    add("--columns", **NAMES, help="the columns of the answer, in this order")
+    add("--sort", action="append", default=[], metavar="NAME[:desc][,nulls_last]",
+        help="a key of the answer's order; given again for the next key")  # fmt: skip
+
+
 def _parser() -> argparse.ArgumentParser:
     """All commands and their flags."""
     raw = argparse.RawDescriptionHelpFormatter
@@ -224,18 +237,7 @@ def _parser() -> argparse.ArgumentParser:
             _common(made, outputs=work is not do_reconcile)
         return made
 
-    add = command(do_join).add_argument
-    add("files", **TWO_FILES)
-    add("--how", choices=HOWS, default="inner")
-    add("--on", **NAMES, help="the key's columns, of one name on both sides")
-    add("--left-on", **NAMES, help="the left side's key columns")
-    add("--right-on", **NAMES, help="the right side's key columns")
-    add("--nulls-equal", **NULLS_EQUAL)
-    add("--coalesce", choices=("yes", "no"), help="whether keys become one column; not told: in inner and left joins")
-    add("--suffix", help="what a right column's name gets where the left side has it; _right if not told")
-    add("--columns", **NAMES, help="the columns of the answer, in this order")
-    add("--sort", action="append", default=[], metavar="NAME[:desc][,nulls_last]",
-        help="a key of the answer's order; given again for the next key")  # fmt: skip
+    _join_flags(command(do_join).add_argument)
     add = command(do_plan).add_argument
     add("plan", metavar="PLAN", help="a JSON array of nodes; the last is the root")
     add("files", nargs="+", metavar="FILE", help="the files that are frame 0, 1, ..")
@@ -261,7 +263,8 @@ def main(words: Sequence[str] | None = None) -> int:
     warnings.showwarning = lambda message, *_, **__: print(f"warning: {message}", file=sys.stderr)
     given = _parser().parse_args(words)
     try:
-        given.work(given)
+        with told_as(given.command):
+            given.work(given)
         sys.stdout.flush()
     except BrokenPipeError:
         # whoever read has enough

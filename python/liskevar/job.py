@@ -77,9 +77,8 @@ def _columns_of_scans(plan: Plan) -> dict[int, list[str]]:
 def check_size(what: str, size: int, times: int = 1) -> None:
     """JobTooLong, with what to do, where something has more bytes than so many jobs may have."""
     if size > times * BYTES_OF_A_JOB:
-        words = f"{what}: {size:,} bytes, and a job has at most {BYTES_OF_A_JOB:,}"
-        ways = "Take fewer columns (columns=, --columns, select), or fewer rows of the files, or cut the files into parts"
-        raise JobTooLong(f"{words}. {ways}")
+        words = f"{what}: {size:,} bytes, and a job has at most {BYTES_OF_A_JOB:,}. Take fewer columns (columns=,"
+        raise JobTooLong(f"{words} --columns, select), or fewer rows of the files, or cut the files into parts")
 
 
 def said_by(value: Any, root: Node) -> Any:

@@ -3,7 +3,7 @@
 What the program can't do (grouping, DISTINCT, functions, CASE, ..) is refused with its line and column in the query.
 """
 
-from collections.abc import Iterable, Mapping, Sequence
+from collections.abc import Mapping, Sequence
 from dataclasses import replace
 from typing import Any
 
@@ -28,10 +28,6 @@ def sql(query: str, tables: Mapping[str, LazyFrame] | None = None, **more: LazyF
 
 def _orders(node: Any) -> list[Any]:
     return list(node.args["order"].expressions) if node.args.get("order") else []
-
-
-def _key(ordered: Any, name: str) -> Key:
-    return Key(name, bool(ordered.args.get("desc")), not ordered.args.get("nulls_first"))
 
 
 class Query:
@@ -90,14 +86,14 @@ class Query:
         with self.text.at(node.expression):
             named = [(new, col(old)) for new, old in zip(left.columns, right.columns)]
             made = concat([left, LazyFrame(right._seen())._selected(named)])
-        keys = []
+        names = []
         for it in _orders(node):
             name = self._output_key(it, made.columns)
             if name is None:
                 words = f"no column {it.this.sql()} to order by; there are {', '.join(made.columns)}"
                 raise self.text.refuse(it.this, words)
-            keys.append(_key(it, name))
-        return self._ended(node, made, keys)
+            names.append(name)
+        return self._ended(node, made, names)
 
     def _output_key(self, ordered: Any, names: Sequence[str]) -> str | None:
         """The output column that a key of ORDER BY names, by its name or its number."""
@@ -108,10 +104,13 @@ class Query:
             raise self.text.refuse(key, f"there is no column {key.name}: the query gives {len(names)}")
         return names[int(key.name) - 1]
 
-    def _ended(self, node: Any, frame: LazyFrame, keys: Iterable[Key], hidden: Sequence[str] = ()) -> LazyFrame:
-        """ORDER BY, LIMIT and OFFSET; of a key that stands twice the first counts."""
-        first = tuple({it.name: it for it in reversed([*keys])}.values())[::-1]
-        frame = LazyFrame(frame._node, Order(first, self.text.place(node.args["order"])) if first else Order(), hidden)
+    def _ended(self, node: Any, frame: LazyFrame, names: Sequence[str], hidden: Sequence[str] = ()) -> LazyFrame:
+        """ORDER BY these columns, LIMIT and OFFSET; of a column that stands twice the first counts."""
+        keys: dict[str, Key] = {}
+        for it, name in zip(_orders(node), names):
+            keys.setdefault(name, Key(name, bool(it.args.get("desc")), not it.args.get("nulls_first")))
+        order = Order(tuple(keys.values()), self.text.place(node.args["order"])) if keys else Order()
+        frame = LazyFrame(frame._node, order, hidden)
         offset, limit = (self._number(node.args.get(it)) for it in ("offset", "limit"))
         if offset is None and limit is None:
             return frame
@@ -135,7 +134,7 @@ class Query:
             while free in outputs:
                 free = f"{name}_{sum(key.startswith(name) for key in outputs) + 1}"
             outputs[free] = expr
-        keys: list[Key] = []
+        keys: list[str] = []
         hidden: dict[str, Expr] = {}
         for it in _orders(node):
             found = self._output_key(it, list(outputs))
@@ -144,7 +143,7 @@ class Query:
                 same = (name for name, out in outputs.items() if out.op == "col" == expr.op and out.value == expr.value)
                 found = next(same, f"{HIDDEN}{len(hidden)}")
                 hidden |= {} if found in outputs else {found: expr}
-            keys.append(_key(it, found))
+            keys.append(found)
         with self.text.at(node.expressions[0] if node.expressions else node):
             made = LazyFrame(scope.node)._selected([*outputs.items(), *hidden.items()])
         return self._ended(node, made, keys, list(hidden))
