@@ -28,18 +28,18 @@ pub escape_plain : (s : List ℕ) → all_plain s ≡ true → escape s ≡ s
 escape_plain [] h = refl
 escape_plain (b ∷ s) h = let p = and_parts (is_plain b) (all_plain s) h in ap₂ (λ (x y : List ℕ). x ++ y) (escape_byte-plain b p.0) (escape_plain s p.1)
 
-number_text-integer : (z : ℤ) → number_text (of_integer z) ≡ signed_decimal z
-number_text-integer (pos n) = refl
-number_text-integer (negsuc n) = refl
+pub integer_text : (z : ℤ) → number_text (of_integer z) ≡ signed_decimal z
+integer_text (pos n) = refl
+integer_text (negsuc n) = refl
 
 -- the text of a typed cell
 text-int32 : (x : Option ℤ) → compact_text (cell_spelling (int32_cell x)) ≡ text_or_null signed_decimal x
 text-int32 None = refl
-text-int32 (Some z) = number_text-integer z
+text-int32 (Some z) = integer_text z
 
 text-int64 : (x : Option ℤ) → compact_text (cell_spelling (int64_cell x)) ≡ text_or_null signed_decimal x
 text-int64 None = refl
-text-int64 (Some z) = number_text-integer z
+text-int64 (Some z) = integer_text z
 
 text-uint32 : (x : Option ℕ) → compact_text (cell_spelling (uint32_cell x)) ≡ text_or_null decimal x
 text-uint32 None = refl

@@ -138,7 +138,7 @@ fn push_hex(out: &mut Vec<u8>, bytes: &[u8]) -> Result<(), AllocError>
 }
 
 /// Appends a whole number, or null.
-fn push_number<I: Integer>(out: &mut Vec<u8>, x: Option<I>) -> Result<(), AllocError>
+pub(crate) fn push_number<I: Integer>(out: &mut Vec<u8>, x: Option<I>) -> Result<(), AllocError>
     ensures { OnOk result (out.new.items ≡ out.old.items ++ text_or_null I.text x) }
 {
     match x {
@@ -151,7 +151,7 @@ fn push_number<I: Integer>(out: &mut Vec<u8>, x: Option<I>) -> Result<(), AllocE
 }
 
 /// Appends a number of 128 bits as a JSON string, or null.
-fn push_decimal(out: &mut Vec<u8>, x: Option<i128>) -> Result<(), AllocError>
+pub(crate) fn push_decimal(out: &mut Vec<u8>, x: Option<i128>) -> Result<(), AllocError>
     ensures { OnOk result (out.new.items ≡ out.old.items ++ text_or_null quoted_decimal x) }
 {
     match x {
@@ -164,7 +164,7 @@ fn push_decimal(out: &mut Vec<u8>, x: Option<i128>) -> Result<(), AllocError>
 }
 
 /// Appends a truth value, or null.
-fn push_boolean(out: &mut Vec<u8>, x: Option<bool>) -> Result<(), AllocError>
+pub(crate) fn push_boolean(out: &mut Vec<u8>, x: Option<bool>) -> Result<(), AllocError>
     ensures { OnOk result (out.new.items ≡ out.old.items ++ text_or_null boolean_text x) }
 {
     match x {
@@ -175,7 +175,7 @@ fn push_boolean(out: &mut Vec<u8>, x: Option<bool>) -> Result<(), AllocError>
 }
 
 /// Appends a text, or null.
-fn push_string(out: &mut Vec<u8>, x: Option<&str>) -> Result<(), AllocError>
+pub(crate) fn push_string(out: &mut Vec<u8>, x: Option<&str>) -> Result<(), AllocError>
     ensures { OnOk result
         (out.new.items ≡ out.old.items ++ text_or_null quoted (option_copied x.entry)) }
 {
@@ -186,7 +186,7 @@ fn push_string(out: &mut Vec<u8>, x: Option<&str>) -> Result<(), AllocError>
 }
 
 /// Appends bytes as a text of hexadecimal digits, or null.
-fn push_binary(out: &mut Vec<u8>, x: Option<&[u8]>) -> Result<(), AllocError>
+pub(crate) fn push_binary(out: &mut Vec<u8>, x: Option<&[u8]>) -> Result<(), AllocError>
     ensures { OnOk result
         (out.new.items ≡ out.old.items ++ text_or_null quoted_hex (option_copied x.entry)) }
 {

@@ -50,7 +50,7 @@ fn has_int128(expr: &Expr) -> bool
 }
 
 /// Whether a literal of some expressions has the type Int128.
-fn any_has_int128(exprs: &[Expr]) -> bool
+pub fn any_has_int128(exprs: &[Expr]) -> bool
     ensures { result ≡ list_any has_int128 (formulas_of exprs.now) }
 {
     for expr in exprs {
