@@ -40,12 +40,13 @@ def delimiter_of(path: str, tabs: bool = False) -> str:
 
 def _lines(path: str, delimiter: str) -> Iterator[str]:
     """The lines of a file without its mark of byte order, with each `""` that is a whole field marked."""
-    inside = False
+    other, inside = f"[^{re.escape(delimiter)}]*", False
+    fields = re.compile(rf'("(?:[^"]|"")*("?){other}|{other})({re.escape(delimiter)}|\Z)')
     try:
         with open(path, encoding="utf-8-sig", newline="") as file:
             for line in file:
                 if inside or '"' in line:
-                    line, inside = _marked(line, delimiter, inside)
+                    line, inside = _marked(fields.findall('"' + line if inside else line), inside)
                 yield line
     except UnicodeDecodeError:
         raise _no_text(path) from None
@@ -64,18 +65,16 @@ def _no_text(path: str) -> Refused:
     return Refused(f"{path}: not UTF-8")
 
 
-def _marked(line: str, delimiter: str, inside: bool) -> tuple[str, bool]:
-    """The line with its empty quoted fields marked, and whether a quoted field goes on behind it.
+def _marked(fields: list[tuple[str, str, str]], inside: bool) -> tuple[str, bool]:
+    """A line with its empty quoted fields marked, and whether a quoted field goes on behind it.
 
-    As Python's `csv` reads it: a quote that doesn't begin a field is a part of it.
+    Of each field there is its text, the quote that ends it, if one began it, and what separates it from the next. As
+    Python's `csv` reads it, a quote that doesn't begin a field is a part of it.
     """
-    other = f"[^{re.escape(delimiter)}]*"
-    pattern = rf'("(?:[^"]|"")*("?){other}|{other})({re.escape(delimiter)}|\Z)'
-    fields = re.findall(pattern, '"' + line if inside else line)
     shown = [EMPTY + it[2:] if it.rstrip("\r\n") == '""' else it for it, _, _ in fields]
     shown[0] = fields[0][0][1:] if inside else shown[0]
-    goes_on = any(it.startswith('"') and not end for it, end, _ in fields)
-    return "".join(it + end for it, (_, _, end) in zip(shown, fields)), goes_on
+    goes_on = any(it.startswith('"') and not quote for it, quote, _ in fields)
+    return "".join([it + end for it, (_, _, end) in zip(shown, fields)]), goes_on
 
 
 def _header(path: str, header: list[str], names: Sequence[str] | None) -> list[str]:
@@ -208,6 +207,8 @@ class Fields:
 
 
 def _number(field: str, scale: int) -> int:
+    if scale == 0:
+        return int(field)
     whole, _, digits = field.partition(".")
     return int(whole + digits[:scale].ljust(scale, "0"))
 

@@ -210,7 +210,7 @@ class LazyFrame:
     def write_csv(self, path: str, *, delimiter: str = ",", null: str = "", **numbers: Any) -> int:
         """Writes the rows to a file and gives their number. Nothing is written where the plan is refused."""
         rows = self.collect(**numbers)
-        text = rows.to_csv(delimiter, null=null)
+        text = rows.to_csv(delimiter, null)
         try:
             with open(path, "w", encoding="utf-8", newline="") as file:
                 file.write(text)

@@ -35,9 +35,9 @@ class Rows(list[tuple[Any, ...]]):
         place = self.columns.index(name)
         return [row[place] for row in self]
 
-    def to_csv(self, delimiter: str = ",", end: str = "\n", null: str = "") -> str:
+    def to_csv(self, delimiter: str = ",", null: str = "") -> str:
         """The rows as CSV."""
-        return "".join(csv_lines(self.columns, self, delimiter, end, null))
+        return "".join(csv_lines(self.columns, self, delimiter, null=null))
 
     def to_pandas(self) -> Any:
         """A pandas frame: nullable whole numbers and truths, and objects (None for null) for the rest."""
