@@ -5,7 +5,9 @@ ghost use Rattle.serde_json.specs.Written.{compact_text};
 ghost use Rattle.pipe_job.specs.Spelling.{cell_spelling};
 ghost use Rattle.pipe_job.specs.Line.{row_line};
 
-use crate::cell_texts::{push_binary, push_boolean, push_byte, push_comma, push_decimal, push_number, push_string};
+use crate::cell_texts::{
+    push_binary, push_boolean, push_byte, push_comma, push_decimal, push_number, push_string,
+};
 use pipe_frame::AnyValue;
 use std::alloc::AllocError;
 
