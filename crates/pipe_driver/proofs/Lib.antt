@@ -1,7 +1,12 @@
 pub mod Sums
 pub mod Settled
 pub mod Begins
-pub mod Passing
+pub mod LegPasses
 pub mod Counting
 pub mod Closed
 pub mod Starts
+pub mod Drives
+pub mod Feeds
+pub mod Closings
+pub mod Fronts
+pub mod FrontSteps

@@ -2,3 +2,13 @@
 pub mod State
 -- the steps of a run
 pub mod Steps
+-- what stands at a number
+pub mod Tables
+-- what a runner of legs does
+pub mod Runner
+-- pipelines as what is known of a run sees them
+pub mod Lines
+-- the driver's state and its steps
+pub mod Runs
+-- the front part of the branches that one call runs
+pub mod Fronts

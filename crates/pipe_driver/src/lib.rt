@@ -1,10 +1,23 @@
 //! Runs the branches of a plan, leg by leg.
 #![tactic(auto)]
 
+mod driving;
+mod error;
 mod laws;
+mod pipe_line;
+mod run;
+mod runner;
+mod running;
+mod sink_counts;
 
+pub use error::RunError;
 pub use laws::{
     branches_begin, branches_start, joins_are_built, joins_are_closed, legs_are_counted, legs_pass,
     none_is_open, plans_start, probe_sides_are_seen, sinks_are_closed, sinks_are_fed,
     sinks_stay_open, ways_go_on,
 };
+pub use pipe_line::{Leg, PipeLine};
+pub use run::{Fed, Next, Passing, Run};
+pub use runner::Runner;
+pub use running::{execute_branches, run_front};
+pub use sink_counts::SinkCounts;

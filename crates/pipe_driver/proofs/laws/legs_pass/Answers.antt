@@ -1,4 +1,4 @@
-use Rattle.pipe_driver.proofs.Passing.{passed}
+use Rattle.pipe_driver.proofs.LegPasses.{passed}
 use Rattle.pipe_driver.proofs.laws.legs_pass.Goals as goal
 
 pub returns : goal.returns
