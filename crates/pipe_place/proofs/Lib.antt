@@ -1,0 +1,4 @@
+pub mod Placings
+pub mod Tests
+pub mod Selects
+pub mod Keys

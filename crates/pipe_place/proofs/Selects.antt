@@ -1,0 +1,14 @@
+-- Names looked up by their place in a schema.
+use Rattle.std.proofs.Common.{◌≡◌, ℕ, Bool, true, false, not, List, Option, is_some, refl, ap, ◌∙◌}
+use Rattle.pipe_frame.specs.Schema.{has_name, names_of, place_of}
+use Rattle.pipe_frame.specs.declared.field.Field.{Field}
+use Rattle.pipe_frame.proofs.NamePlaces.{is_some-place_from}
+
+pub place-some : (fields : List Field) (name : List ℕ) (r : Option ℕ) → r ≡ place_of name fields → is_some r ≡ has_name (names_of fields) name
+place-some fields name r e = ap is_some e ∙ is_some-place_from 0 name fields
+
+pub turned : (some none : Bool) → some ≡ not none → none ≡ not some
+turned true true e = cc
+turned true false e = refl
+turned false true e = refl
+turned false false e = cc
