@@ -10,7 +10,7 @@ mod Ordering
 mod Local
 mod Taking
 mod Limits
-mod Growing
+pub mod Growing
 mod Edited
 mod Viewed
 mod Told
@@ -20,5 +20,6 @@ mod Framed
 mod Checked
 -- the order of codes
 mod CodeOrder
-mod Listed
-mod Lists
+-- views with the same tables, and edits played on them
+pub mod Listed
+pub mod Lists

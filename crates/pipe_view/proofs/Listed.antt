@@ -1,12 +1,11 @@
 -- Edits that are played: tables and rows as bags, and what rows lie beyond others.
-use Rattle.std.proofs.Common.{◌≡◌, ◌≢◌, ◌==◌, ◌⊎◌, ℕ, zero, suc, ◌+◌, ◌-◌, ◌≤◌, ◌<◌, Bool, true, false, cond, List, [], ◌∷◌, ◌++◌, length, if◌then◌else◌, inl, inr, refl, ap, sym, ◌∙◌, subst, arith}
+use Rattle.std.proofs.Common.{◌≡◌, ◌==◌, ℕ, ◌+◌, ◌-◌, ◌≤◌, ◌<◌, Bool, true, false, cond, List, [], ◌∷◌, ◌++◌, length, if◌then◌else◌, inl, inr, refl, ap, sym, ◌∙◌, subst, arith}
 use Rattle.std.proofs.lemmas.Bool.{ne_eqb}
-use Rattle.std.specs.List.{AllByRecursion}
 use Rattle.pipe_frame.specs.Rows.{Row, Same, eq_row, times}
-use Rattle.pipe_frame.proofs.Weights.{total, SameBag, SameBag-from_rows, Same-from_bag, eq_row-sound, eq_row-refl}
+use Rattle.pipe_frame.proofs.Weights.{total, SameBag, SameBag-from_rows, Same-from_bag, eq_row-sound}
 use Rattle.pipe_expr.specs.Joins.{join_rows}
-use Rattle.pipe_view.specs.Kept.{Kept, kept_join, view_rows, rows_on, times_on, with_row, IsSameView, IsDelta, StandApart}
-use Rattle.pipe_view.specs.Played.{after_edit, after_edits, after_kind, beyond, changed, outcome_by, outcome_of, outcomes_of, without_first, without_row}
+use Rattle.pipe_view.specs.Kept.{Kept, kept_join, view_rows, times_on, with_row, IsSameView, IsDelta, IsOver, IsWithin}
+use Rattle.pipe_view.specs.Played.{after_kind, beyond, changed, outcome_by, without_first, without_row}
 use Rattle.pipe_view.specs.Refusals.{IsRemoveRefusal}
 use Rattle.pipe_view.specs.Sides.{is_view_kind}
 use Rattle.pipe_view.specs.declared.error.ViewError.{ViewError}
@@ -16,7 +15,6 @@ use Rattle.pipe_view.specs.declared.row_edit.EditKind.{EditKind}
 use Rattle.pipe_view.specs.declared.row_edit.EditKind.TheVariants as kind
 use Rattle.pipe_view.specs.declared.row_edit.Outcome.{Outcome}
 use Rattle.pipe_view.specs.declared.row_edit.Outcome.TheVariants as outcome
-use Rattle.pipe_view.specs.declared.row_edit.RowEdit.{RowEdit}
 use Rattle.pipe_view.specs.declared.side.ViewSide.{ViewSide}
 use Rattle.pipe_view.specs.declared.side.ViewSide.TheVariants as side
 use Rattle.pipe_view.proofs.Growing.{join-alike, join-same}
@@ -207,3 +205,18 @@ outcome-alike kind.Insert which row a b h kept = changed-alike kind.Insert which
 outcome-alike kind.Remove which row a b h kept =
     ap (λ n. if n == 0 then outcome.Absent else changed a (without_row which row a)) (times-alike which row a b h)
     ∙ ap (λ o. if times_on which row b == 0 then outcome.Absent else o) (changed-alike kind.Remove which row a b h kept)
+
+-- ---- limits
+
+-- a view within its limit has no table and no rows beyond it
+pub not-over : (now b : Kept) → IsSameView now b → is_view_kind b.options.how ≡ true → IsWithin now → IsOver b → ⊥
+not-over now b h k w (inl o) = let same = as-long now.left.rows b.left.rows h.left in let most = h.limit in let few = w.left in omega (arith, o, same, most, few)
+not-over now b h k w (inr (inl o)) = let same = as-long now.right.rows b.right.rows h.right in let most = h.limit in let few = w.right in omega (arith, o, same, most, few)
+not-over now b h k w (inr (inr o)) = let same = as-long (view_rows now) (view_rows b) (rows-same now b h k) in let most = h.limit in let few = w.rows in omega (arith, o, same, most, few)
+
+-- a row that was put in wasn't too much, and one that is taken out never is
+pub insert-made : (k : EditKind) (which : ViewSide) (row : Row) (v now : Kept) → is_view_kind v.options.how ≡ true → k ≡ kind.Insert → IsSameView now (with_row which row v) → IsWithin now → (k ≡ kind.Insert) × IsOver (after_kind k which row v) → ⊥
+insert-made k which row v now kept is same within much = not-over now (with_row which row v) same (kind-with which row v kept) within (subst (λ (x : EditKind). IsOver (after_kind x which row v)) is much.1)
+
+pub remove-made : (k : EditKind) (A : Type 0) → k ≡ kind.Remove → (k ≡ kind.Insert) × A → ⊥
+remove-made k A is much = let both : kind.Remove ≡ kind.Insert = sym is ∙ much.0 in cc

@@ -1,9 +1,9 @@
 -- Lists of edits: one edit more.
-use Rattle.std.proofs.Common.{◌≡◌, ◌<◌, ◌≤◌, ℕ, true, List, [], ◌∷◌, ◌++◌, length, inl, inr, refl, ap, sym, ◌∙◌, subst, arith}
+use Rattle.std.proofs.Common.{◌≡◌, true, List, [], ◌∷◌, ◌++◌, length, inl, inr, refl, ap, sym, ◌∙◌, subst, arith}
 use Rattle.std.specs.List.{AllByRecursion}
 use Rattle.pipe_frame.specs.Rows.{Row}
 use Rattle.pipe_view.specs.Kept.{Kept, fields_on, view_rows, IsOver, IsSameView}
-use Rattle.pipe_view.specs.Played.{AreWide, IsEditRefusal, IsPlayRefusal, IsStuck, IsWide, after_edit, after_edits, after_kind, outcome_of, outcomes_of}
+use Rattle.pipe_view.specs.Played.{AreWide, IsEditRefusal, IsPlayRefusal, IsStuck, IsTooMuch, IsWide, after_edit, after_edits, after_kind, outcome_of, outcomes_of}
 use Rattle.pipe_view.specs.Sides.{is_view_kind}
 use Rattle.pipe_view.specs.declared.error.ViewError.{ViewError}
 use Rattle.pipe_view.specs.declared.row_edit.EditKind.{EditKind}
@@ -23,19 +23,31 @@ outcomes-last : (done : List RowEdit) (edit : RowEdit) (v : Kept) → outcomes_o
 outcomes-last [] edit v = refl
 outcomes-last (e ∷ done) edit v = ap (λ l. outcome_of e v ∷ l) (outcomes-last done edit (after_edit e v))
 
+-- edits of which one is too much behind others that were made, and edits of which none is
+stuck-here : (done rest : List RowEdit) (edit : RowEdit) (v : Kept) → IsTooMuch edit (after_edits done v) → IsStuck (done ++ edit ∷ rest) v
+stuck-here [] rest edit v h = inl h
+stuck-here (e ∷ done) rest edit v h = inr (stuck-here done rest edit (after_edit e v) h)
+
+free-last : (done : List RowEdit) (edit : RowEdit) (v : Kept) → (IsStuck done v → ⊥) → (IsTooMuch edit (after_edits done v) → ⊥) → IsStuck (done ++ edit ∷ []) v → ⊥
+free-last [] edit v f g (inl h) = g h
+free-last [] edit v f g (inr h) = h
+free-last (e ∷ done) edit v f g (inl h) = f (inl h)
+free-last (e ∷ done) edit v f g (inr h) = free-last done edit (after_edit e v) (λ s. f (inr s)) g h
+
 -- what is known of a view behind some edits
 pub record IsPlayed (start now : Kept) (done : List RowEdit) (told : List Outcome) : Type 0 where
   pub tables : IsSameView now (after_edits done start)
   pub outcomes : told ≡ outcomes_of done start
+  pub free : IsStuck done start → ⊥
 
 same-view : (v : Kept) → IsSameView v v
 same-view v = record { left_schema = refl; right_schema = refl; left_on = refl; right_on = refl; options = refl; limit = refl; left = record { each = λ z. refl }; right = record { each = λ z. refl } }
 
 pub none-played : (start now : Kept) (told : List Outcome) → now ≡ start → told ≡ [] → IsPlayed start now [] told
-none-played start now told e f = record { tables = subst (λ v. IsSameView v start) (sym e) (same-view start); outcomes = f }
+none-played start now told e f = record { tables = subst (λ v. IsSameView v start) (sym e) (same-view start); outcomes = f; free = λ h. h }
 
 -- what edits leave as it was
-kind-edits : (done : List RowEdit) (v : Kept) → is_view_kind v.options.how ≡ true → is_view_kind (after_edits done v).options.how ≡ true
+pub kind-edits : (done : List RowEdit) (v : Kept) → is_view_kind v.options.how ≡ true → is_view_kind (after_edits done v).options.how ≡ true
 kind-edits [] v k = k
 kind-edits (e ∷ done) v k = kind-edits done (after_edit e v) (kind-after e.kind e.side e.row v k)
 
@@ -77,7 +89,7 @@ pub rest-next : (done rest left all : List RowEdit) (edit : RowEdit) → done ++
 rest-next done rest left all edit e f = appended done edit rest ∙ ap (λ l. done ++ l) (sym f) ∙ e
 
 -- too many rows are too many in any view with the same tables
-over-alike : (a b : Kept) → IsSameView a b → is_view_kind b.options.how ≡ true → IsOver a → IsOver b
+pub over-alike : (a b : Kept) → IsSameView a b → is_view_kind b.options.how ≡ true → IsOver a → IsOver b
 over-alike a b h k (inl o) = inl (let same = as-long a.left.rows b.left.rows h.left in let most = h.limit in omega (arith, o, same, most))
 over-alike a b h k (inr (inl o)) = inr (inl (let same = as-long a.right.rows b.right.rows h.right in let most = h.limit in omega (arith, o, same, most)))
 over-alike a b h k (inr (inr o)) = inr (inr (let same = as-long (view_rows a) (view_rows b) (rows-same a b h k) in let most = h.limit in omega (arith, o, same, most)))
@@ -89,8 +101,8 @@ stuck-next start now done rest left all edit told e kind played f g (inr h) =
     let v = after_edits done start in
     let kept = kind-edits done start kind in
     let moved = after-alike edit.kind edit.side edit.row now v played.tables in
-    let over = over-alike (after_edit edit now) (after_edit edit v) moved (kind-after edit.kind edit.side edit.row v kept) h.2 in
-    inr (h.0, record { done = done; next = edit; later = rest; all = sym f ∙ ap (λ l. done ++ l) g; inserts = h.1; over = subst (λ x. IsOver x) (sym (after-last done edit start)) over })
+    let over = over-alike (after_edit edit now) (after_edit edit v) moved (kind-after edit.kind edit.side edit.row v kept) h.1.1 in
+    inr (h.0, subst (λ l. IsStuck l start) (ap (λ l. done ++ l) (sym g) ∙ f) (stuck-here done rest edit start (h.1.0, over)))
 
 -- all of them were played
 appended-none : {X : Type 0} (a : List X) → a ++ [] ≡ a
@@ -101,14 +113,19 @@ pub all-played : (done left all : List RowEdit) → done ++ left ≡ all → lef
 all-played done left all e f = sym (appended-none done) ∙ ap (λ l. done ++ l) (sym f) ∙ e
 
 -- one edit more
-pub next-played : (start now later : Kept) (done : List RowEdit) (edit : RowEdit) (told told_now : List Outcome) (outcome : Outcome) → is_view_kind start.options.how ≡ true → IsPlayed start now done told → IsSameView later (after_edit edit now) → outcome ≡ outcome_of edit now → told_now ≡ told ++ outcome ∷ [] → IsPlayed start later (done ++ edit ∷ []) told_now
-next-played start now later done edit told told_now outcome kind played tables same all =
+turned : (a b : Kept) → IsSameView a b → IsSameView b a
+turned a b h = record { left_schema = sym h.left_schema; right_schema = sym h.right_schema; left_on = sym h.left_on; right_on = sym h.right_on; options = sym h.options; limit = sym h.limit; left = record { each = λ z. sym (h.left.each z) }; right = record { each = λ z. sym (h.right.each z) } }
+
+pub next-played : (start now later : Kept) (done : List RowEdit) (edit : RowEdit) (told told_now : List Outcome) (outcome : Outcome) → is_view_kind start.options.how ≡ true → IsPlayed start now done told → IsSameView later (after_edit edit now) → outcome ≡ outcome_of edit now → (IsTooMuch edit now → ⊥) → told_now ≡ told ++ outcome ∷ [] → IsPlayed start later (done ++ edit ∷ []) told_now
+next-played start now later done edit told told_now outcome kind played tables same made all =
     let v = after_edits done start in
     let kept = kind-edits done start kind in
     let moved = after-alike edit.kind edit.side edit.row now v played.tables in
+    let now_kept = kind-after edit.kind edit.side edit.row now (ap (λ o. is_view_kind o.how) played.tables.options ∙ kept) in
     let through = same-through later (after_edit edit now) (after_edit edit v) tables moved in
     let told_of = same ∙ outcome-alike edit.kind edit.side edit.row now v played.tables kept in
     record {
       tables = subst (λ x. IsSameView later x) (sym (after-last done edit start)) through;
+      free = free-last done edit start played.free (λ (much : IsTooMuch edit v). made (much.0, over-alike (after_edit edit v) (after_edit edit now) (turned (after_edit edit now) (after_edit edit v) moved) now_kept much.1));
       outcomes = all ∙ ap (λ l. l ++ outcome ∷ []) played.outcomes ∙ ap (λ o. outcomes_of done start ++ o ∷ []) told_of ∙ sym (outcomes-last done edit start);
     }

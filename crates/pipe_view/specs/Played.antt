@@ -1,5 +1,5 @@
 -- Edits that are played one after another: the tables after them, and what each adds to the view and takes from it.
-use Rattle.std.specs.Prelude.{◌≡◌, ◌==◌, ◌⊎◌, ℕ, List, [], ◌∷◌, ◌++◌, length, if◌then◌else◌}
+use Rattle.std.specs.Prelude.{◌≡◌, ◌==◌, ◌⊎◌, List, [], ◌∷◌, length, if◌then◌else◌}
 use Rattle.std.specs.List.{AllByRecursion}
 use Rattle.pipe_frame.specs.Frame.{Table, with_rows}
 use Rattle.pipe_frame.specs.Rows.{Row, eq_row}
@@ -75,19 +75,18 @@ IsWide v edit = length edit.row ≡ length (fields_on edit.side v)
 abbrev pub AreWide : List RowEdit → Kept → Type 0
 AreWide edits v = AllByRecursion (IsWide v) edits
 
+-- a row is put in, and a table or the view has too many then
+abbrev pub IsTooMuch : RowEdit → Kept → Type 0
+IsTooMuch edit v = (edit.kind ≡ kind.Insert) × IsOver (after_edit edit v)
+
 -- why an edit can't be made: want of memory, or a row is put in, and a table or the view would have too many
 abbrev pub IsEditRefusal : RowEdit → Kept → ViewError → Type 0
-IsEditRefusal edit v e =
-    (e ≡ refusal.Memory) ⊎ ((e ≡ refusal.TooMany) × (edit.kind ≡ kind.Insert) × IsOver (after_edit edit v))
+IsEditRefusal edit v e = (e ≡ refusal.Memory) ⊎ ((e ≡ refusal.TooMany) × IsTooMuch edit v)
 
--- edits of which one can't be made: those before it were
-pub record IsStuck (edits : List RowEdit) (v : Kept) : Type 0 where
-  pub done : List RowEdit
-  pub next : RowEdit
-  pub later : List RowEdit
-  pub all : edits ≡ done ++ next ∷ later
-  pub inserts : next.kind ≡ kind.Insert
-  pub over : IsOver (after_edits (done ++ next ∷ []) v)
+-- edits of which one can't be made: the first, or one of those behind it once it was
+abbrev pub IsStuck : List RowEdit → Kept → Type 0
+IsStuck [] v = ⊥
+IsStuck (edit ∷ edits) v = IsTooMuch edit v ⊎ IsStuck edits (after_edit edit v)
 
 -- why a list of edits isn't played to its end
 abbrev pub IsPlayRefusal : List RowEdit → Kept → ViewError → Type 0

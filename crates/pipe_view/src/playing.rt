@@ -2,7 +2,7 @@
 
 ghost use Rattle.std.specs.Prelude.{◌≡◌, true, length, IfErr, IfOk, OnErr, OnOk};
 ghost use Rattle.pipe_view.specs.Kept.{IsSameView, IsWithin, fields_on};
-ghost use Rattle.pipe_view.specs.Played.{AreWide, IsEditRefusal, IsPlayRefusal, after_edit, after_edits, outcome_of, outcomes_of};
+ghost use Rattle.pipe_view.specs.Played.{AreWide, IsEditRefusal, IsPlayRefusal, IsStuck, IsTooMuch, after_edit, after_edits, outcome_of, outcomes_of};
 ghost use Rattle.pipe_view.specs.Sides.{is_view_kind};
 
 use crate::error::ViewError;
@@ -25,6 +25,7 @@ impl View {
         requires { length edit.row ≡ length (fields_on edit.side self.old) }
         ensures tables { OnOk result (IsSameView self.new (after_edit edit self.old)) }
         ensures outcome { IfOk result (λ told. told ≡ outcome_of edit self.old) }
+        ensures within { OnOk result (IsTooMuch edit self.old → ⊥) }
         ensures err { IfErr result (IsEditRefusal edit self.old) }
         ensures unchanged { OnErr result (self.new ≡ self.old) }
     {
@@ -53,6 +54,7 @@ impl View {
         requires { AreWide edits self.old }
         ensures tables { OnOk result (IsSameView self.new (after_edits edits self.old)) }
         ensures outcomes { IfOk result (λ told. told ≡ outcomes_of edits self.old) }
+        ensures within { OnOk result (IsStuck edits self.old → ⊥) }
         ensures err { IfErr result (IsPlayRefusal edits self.old) }
     {
         self.is_kept();

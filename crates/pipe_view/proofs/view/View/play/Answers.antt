@@ -6,7 +6,7 @@ use Rattle.pipe_view.specs.declared.row_edit.EditKind.{EditKind}
 use Rattle.pipe_view.specs.declared.row_edit.EditKind.TheVariants.{Remove}
 use Rattle.pipe_view.specs.declared.row_edit.Outcome.{Outcome}
 use Rattle.pipe_view.specs.declared.row_edit.Outcome.TheVariants.{Changed}
-use Rattle.pipe_view.proofs.Listed.{absent-none, absent-told, inserted-told, removed-told, stays-absent, taken-out, told-lengths}
+use Rattle.pipe_view.proofs.Listed.{absent-none, absent-told, insert-made, inserted-told, remove-made, removed-told, stays-absent, taken-out, told-lengths}
 use Rattle.pipe_view.proofs.view.View.play.Goals as goal
 
 pub returns-in-Insert-clause-outcome : goal.returns-in-Insert-clause-outcome
@@ -48,3 +48,15 @@ returns-in-Err-Absent-clause-outcome c =
     let v = c.args.self.now in
     let none = absent-none e.side e.row v c.in-Err-Absent.field-0 c.in-Err-Absent.ensures.err c.in-Err-Absent.field-0-is in
     absent-told e.side e.row v none ∙ ap (λ (k : EditKind). outcome_by k e.side e.row v) (sym c.in-Remove.is)
+
+pub returns-in-Insert-clause-within : goal.returns-in-Insert-clause-within
+returns-in-Insert-clause-within c =
+    let e = c.args.edit in
+    let v = c.args.self.now in
+    λ much. insert-made e.kind e.side e.row v c.insert.new.self c.is_kept.ensures c.in-Insert.is c.in_ok-delta-in-Insert.ensures.table c.in_ok-delta-in-Insert.ensures.within much
+
+pub returns-in-Ok-clause-within : goal.returns-in-Ok-clause-within
+returns-in-Ok-clause-within c = λ much. remove-made c.args.edit.kind _ c.in-Remove.is much
+
+pub returns-in-Err-Absent-clause-within : goal.returns-in-Err-Absent-clause-within
+returns-in-Err-Absent-clause-within c = λ much. remove-made c.args.edit.kind _ c.in-Remove.is much

@@ -21,6 +21,6 @@ returns-in_err-outcome-clause-err c =
 pub loop-edit-preserved : goal.loop-edit-preserved
 loop-edit-preserved c =
     let step : c.loop-edit.edit-iterator.rest.items ≡ c.in-Some.edit ∷ c.next.new.self.rest.items = search rules in (
-      next-played c.args.self.now c.loop-edit.self c.play.new.self c.loop-edit.yielded c.in-Some.edit c.loop-edit.outcomes c.push.new.self c.in_ok-outcome.outcome c.is_kept.ensures c.loop-edit.invariant.0 c.in_ok-outcome.ensures.tables c.in_ok-outcome.ensures.outcome c.in_ok-push.ensures.ok,
+      next-played c.args.self.now c.loop-edit.self c.play.new.self c.loop-edit.yielded c.in-Some.edit c.loop-edit.outcomes c.push.new.self c.in_ok-outcome.outcome c.is_kept.ensures c.loop-edit.invariant.0 c.in_ok-outcome.ensures.tables c.in_ok-outcome.ensures.outcome c.in_ok-outcome.ensures.within c.in_ok-push.ensures.ok,
       rest-next c.loop-edit.yielded c.next.new.self.rest.items c.loop-edit.edit-iterator.rest.items c.into_iter-edit-iterator.result.rest.items c.in-Some.edit c.loop-edit.invariant.1 step,
     )

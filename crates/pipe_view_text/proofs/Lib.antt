@@ -1,0 +1,12 @@
+pub mod Triples
+pub mod Outlines
+pub mod Replaying
+pub mod Texts
+pub mod Numbers
+pub mod TypedEdits
+pub mod Embedded
+pub mod Again
+pub mod OneReplay
+pub mod Unread
+pub mod Replayed
+pub mod OneEnd
