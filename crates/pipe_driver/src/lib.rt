@@ -19,5 +19,5 @@ pub use laws::{
 pub use pipe_line::{Leg, PipeLine};
 pub use run::{Fed, Next, Passing, Run};
 pub use runner::Runner;
-pub use running::{execute_branches, run_front};
+pub use running::{execute_pipeline, run_pipeline};
 pub use sink_counts::SinkCounts;

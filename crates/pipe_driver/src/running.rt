@@ -79,7 +79,7 @@ fn newer(answer: Option<DataFrame>, more: Option<DataFrame>) -> Option<DataFrame
 
 /// Runs the shortest front part of the branches, the first pipeline among them, such that no later branch feeds a sink
 /// that a branch of the part feeds. The others stay, in order. The answer is there where the root's sink was closed.
-pub fn run_front<R: Runner>(
+pub fn run_pipeline<R: Runner>(
     alloc: Global,
     run: &mut Run<R, R::Source, R::Part>,
     first: PipeLine<R::Source, R::Part>,
@@ -106,7 +106,7 @@ pub fn run_front<R: Runner>(
 }
 
 /// Runs pipelines that stand for the branches of a plan, in order: the rows of the root.
-pub fn execute_branches<R: Runner + Drop>(
+pub fn execute_pipeline<R: Runner + Drop>(
     alloc: Global,
     mut run: Run<R, R::Source, R::Part>,
     mut pipelines: Vec<PipeLine<R::Source, R::Part>>,
@@ -123,7 +123,7 @@ pub fn execute_branches<R: Runner + Drop>(
             unreachable!()
         }
         let first = pipelines.remove(0);
-        if let Some(frame) = run_front(alloc, &mut run, first, &mut pipelines)? {
+        if let Some(frame) = run_pipeline(alloc, &mut run, first, &mut pipelines)? {
             return Ok(frame);
         }
     }

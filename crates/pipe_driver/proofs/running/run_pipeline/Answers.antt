@@ -7,7 +7,7 @@ use Rattle.pipe_driver.specs.Runs.{HasStopped, IsAnswer}
 use Rattle.pipe_driver.proofs.Drives.{first_is, some_vec}
 use Rattle.pipe_driver.proofs.Fronts.{answer_newer}
 use Rattle.pipe_driver.proofs.FrontSteps.{starts_by, ends_by, goes_by, open_later}
-use Rattle.pipe_driver.proofs.running.run_front.Goals as goal
+use Rattle.pipe_driver.proofs.running.run_pipeline.Goals as goal
 
 pub branches-init : goal.branches-init
 branches-init g c = starts_by g.R.Runner g.k c.args.run.now c.args.first c.args.pipelines.now.items c.new-fed.result.items c.requires.1.1.1.1.0 c.requires.1.1.1.1.1 c.new-fed.ensures.items

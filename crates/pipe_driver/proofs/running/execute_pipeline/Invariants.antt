@@ -2,7 +2,7 @@ use Rattle.std.proofs.Common.{◌≡◌, ◌<◌, []}
 use Rattle.std.specs.Vec.{vec_len}
 use Rattle.pipe_driver.specs.Lines.{counts_as}
 use Rattle.pipe_driver.specs.Runs.{Between}
-use Rattle.pipe_driver.proofs.running.execute_branches.Given as goal
+use Rattle.pipe_driver.proofs.running.execute_pipeline.Given as goal
 
 abbrev pub invariant-fronts : goal.invariant-fronts
 invariant-fronts g l = record {
@@ -14,5 +14,5 @@ invariant-fronts g l = record {
 abbrev pub decreases-fronts : goal.decreases-fronts
 decreases-fronts g l = vec_len l.pipelines
 
-abbrev pub ghost-run_front : goal.ghost-run_front
-ghost-run_front g a = g.k
+abbrev pub ghost-run_pipeline : goal.ghost-run_pipeline
+ghost-run_pipeline g a = g.k
