@@ -11,3 +11,4 @@ pub mod Chains
 pub mod Plans
 pub mod Whole
 pub mod Sounds
+pub mod Numbered

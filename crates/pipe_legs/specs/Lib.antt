@@ -10,3 +10,5 @@ pub mod Legs
 pub mod Ways
 -- the laws
 pub mod Laws
+-- the numbers of sinks
+pub mod Numbers

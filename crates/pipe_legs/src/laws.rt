@@ -1,6 +1,7 @@
 //! The laws of branches, leg by leg.
 
 ghost use Rattle.pipe_legs.specs.Laws.{LegsAreChains, BuiltSidesComeFirst, LegsBeginAtSources, LegsBeginOnce, EveryJoinIsRun, SinksHaveTheirRows, NodesHaveTheirRows, BranchesCanRun, MeaningsAreSound};
+ghost use Rattle.pipe_legs.specs.Numbers.{SinksAreToldApart, SinksHaveNumbers};
 
 /// Each leg of the branches of a well-formed plan has the operators and the sink of the chain of where it begins, and
 /// goes upwards. Only behind the sink of a sort there is a further leg.
@@ -49,4 +50,14 @@ pub fn branches_can_run()
 /// of a join goes through the join.
 pub fn meanings_are_sound()
     ensures { MeaningsAreSound }
+{}
+
+/// Two sinks of a plan don't have one number.
+pub fn sinks_are_told_apart()
+    ensures { SinksAreToldApart }
+{}
+
+/// Each sink of the branches of a well-formed plan has the number of that by which it goes.
+pub fn sinks_have_numbers()
+    ensures { SinksHaveNumbers }
 {}
