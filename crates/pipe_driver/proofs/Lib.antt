@@ -10,3 +10,4 @@ pub mod Feeds
 pub mod Closings
 pub mod Fronts
 pub mod FrontSteps
+pub mod Entry

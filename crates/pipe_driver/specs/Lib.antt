@@ -12,3 +12,5 @@ pub mod Lines
 pub mod Runs
 -- the front part of the branches that one call runs
 pub mod Fronts
+-- pipelines that stand for the branches of a plan
+pub mod Plans

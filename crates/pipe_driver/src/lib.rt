@@ -5,6 +5,7 @@ mod driving;
 mod error;
 mod laws;
 mod pipe_line;
+mod plan_run;
 mod run;
 mod runner;
 mod running;
@@ -17,6 +18,7 @@ pub use laws::{
     sinks_stay_open, ways_go_on,
 };
 pub use pipe_line::{Leg, PipeLine};
+pub use plan_run::execute_branches;
 pub use run::{Fed, Next, Passing, Run};
 pub use runner::Runner;
 pub use running::{execute_pipeline, run_pipeline};
