@@ -11,3 +11,4 @@ pub mod Closings
 pub mod Fronts
 pub mod FrontSteps
 pub mod Entry
+pub mod Bounds

@@ -14,7 +14,7 @@ abbrev pub IsClosed : List Way → List Way → Type 0
 IsClosed front later = (s : ℕ) → 0 < feeds s front → feeds s later ≡ 0
 
 -- The sinks that were fed are of branches of the front part; what such a branch feeds was fed, or
--- is still to be fed by a way that has begun; and each way that waits does so at a sink that was fed
+-- is still to be fed by a way that has begun; each way that waits does so at a sink that was fed
 pub record IsFront (front : List Way) (fed : List ℕ) (live parked : List Way) : Type 0 where
   pub of_front : (s : ℕ) → 0 < occurs s fed → 0 < feeds s front
   pub covered : (s : ℕ) → 0 < feeds s front → (0 < occurs s fed) ⊎ (0 < feeds s live)

@@ -14,3 +14,5 @@ pub mod Runs
 pub mod Fronts
 -- pipelines that stand for the branches of a plan
 pub mod Plans
+-- what came to a place is among what has to come there
+pub mod Within

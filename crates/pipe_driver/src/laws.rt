@@ -1,5 +1,6 @@
 //! The laws of a run's steps.
 
+ghost use Rattle.pipe_driver.specs.Within.{RowsStayWithin};
 ghost use Rattle.pipe_driver.specs.Steps.{BranchesBegin, JoinsAreBuilt, LegsPass, LegsAreCounted, ProbeSidesAreSeen, JoinsAreClosed, SinksAreFed, SinksStayOpen, SinksAreClosed, WaysGoOn, NoneIsOpen, BranchesStart, PlansStart};
 
 /// Before the first of them runs, branches that can be run are all that is left to run.
@@ -66,4 +67,10 @@ pub fn ways_go_on()
 /// Where no branch is left, each sink is closed.
 pub fn none_is_open()
     ensures { NoneIsOpen }
+{}
+
+/// What came to a place, as out of a node, is among what has to come there, as long as the joins that aren't closed gave
+/// no more than they have of their own. So a node that gave more rows than a limit has more than that.
+pub fn rows_stay_within()
+    ensures { RowsStayWithin }
 {}
