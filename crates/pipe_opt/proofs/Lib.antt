@@ -1,0 +1,13 @@
+pub mod Renumber
+pub mod Growing
+pub mod Granted
+pub mod Counted
+pub mod Faultless
+pub mod Sounding
+pub mod Typed
+pub mod Standing
+pub mod Remade
+pub mod Whole
+pub mod Seen
+pub mod Steps
+pub mod Readings

@@ -1,0 +1,72 @@
+-- Plans that grow by nodes, and the new numbers of nodes of another plan.
+use Rattle.std.specs.Prelude.{◌≡◌, ◌<◌, ◌≤◌, ◌+◌, ◌*◌, ℕ, suc, List, ◌++◌, true, false, None, length, map}
+use Rattle.std.specs.List.{AllByRecursion}
+use Rattle.pipe_frame.specs.Frame.{Table}
+use Rattle.pipe_expr.specs.Formula.{Formula}
+use Rattle.pipe_plan.specs.Node.{Node}
+use Rattle.pipe_plan.specs.Plan.{Plan}
+use Rattle.pipe_plan.specs.Under.{node_at, inputs_of}
+use Rattle.pipe_plan.specs.Schemas.{schema_of}
+use Rattle.pipe_plan.specs.PlanRows.{rows_of}
+use Rattle.pipe_plan.specs.Faults.{has_input, repeats, is_void}
+use Rattle.pipe_check.specs.Checking.{fault_with}
+use Rattle.pipe_rules.specs.Conjuncts.{filter_each}
+use Rattle.pipe_rules.specs.Parted.{Parts, rows_below}
+use Rattle.pipe_opt.specs.Low.{IsLow}
+use Rattle.pipe_opt.specs.Sizes.{sum_of, size_of}
+
+-- the plan of some nodes over some tables
+abbrev pub over : List Table → List Node → Plan
+over frames nodes = record { nodes = nodes; frames = frames }
+
+-- nodes were added to others
+pub record Grows (old new : List Node) : Type 0 where
+  pub more : List Node
+  pub grown : new ≡ old ++ more
+
+-- a node has no fault of its own, and stands low where it is a filter
+pub record IsSound (frames : List Table) (nodes : List Node) (m : ℕ) : Type 0 where
+  pub once : repeats (inputs_of (node_at nodes m)) ≡ false
+  pub whole : is_void frames (node_at nodes m) ≡ false
+  pub faultless : fault_with false frames (schema_of (over frames nodes)) m (node_at nodes m) ≡ None
+  pub low : IsLow (schema_of (over frames nodes)) nodes (node_at nodes m)
+
+-- nodes that were added read smaller ones of their own, no two read the same, and each is sound
+pub record AreSound (frames : List Table) (old new : List Node) : Type 0 where
+  pub own : (m i : ℕ) → length old ≤ m → m < length new → has_input new i m ≡ true
+      → (length old ≤ i) × (i < m)
+  pub apart : (m j i : ℕ) → length old ≤ j → j < m → m < length new → has_input new i m ≡ true
+      → has_input new i j ≡ false
+  pub each : (m : ℕ) → length old ≤ m → m < length new → IsSound frames new m
+
+-- a node of a plan, under some conjuncts, stands last among new nodes: it has its schema, and those of
+-- its rows at which each conjunct is true
+pub record IsRewritten
+    (plan : Plan) (old new : List Node) (n : ℕ) (conjuncts : List Formula) (k : ℕ) : Type 0 where
+  pub grows : Grows old new
+  pub fresh : length old ≤ k
+  pub last : suc k ≡ length new
+  pub few : length new ≤ length old + 2 * size_of plan.nodes n
+  pub sound : AreSound plan.frames old new
+  pub schema : schema_of (over plan.frames new) k ≡ schema_of plan n
+  pub rows : rows_of (over plan.frames new) k
+      ≡ filter_each conjuncts (schema_of plan n) (rows_of plan n)
+
+-- a number is that of one of the nodes that were added, which none of them reads
+pub record IsFree (old new : List Node) (k : ℕ) : Type 0 where
+  pub fresh : length old ≤ k
+  pub there : k < length new
+  pub unread : (m : ℕ) → length old ≤ m → m < length new → has_input new k m ≡ false
+
+-- nodes of a plan that are inputs of a node stand among new nodes, each under the conjuncts that go
+-- onto it
+pub record AreRewritten
+    (plan : Plan) (old new : List Node) (x : Node) (parts : Parts) (ns ks : List ℕ) : Type 0 where
+  pub grows : Grows old new
+  pub few : length new ≤ length old + 2 * sum_of (size_of plan.nodes) ns
+  pub sound : AreSound plan.frames old new
+  pub free : AllByRecursion (IsFree old new) ks
+  pub once : repeats ks ≡ false
+  pub schemas : map (schema_of (over plan.frames new)) ks ≡ map (schema_of plan) ns
+  pub rows : map (rows_of (over plan.frames new)) ks
+      ≡ map (rows_below (schema_of plan) x parts (rows_of plan)) ns

@@ -1,0 +1,10 @@
+-- nodes with other inputs
+pub mod Renumbered
+-- how many nodes there are
+pub mod Sizes
+-- filters that stand low
+pub mod Low
+-- plans that grow
+pub mod Grown
+-- what values of the code stand for
+pub mod Values

@@ -1,0 +1,9 @@
+//! Plans rewritten so that filters stand as low as they can.
+#![tactic(auto)]
+
+mod copying;
+mod counting;
+mod parting;
+mod pushdown;
+
+pub use pushdown::{Rewritten, push_filters};

@@ -1,0 +1,230 @@
+//! Filters pushed down a plan, from the root.
+
+ghost use Rattle.std.specs.Prelude.{◌≡◌, ◌<◌, ◌≤◌, ◌+◌, ◌*◌, ℕ, ◌∷◌, [], ◌++◌, true, false, map, length, IfOk, IfErr, OnOk};
+ghost use Rattle.std.specs.List.{AllByRecursion};
+ghost use Rattle.pipe_expr.specs.Formula.{formula_of};
+ghost use Rattle.pipe_plan.specs.Node.{node_of};
+ghost use Rattle.pipe_plan.specs.Plan.{plan_of};
+ghost use Rattle.pipe_plan.specs.Under.{is_under, node_at, inputs_of};
+ghost use Rattle.pipe_plan.specs.Schemas.{schema_of};
+ghost use Rattle.pipe_plan.specs.PlanRows.{rows_of};
+ghost use Rattle.pipe_plan.specs.Faults.{IsWellFormed, most_nodes};
+ghost use Rattle.pipe_plan.specs.declared.error.PipeError.TheVariants as error;
+ghost use Rattle.pipe_typing.specs.Fits.{FramesFit};
+ghost use Rattle.pipe_rules.specs.Conjuncts.{conjuncts_of};
+ghost use Rattle.pipe_rules.specs.Placed.{is_input};
+ghost use Rattle.pipe_rules.specs.Parted.{parted, part_for};
+ghost use Rattle.pipe_opt.specs.Values.{parts_in};
+ghost use Rattle.pipe_opt.specs.Low.{is_filter, IsConjunct, AreLow};
+ghost use Rattle.pipe_opt.specs.Sizes.{sum_of, size_of, count_under as nodes_counted, IsTooLarge};
+ghost use Rattle.pipe_opt.specs.Grown.{over, IsRewritten, AreRewritten};
+
+use crate::copying::{copy_over, first_or, inputs, second_or};
+use crate::counting::count_under;
+use crate::parting::{Parted, part};
+use pipe_check::CheckedPlan;
+use pipe_expr::Expr;
+use pipe_frame::List;
+use pipe_place::{conjunction, conjuncts};
+use pipe_plan::{IR, PipeError};
+use pipe_typing::frames_fit;
+use std::alloc::Global;
+
+/// How many nodes a plan may have.
+const MOST_NODES: u32 = 4096;
+
+/// How many nodes under the root may be rewritten: each may get a filter.
+const MOST_UNDER: usize = 2048;
+
+/// A rewritten plan, over the frames of the plan that was given.
+#[derive(Debug, Drop)]
+pub struct Rewritten {
+    pub nodes: List<IR>,
+    pub root: u32,
+}
+
+/// Puts a node behind others, and tells its number.
+fn push_node(nodes: &mut List<IR>, node: IR) -> Result<u32, PipeError>
+    requires { length nodes.old < most_nodes }
+    ensures added { OnOk result
+        (map node_of nodes.new ≡ map node_of nodes.old ++ node_of node ∷ []) }
+    ensures number { IfOk result (λ k. k ≡ length (map node_of nodes.old)) }
+    ensures err { IfErr result (λ e. e ≡ error.Memory) }
+{
+    let number = nodes.len() as u32;
+    nodes.push(node)?;
+    Ok(number)
+}
+
+/// The conjuncts of a filter's predicate, and behind them those that stand on the filter.
+fn with_conjuncts(
+    alloc: Global,
+    predicate: &Expr,
+    above: List<Expr>,
+) -> Result<List<Expr>, PipeError>
+    ensures all { IfOk result (λ all. map formula_of all
+        ≡ conjuncts_of (formula_of predicate.now) ++ map formula_of above) }
+    ensures err { IfErr result (λ e. e ≡ error.Memory) }
+{
+    let mut all = conjuncts(alloc, predicate)?.into_vec();
+    let mut above = above.into_vec();
+    all.append(&mut above)?;
+    Ok(List::from_vec(all))
+}
+
+/// The conjuncts of a filter on a node under the root, by where they go.
+fn part_at(
+    alloc: Global,
+    plan: &CheckedPlan,
+    n: u32,
+    node: &IR,
+    inputs: &[u32],
+    conjuncts: List<Expr>,
+) -> Result<Parted, PipeError>
+    requires good { IsWellFormed (plan_of plan.now.arena) plan.now.root }
+    requires under { is_under (plan_of plan.now.arena).nodes plan.now.root n ≡ true }
+    requires at { node_at (plan_of plan.now.arena).nodes n ≡ node_of node.now }
+    requires inputs { inputs.now ≡ inputs_of (node_of node.now) }
+    ensures parts { IfOk result (λ parts. parts_in parts
+        ≡ parted (schema_of (plan_of plan.now.arena)) (node_of node.now)
+        (map formula_of conjuncts)) }
+    ensures err { IfErr result (λ e. e ≡ error.Memory) }
+{
+    let left = plan.schema(first_or(n, inputs));
+    let right = plan.schema(second_or(n, inputs));
+    Ok(part(alloc, node, left, right, conjuncts.as_slice())?)
+}
+
+/// Rewrites the inputs of a node, each under the conjuncts that go onto it, and tells their new numbers.
+#[cycle(rewrite)]
+fn rewrite_inputs(
+    alloc: Global,
+    plan: &CheckedPlan,
+    nodes: &mut List<IR>,
+    n: u32,
+    node: &IR,
+    inputs: &[u32],
+    parts: &Parted,
+) -> Result<List<u32>, PipeError>
+    requires good { IsWellFormed (plan_of plan.now.arena) plan.now.root }
+    requires frames { FramesFit (plan_of plan.now.arena) }
+    requires under { is_under (plan_of plan.now.arena).nodes plan.now.root n ≡ true }
+    requires at { node_at (plan_of plan.now.arena).nodes n ≡ node_of node.now }
+    requires inputs { inputs.now ≡ inputs_of (node_of node.now) }
+    requires typed { (i : ℕ) → is_input (node_of node.now) i ≡ true
+        → AllByRecursion (IsConjunct (schema_of (plan_of plan.now.arena) i))
+        (part_for (node_of node.now) (parts_in parts.now) i) }
+    requires room { length nodes.old + 2 * sum_of (size_of (plan_of plan.now.arena).nodes) inputs.now
+        ≤ most_nodes }
+    ensures err { IfErr result (λ e. e ≡ error.Memory) }
+    ensures rewritten { IfOk result (AreRewritten (plan_of plan.now.arena) (map node_of nodes.old)
+        (map node_of nodes.new) (node_of node.now) (parts_in parts.now) inputs.now) }
+{
+    let mut numbers = List::new(alloc);
+    for input in inputs {
+        let share = parts.copy_for(alloc, node, *input)?;
+        let number = rewrite(alloc, plan, nodes, *input, share)?;
+        numbers.push(number)?;
+    }
+    Ok(numbers)
+}
+
+/// Rewrites a node that is no filter.
+#[cycle(rewrite)]
+fn rewrite_node(
+    alloc: Global,
+    plan: &CheckedPlan,
+    nodes: &mut List<IR>,
+    n: u32,
+    node: &IR,
+    conjuncts: List<Expr>,
+) -> Result<u32, PipeError>
+    requires good { IsWellFormed (plan_of plan.now.arena) plan.now.root }
+    requires frames { FramesFit (plan_of plan.now.arena) }
+    requires under { is_under (plan_of plan.now.arena).nodes plan.now.root n ≡ true }
+    requires at { node_at (plan_of plan.now.arena).nodes n ≡ node_of node.now }
+    requires plain { is_filter (node_of node.now) ≡ false }
+    requires typed { AllByRecursion (IsConjunct (schema_of (plan_of plan.now.arena) n))
+        (map formula_of conjuncts) }
+    requires room { length nodes.old + 2 * size_of (plan_of plan.now.arena).nodes n ≤ most_nodes }
+    ensures err { IfErr result (λ e. e ≡ error.Memory) }
+    ensures rewritten { IfOk result (IsRewritten (plan_of plan.now.arena) (map node_of nodes.old)
+        (map node_of nodes.new) n (map formula_of conjuncts)) }
+{
+    let inputs = inputs(alloc, node)?;
+    let read = inputs.as_slice();
+    let parts = part_at(alloc, plan, n, node, read, conjuncts)?;
+    let numbers = rewrite_inputs(alloc, plan, nodes, n, node, read, &parts)?;
+    let copy = copy_over(alloc, node, numbers.as_slice())?;
+    let number = push_node(nodes, copy)?;
+    match conjunction(alloc, parts.above.as_slice())? {
+        None => Ok(number),
+        Some(predicate) => {
+            let filter = IR::Filter {
+                input: number,
+                predicate,
+            };
+            Ok(push_node(nodes, filter)?)
+        }
+    }
+}
+
+/// Rewrites a node under some conjuncts, behind other new nodes, and tells its new number.
+#[cycle(rewrite)]
+fn rewrite(
+    alloc: Global,
+    plan: &CheckedPlan,
+    nodes: &mut List<IR>,
+    n: u32,
+    conjuncts: List<Expr>,
+) -> Result<u32, PipeError>
+    requires good { IsWellFormed (plan_of plan.now.arena) plan.now.root }
+    requires frames { FramesFit (plan_of plan.now.arena) }
+    requires under { is_under (plan_of plan.now.arena).nodes plan.now.root n ≡ true }
+    requires typed { AllByRecursion (IsConjunct (schema_of (plan_of plan.now.arena) n))
+        (map formula_of conjuncts) }
+    requires room { length nodes.old + 2 * size_of (plan_of plan.now.arena).nodes n ≤ most_nodes }
+    ensures err { IfErr result (λ e. e ≡ error.Memory) }
+    ensures rewritten { IfOk result (IsRewritten (plan_of plan.now.arena) (map node_of nodes.old)
+        (map node_of nodes.new) n (map formula_of conjuncts)) }
+{
+    let node = &plan.arena().nodes.as_slice()[n as usize];
+    match node {
+        IR::Filter { input, predicate } => {
+            let all = with_conjuncts(alloc, predicate, conjuncts)?;
+            Ok(rewrite(alloc, plan, nodes, *input, all)?)
+        }
+        _ => Ok(rewrite_node(alloc, plan, nodes, n, node, conjuncts)?),
+    }
+}
+
+/// The plan with each conjunct of each filter as low as it goes. `TooMany` exactly where more than 2,048 nodes stand
+/// under the root.
+pub fn push_filters(alloc: Global, plan: &CheckedPlan) -> Result<Rewritten, PipeError>
+    ensures good { IfOk result (λ made.
+        IsWellFormed (over (plan_of plan.now.arena).frames (map node_of made.nodes)) made.root) }
+    ensures schema { IfOk result (λ made.
+        schema_of (over (plan_of plan.now.arena).frames (map node_of made.nodes)) made.root
+        ≡ schema_of (plan_of plan.now.arena) plan.now.root) }
+    ensures rows { IfOk result (λ made.
+        rows_of (over (plan_of plan.now.arena).frames (map node_of made.nodes)) made.root
+        ≡ rows_of (plan_of plan.now.arena) plan.now.root) }
+    ensures low { IfOk result (λ made.
+        AreLow (schema_of (over (plan_of plan.now.arena).frames (map node_of made.nodes)))
+        (map node_of made.nodes)) }
+    ensures few { IfOk result (λ made. length made.nodes
+        ≤ 2 * nodes_counted (plan_of plan.now.arena).nodes plan.now.root) }
+    ensures small { OnOk result
+        (nodes_counted (plan_of plan.now.arena).nodes plan.now.root ≤ 2048) }
+    ensures err { IfErr result (IsTooLarge (plan_of plan.now.arena).nodes plan.now.root) }
+{
+    let arena = plan.arena();
+    let root = plan.root();
+    if count_under(alloc, arena.nodes.as_slice(), root as usize)? > MOST_UNDER {
+        return Err(PipeError::TooMany(MOST_NODES));
+    }
+    frames_fit(arena.frames.as_slice());
+    let mut nodes = List::new(alloc);
+    let root = rewrite(alloc, plan, &mut nodes, root, List::new(alloc))?;
+    Ok(Rewritten { nodes, root })
+}
