@@ -4,7 +4,8 @@ use Rattle.std.proofs.lemmas.List.{append-nil}
 use Rattle.pipe_frame.specs.Frame.{Table}
 use Rattle.pipe_frame.specs.Rows.{Row, Same}
 use Rattle.pipe_frame.specs.declared.field.Field.{Field}
-use Rattle.pipe_frame.proofs.Weights.{total, total-append, SameBag-refl, SameBag-sym, SameBag-trans, SameBag-append, SameBag-flat_map, SameBag-from_rows, Same-from_bag}
+use Rattle.pipe_frame.specs.Weights.{total}
+use Rattle.pipe_frame.proofs.Weights.{total-append, SameBag-refl, SameBag-sym, SameBag-trans, SameBag-append, SameBag-flat_map, SameBag-from_rows, Same-from_bag}
 use Rattle.pipe_apply.specs.Applied.{HasRows, IsAdded}
 
 pub same-refl : (a : List Row) → Same a a

@@ -2,7 +2,8 @@
 use Rattle.std.proofs.Common.{◌≡◌, ℕ, ◌+◌, ◌≤◌, List, [], ◌∷◌, ◌++◌, length, refl, sym, ◌∙◌, arith}
 use Rattle.std.specs.List.{flat_map}
 use Rattle.pipe_frame.specs.Rows.{Row, Same, Within}
-use Rattle.pipe_frame.proofs.Weights.{total, total-append, total-flat_map, SameBag-from_rows, Same-from_bag, WithinBag-from_rows, Within-from_bag}
+use Rattle.pipe_frame.specs.Weights.{total}
+use Rattle.pipe_frame.proofs.Weights.{total-append, total-flat_map, SameBag-from_rows, Same-from_bag, WithinBag-from_rows, Within-from_bag}
 use Rattle.pipe_words.specs.Sums.{total as key_total}
 use Rattle.pipe_chain.specs.Keys.{SameKeys, WithinKeys}
 

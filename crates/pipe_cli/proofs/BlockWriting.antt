@@ -6,7 +6,8 @@ use Rattle.pipe_check.proofs.Walks.{under-self}
 use Rattle.pipe_check.proofs.WellFormed.{root_there}
 use Rattle.pipe_eval.specs.Evaluated.{HasRowsOf}
 use Rattle.pipe_frame.specs.Frame.{Table}
-use Rattle.pipe_frame.proofs.Weights.{SameBag-map, SameBag-from_rows, SameBag-trans, SameLines-from_bag, total}
+use Rattle.pipe_frame.specs.Weights.{total}
+use Rattle.pipe_frame.proofs.Weights.{SameBag-map, SameBag-from_rows, SameBag-trans, SameLines-from_bag}
 use Rattle.pipe_job.specs.JobSpelling.{Task}
 use Rattle.pipe_job.specs.Line.{head_line, row_line, lines}
 use Rattle.pipe_job.specs.Reading.{ReadsJob}

@@ -2,7 +2,8 @@
 use Rattle.std.proofs.Common.{◌≡◌, ℕ, ◌<◌, List, [], ◌∷◌, ◌++◌, refl, sym, ap, subst, ◌∙◌, arith, ◌==◌, Bool, true, Option}
 use Rattle.std.specs.List.{AllByRecursion}
 use Rattle.pipe_frame.specs.Rows.{Row}
-use Rattle.pipe_frame.proofs.Weights.{total, total-append}
+use Rattle.pipe_frame.specs.Weights.{total}
+use Rattle.pipe_frame.proofs.Weights.{total-append}
 use Rattle.pipe_legs.specs.Meaning.{Meaning, Place, Into, from, due}
 use Rattle.pipe_legs.specs.Legs.{Leg, Way}
 use Rattle.pipe_legs.specs.Ways.{one, way_to, feeds, way_through, passes, starts, way_starts, begun, way_brings, brought, own_brings, IsSound}

@@ -2,7 +2,8 @@
 use Rattle.std.proofs.Common.{◌≡◌, ℕ, ◌+◌, ◌<◌, ◌≤◌, List, [], ◌∷◌, ◌++◌, refl, sym, ap, subst, ◌∙◌, arith, ◌==◌, Bool, true, false, inl, inr, Option}
 use Rattle.std.specs.List.{AllByRecursion}
 use Rattle.pipe_frame.specs.Rows.{Row}
-use Rattle.pipe_frame.proofs.Weights.{total, SameBag, total-append}
+use Rattle.pipe_frame.specs.Weights.{total}
+use Rattle.pipe_frame.proofs.Weights.{SameBag, total-append}
 use Rattle.pipe_legs.specs.Meaning.{Meaning, Place, OutOf, Into, from, due}
 use Rattle.pipe_legs.specs.Legs.{Way}
 use Rattle.pipe_legs.specs.Ways.{one, occurs, feeds, passes, brought, own_brings, AreLegs, IsWay, IsSound}

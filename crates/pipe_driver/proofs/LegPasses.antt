@@ -2,7 +2,8 @@
 use Rattle.std.proofs.Common.{◌≡◌, ℕ, ◌+◌, ◌<◌, List, [], ◌∷◌, ◌++◌, refl, sym, ap, subst, ◌∙◌, arith, true, Option}
 use Rattle.std.specs.List.{AllByRecursion}
 use Rattle.pipe_frame.specs.Rows.{Row}
-use Rattle.pipe_frame.proofs.Weights.{total, total-append}
+use Rattle.pipe_frame.specs.Weights.{total}
+use Rattle.pipe_frame.proofs.Weights.{total-append}
 use Rattle.pipe_legs.specs.Meaning.{Meaning, Place, comes, from, due}
 use Rattle.pipe_legs.specs.Legs.{Leg, Way}
 use Rattle.pipe_legs.specs.Ways.{occurs, legs_to, way_to, feeds, legs_through, way_through, passes, starts, way_starts, begun, leg_brings, legs_bring, way_brings, brought, own_brings, AreLegs, MayGoOn, IsSound}

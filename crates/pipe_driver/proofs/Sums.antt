@@ -2,7 +2,8 @@
 use Rattle.std.proofs.Common.{◌≡◌, ◌≢◌, ℕ, zero, suc, ◌+◌, ◌<◌, ◌≤◌, List, [], ◌∷◌, ◌++◌, refl, sym, ap, ◌∙◌, arith, ◌==◌, true, false, inl, inr}
 use Rattle.std.specs.List.{flat_map, AllByRecursion}
 use Rattle.pipe_frame.specs.Rows.{Row}
-use Rattle.pipe_frame.proofs.Weights.{total, SameBag, total-append}
+use Rattle.pipe_frame.specs.Weights.{total}
+use Rattle.pipe_frame.proofs.Weights.{SameBag, total-append}
 use Rattle.pipe_legs.specs.Meaning.{Meaning, Place, OutOf, Into, rows_where, comes, from}
 use Rattle.pipe_legs.specs.Legs.{Leg, Way}
 use Rattle.pipe_legs.specs.Ways.{one, occurs, legs_to, feeds, legs_through, way_through, passes, leg_brings, legs_bring, way_brings, brought, AreLegs, IsSound}

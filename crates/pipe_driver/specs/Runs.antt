@@ -2,7 +2,8 @@
 use Rattle.std.specs.Prelude.{◌≡◌, ℕ, ◌+◌, ◌≤◌, ◌<◌, ◌⊎◌, List, [], ◌∷◌, ◌++◌, ◌==◌, Option, Some, None}
 use Rattle.std.specs.List.{AllByRecursion}
 use Rattle.pipe_frame.specs.Frame.{Table}
-use Rattle.pipe_frame.proofs.Weights.{total, SameBag}
+use Rattle.pipe_frame.specs.Weights.{total}
+use Rattle.pipe_frame.proofs.Weights.{SameBag}
 use Rattle.pipe_branches.specs.declared.branch.SinkAt.{SinkAt}
 use Rattle.pipe_branches.specs.declared.branch.SinkAt.TheVariants as at
 use Rattle.pipe_legs.specs.Legs.{Way, sink_node}

@@ -15,7 +15,8 @@ use Rattle.pipe_frame.specs.declared.any_value.AnyValue.TheVariants as cell
 use Rattle.pipe_frame.specs.declared.field.Field.{Field}
 use Rattle.pipe_frame.specs.declared.data_type.DataType.{DataType}
 use Rattle.pipe_frame.specs.declared.data_type.DataType.TheVariants as dtype
-use Rattle.pipe_frame.proofs.Weights.{total, total-sum_by, total-plus, total-map}
+use Rattle.pipe_frame.specs.Weights.{total}
+use Rattle.pipe_frame.proofs.Weights.{total-sum_by, total-plus, total-map}
 
 no_sum : (places : List ℕ) → total (λ (k : ℕ). 0) places ≡ 0
 no_sum [] = refl

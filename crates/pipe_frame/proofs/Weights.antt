@@ -9,13 +9,9 @@ use Rattle.std.specs.Cmp.Lexicographic.{bytes_decides}
 use Rattle.std.proofs.lemmas.List.Sums.{sum_by-cons}
 use Rattle.std.proofs.lemmas.List.Sorted.{sum_by-IsPermutation}
 use Rattle.std.proofs.lemmas.Slice.Eq.{slice_eq-Decides}
+use Rattle.pipe_frame.specs.Weights.{total}
 use Rattle.pipe_frame.specs.Rows.{Row, eq_row, times, Same, Within, SameLines}
 use Rattle.pipe_frame.proofs.Cells.{eq_cell-sound, eq_cell-refl}
-
--- the sum of a weight over a list
-abbrev pub total : {X : Type 0} → (X → ℕ) → List X → ℕ
-total f [] = 0
-total f (x ∷ xs) = f x + total f xs
 
 -- each weight sums to the same over the one list as over the other
 pub record SameBag {X : Type 0} (a b : List X) : Type 0 where

@@ -4,6 +4,8 @@ pub mod Cell
 pub mod Native
 -- rows, and when two lists have the same rows
 pub mod Rows
+-- sums of weights over lists
+pub mod Weights
 -- values in a vector of one owner, or shared
 pub mod Buffer
 -- a column of values of one type, some of them missing

@@ -7,7 +7,8 @@ use Rattle.std.specs.List.{All, flat_map, range_with_len}
 use Rattle.atomic_table.specs.Seated.{TableId}
 use Rattle.pipe_frame.specs.Rows.{Row, Same}
 use Rattle.pipe_frame.specs.declared.field.Field.{Field}
-use Rattle.pipe_frame.proofs.Weights.{total, total-append, Same-from_bag}
+use Rattle.pipe_frame.specs.Weights.{total}
+use Rattle.pipe_frame.proofs.Weights.{total-append, Same-from_bag}
 use Rattle.pipe_ops.specs.declared.operator.Operator.{Ghosts as OperatorWords}
 use Rattle.pipe_ops.specs.declared.sink.Sink.{Ghosts as SinkWords}
 use Rattle.pipe_ops.specs.declared.source.Morsel.{Morsel}

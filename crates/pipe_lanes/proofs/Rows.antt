@@ -4,7 +4,8 @@ use Rattle.std.specs.List.{flat_map}
 use Rattle.std.proofs.lemmas.List.{map-id, append-nil}
 use Rattle.std.proofs.lemmas.List.Concat.{flat_map_single}
 use Rattle.pipe_frame.specs.Rows.{Row, Same}
-use Rattle.pipe_frame.proofs.Weights.{total, total-append, total-flat_map, total-same, SameBag-refl, SameBag-sym, SameBag-trans, SameBag-append, SameBag-flat_map, SameBag-from_rows, Same-from_bag}
+use Rattle.pipe_frame.specs.Weights.{total}
+use Rattle.pipe_frame.proofs.Weights.{total-append, total-flat_map, total-same, SameBag-refl, SameBag-sym, SameBag-trans, SameBag-append, SameBag-flat_map, SameBag-from_rows, Same-from_bag}
 use Rattle.pipe_lanes.specs.Through.{through}
 
 -- ---- rows by their weights

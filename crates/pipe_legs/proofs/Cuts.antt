@@ -1,7 +1,8 @@
 -- The trails of a node from those of its inputs.
 use Rattle.std.proofs.Common.{◌≡◌, ℕ, ◌+◌, ◌<◌, Bool, true, false, cond, ◌==◌, inl, inr, List, [], ◌∷◌, ◌++◌, map, refl, sym, ap, ◌∙◌, arith}
 use Rattle.std.specs.List.{flat_map, AllByRecursion}
-use Rattle.pipe_frame.proofs.Weights.{total, total-append}
+use Rattle.pipe_frame.specs.Weights.{total}
+use Rattle.pipe_frame.proofs.Weights.{total-append}
 use Rattle.pipe_branches.specs.declared.branch.SinkAt.{SinkAt}
 use Rattle.pipe_legs.specs.Meaning.{Meaning}
 use Rattle.pipe_legs.specs.Ways.{occurs}

@@ -1,7 +1,8 @@
 -- The trails of each node of a plan, from its inputs up.
 use Rattle.std.proofs.Common.{◌≡◌, ℕ, zero, suc, ◌<◌, true, false, cond, ◌||◌, ◌==◌, inl, inr, List, [], ◌∷◌, ◌++◌, map, refl, sym, ap, subst, ◌∙◌, arith}
 use Rattle.std.specs.List.{flat_map, list_any, AllByRecursion}
-use Rattle.pipe_frame.proofs.Weights.{total, total-append}
+use Rattle.pipe_frame.specs.Weights.{total}
+use Rattle.pipe_frame.proofs.Weights.{total-append}
 use Rattle.pipe_branches.specs.declared.branch.SinkAt.TheVariants as at
 use Rattle.pipe_legs.specs.Shape.{Kind, Begins, Each, Unites, Joins, Sorts, is_sorting, sources_by, joins_by}
 use Rattle.pipe_legs.specs.Meaning.{Tree, is_sort_at, meaning}

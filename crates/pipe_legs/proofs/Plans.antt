@@ -6,7 +6,8 @@ use Rattle.std.proofs.lemmas.Bool.Decides.{Decides-eqb}
 use Rattle.pipe_frame.specs.Frame.{Table}
 use Rattle.pipe_frame.specs.Rows.{Row}
 use Rattle.pipe_frame.specs.declared.field.Field.{Field}
-use Rattle.pipe_frame.proofs.Weights.{total, SameBag, SameBag-trans, SameBag-from_equal, total-append}
+use Rattle.pipe_frame.specs.Weights.{total}
+use Rattle.pipe_frame.proofs.Weights.{SameBag, SameBag-trans, SameBag-from_equal, total-append}
 use Rattle.pipe_expr.specs.Shares.{probe_share}
 use Rattle.pipe_plan.specs.Walk.{walk}
 use Rattle.pipe_plan.specs.Node.{Node}

@@ -2,7 +2,8 @@
 use Rattle.std.proofs.Common.{◌≡◌, ◌≢◌, ℕ, zero, suc, ◌+◌, ◌<◌, ◌≤◌, Bool, true, false, cond, ◌||◌, ◌==◌, inl, inr, List, [], ◌∷◌, ◌++◌, refl, sym, ap, subst, ◌∙◌, arith}
 use Rattle.std.specs.List.{flat_map, list_any, AllByRecursion}
 use Rattle.pipe_frame.specs.Rows.{Row}
-use Rattle.pipe_frame.proofs.Weights.{total, SameBag, total-append, total-flat_map}
+use Rattle.pipe_frame.specs.Weights.{total}
+use Rattle.pipe_frame.proofs.Weights.{SameBag, total-append, total-flat_map}
 use Rattle.pipe_legs.specs.Shape.{Kind, Begins, Each, Unites, Joins, Sorts, is_joining, is_sorting, below_sink, sources_by, joins_by}
 use Rattle.pipe_legs.specs.Meaning.{Meaning, Place, OutOf, Into, is_out, is_into, rows_where, comes, from, is_place, due, Tree, is_join_at, is_sort_at, below_at, meaning}
 use Rattle.pipe_legs.specs.Ways.{one, occurs, own_brings}

@@ -1,7 +1,7 @@
 -- Branches as far as they go: their legs, and the operators behind the last sink where they are open.
 use Rattle.std.proofs.Common.{◌≡◌, ℕ, ◌+◌, ◌<◌, Bool, true, false, not, cond, ◌||◌, ◌==◌, List, [], ◌∷◌, ◌++◌, map}
 use Rattle.std.specs.List.{flat_map, AllByRecursion}
-use Rattle.pipe_frame.proofs.Weights.{total}
+use Rattle.pipe_frame.specs.Weights.{total}
 use Rattle.pipe_branches.specs.declared.branch.SinkAt.{SinkAt}
 use Rattle.pipe_branches.specs.declared.branch.SinkAt.TheVariants as at
 use Rattle.pipe_legs.specs.Shape.{Kind, Begins, Each, Unites, Joins, Sorts}

@@ -12,7 +12,8 @@ use Rattle.pipe_frame.specs.declared.any_value.AnyValue.{AnyValue}
 use Rattle.pipe_frame.specs.declared.any_value.AnyValue.TheVariants as cell
 use Rattle.pipe_frame.specs.declared.data_type.DataType.{DataType}
 use Rattle.pipe_frame.proofs.Tables.{map_map}
-use Rattle.pipe_frame.proofs.Weights.{total, total-append, total-filter, total-flat_map, total-map}
+use Rattle.pipe_frame.specs.Weights.{total}
+use Rattle.pipe_frame.proofs.Weights.{total-append, total-filter, total-flat_map, total-map}
 use Rattle.pipe_expr.specs.Formula.{Column}
 use Rattle.pipe_expr.specs.Joins.{Join, has_right_match, join_rows, key_cell, keys_match, lacks_left_match, lacks_right_match, matched_by, matches, pad_left, pad_right, padded_left, padded_right, pair, pairs, pairs_of}
 use Rattle.pipe_expr.specs.Joins as joins

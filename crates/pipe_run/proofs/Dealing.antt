@@ -4,7 +4,8 @@ use Rattle.std.proofs.lemmas.Bool.{ltb-true, ltb-false}
 use Rattle.std.specs.List.{flat_map, range_with_len}
 use Rattle.std.proofs.lemmas.List.Concat.{flat_map-append}
 use Rattle.pipe_frame.specs.Rows.{Row, Same, Within}
-use Rattle.pipe_frame.proofs.Weights.{total-flat_map, Same-from_bag, total as rows_total}
+use Rattle.pipe_frame.specs.Weights.{total as rows_total}
+use Rattle.pipe_frame.proofs.Weights.{total-flat_map, Same-from_bag}
 use Rattle.pipe_ops.specs.declared.source.Morsel.{Morsel}
 use Rattle.pipe_words.specs.Sums.{total, SameItems}
 use Rattle.pipe_words.proofs.SumLemmas.{total-append}

@@ -6,7 +6,8 @@ use Rattle.pipe_frame.specs.Rows.{Row, Same}
 use Rattle.pipe_frame.specs.declared.field.Field.{Field}
 use Rattle.std.specs.List.Sorted.{IsPermutation}
 use Rattle.std.proofs.lemmas.List.Sorted.{sum_by-IsPermutation}
-use Rattle.pipe_frame.proofs.Weights.{total, total-append, total-flat_map, total-sum_by}
+use Rattle.pipe_frame.specs.Weights.{total}
+use Rattle.pipe_frame.proofs.Weights.{total-append, total-flat_map, total-sum_by}
 use Rattle.pipe_ops.specs.declared.sink.Sink.{Ghosts as SinkWords}
 use Rattle.pipe_chain.specs.Flow.{Work, Acts}
 use Rattle.pipe_chain.specs.Chain.{IsChain, AllServe, SameWork}

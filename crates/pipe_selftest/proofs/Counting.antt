@@ -3,7 +3,8 @@ use Rattle.std.proofs.Common.{◌≡◌, ℕ, ◌+◌, ◌≤◌, List, [], ◌�
 use Rattle.pipe_exec.specs.Runs.{Stays}
 use Rattle.pipe_frame.specs.Counts.{Counts, Rises}
 use Rattle.pipe_frame.specs.Rows.{Row, Same}
-use Rattle.pipe_frame.proofs.Weights.{SameBag-from_rows, total}
+use Rattle.pipe_frame.specs.Weights.{total}
+use Rattle.pipe_frame.proofs.Weights.{SameBag-from_rows}
 
 total-length : (rows : List Row) → total (λ row. 1) rows ≡ length rows
 total-length [] = refl

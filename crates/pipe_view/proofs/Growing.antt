@@ -4,7 +4,8 @@ use Rattle.std.specs.Prelude.{not, ◌&&◌, ◌||◌, ◌⊎◌, filter}
 use Rattle.std.specs.List.{flat_map, list_any}
 use Rattle.pipe_frame.specs.Rows.{Row, Same}
 use Rattle.pipe_frame.specs.declared.field.Field.{Field}
-use Rattle.pipe_frame.proofs.Weights.{total, total-append, SameBag, SameBag-flat_map, SameBag-from_rows, Same-from_bag, SameBag-sym}
+use Rattle.pipe_frame.specs.Weights.{total}
+use Rattle.pipe_frame.proofs.Weights.{total-append, SameBag, SameBag-flat_map, SameBag-from_rows, Same-from_bag, SameBag-sym}
 use Rattle.pipe_expr.specs.Formula.{formulas_of}
 use Rattle.pipe_expr.specs.declared.expr.Expr.{Expr}
 use Rattle.pipe_expr.specs.Joins.{Join, join_rows}

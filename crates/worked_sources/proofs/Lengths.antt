@@ -1,7 +1,8 @@
 -- Lists of the same rows are as long.
 use Rattle.std.proofs.Common.{◌≡◌, List, [], ◌∷◌, length, refl, sym, ◌∙◌, arith}
 use Rattle.pipe_frame.specs.Rows.{Row, Same}
-use Rattle.pipe_frame.proofs.Weights.{total, SameBag-from_rows}
+use Rattle.pipe_frame.specs.Weights.{total}
+use Rattle.pipe_frame.proofs.Weights.{SameBag-from_rows}
 
 one_each : (rows : List Row) → total (λ row. 1) rows ≡ length rows
 one_each [] = refl
