@@ -274,18 +274,27 @@ def processes():
     return max(1, min(len(os.sched_getaffinity(0)), 1024 * kilobytes // MEMORY))
 
 
+def jobs_for(crate, others, waiting, idle, most):
+    """How many jobs a crate's check gets, where so many processors are idle and so many other crates wait for one.
+
+    The longest way up decides when all is done, so the crate that stands at its foot gets all but one, whatever waits.
+    """
+    if all(crate.behind > it.behind for it in others):
+        return max(1, min(MOST_JOBS, max(most - 1, idle - waiting)))
+    return 1
+
+
 def prove(left, teller, total, room_for):
     """Proves the crates that are left, longest way up first."""
     most, running, rooms = processes(), [], []
     try:
         while left or running:
             ready = [it for it in left if not (it.all_below & {*left, *running})]
-            idle = most - sum(it.jobs for it in running)
-            chosen = sorted(ready, key=lambda it: -it.behind)[: max(0, idle)]
-            for crate in chosen:
-                # what no other crate waits for helps with the one that most wait for
-                jobs = min(MOST_JOBS, 1 + idle - len(chosen)) if crate is chosen[0] else 1
+            ready.sort(key=lambda it: -it.behind)
+            while ready and (idle := most - sum(it.jobs for it in running)) > 0:
+                crate = ready.pop(0)
                 left.remove(crate)
+                jobs = jobs_for(crate, [*running, *left], len(ready), idle, most)
                 running.append(crate)
                 crate.begin(rooms.pop() if rooms else room_for(), jobs)
             for crate in [*running]:
