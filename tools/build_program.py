@@ -14,6 +14,7 @@ import contextlib
 import errno
 import fcntl
 import functools
+import glob
 import hashlib
 import os
 import re
@@ -32,8 +33,8 @@ PARTS = ("src", "specs", "proofs")
 ON_TERMINAL, ELSEWHERE = 0.5, 30
 # More processes than that don't help with one crate.
 MOST_JOBS = 4
-# What a check may take, in bytes of memory, and what a build leaves on the disk.
-MEMORY, DISK = 3_000_000_000, 3_000_000_000
+# What a check may take, in bytes of memory, and a build on the disk: 6 GB of it stay there.
+MEMORY, DISK = 3_000_000_000, 8_000_000_000
 LARGE_PAGES = "/sys/kernel/mm/transparent_hugepage/enabled"
 CHECKED = re.compile(rb"checked \S+, (\d+) of (\d+)")
 
@@ -161,11 +162,11 @@ class Room:
 
     def take(self, crate):
         """Takes what was proved out of the room."""
-        for part in ("rlib", "incremental"):
-            made, to = f"{self.path}/crates/{crate.name}/out/{part}", f"{crate.folder}/out/{part}"
-            if os.path.isdir(made):
-                shutil.rmtree(to, ignore_errors=True)
-                shutil.copytree(made, to, copy_function=link_or_copy)
+        made, to = f"{self.path}/crates/{crate.name}/out", f"{crate.folder}/out/rlib"
+        shutil.rmtree(to, ignore_errors=True)
+        shutil.copytree(f"{made}/rlib", to, copy_function=link_or_copy)
+        # no later build reads it, and it takes more room than the library
+        shutil.rmtree(f"{made}/incremental", ignore_errors=True)
         with open(f"{crate.folder}/out/proved", "w", encoding="ascii") as file:
             file.write(crate.key)
         self.laid.add(crate)
@@ -263,7 +264,8 @@ def end_of(crate):
         f"{crate.name} was not proved or not built. The end of {crate.log}:",
         *end,
         "liskevar: if a source was edited, mend it as the lines above say; if the machine ran out of memory or disk"
-        " (a build takes about 3 GB of each), free some; then run the same command again: what was proved is kept.",
+        " (a build takes about 3 GB of memory a processor, and 8 GB of disk), free some; then run the same command"
+        " again: what was proved is kept.",
     ])
 
 
@@ -328,7 +330,11 @@ def build():
     left = [it for it in libraries if not it.is_proved()]
     teller = Teller(len(every))
     teller.tell(len(libraries) - len(left), [], at_once=True)
-    with tempfile.TemporaryDirectory(prefix="liskevar-build-") as top, large_pages():
+    folder = os.path.dirname(BUILT)
+    for left_over in glob.glob(f"{folder}/rooms-*"):
+        shutil.rmtree(left_over, ignore_errors=True)
+    # on the disk of the sources, so that a library is linked and not copied
+    with tempfile.TemporaryDirectory(prefix="rooms-", dir=folder) as top, large_pages():
         number = iter(range(len(every)))
         try:
             prove(left, teller, len(libraries), lambda: Room(f"{top}/{next(number)}", libraries))
