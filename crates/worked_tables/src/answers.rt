@@ -4,7 +4,7 @@ ghost use Rattle.worked_tables.specs.Sides.{AreSides};
 
 use crate::cases::{Asked, CASES, Case};
 use crate::indexes::index_lines;
-use crate::joining::{slots_of_table, through_cross, through_table};
+use crate::joining::{members_of_table, slots_of_table, through_cross, through_table};
 use crate::placing::places_of_keys;
 use crate::sides::{Sides, join_at_root};
 use pipe_check::check_plan;
@@ -25,7 +25,9 @@ fn joined<H: KeyHasher>(
 {
     match asks {
         Asked::Slots => slots_of_table(alloc, sides, hasher),
-        Asked::Places => places_of_keys(alloc, sides),
+        Asked::Members => members_of_table(alloc, sides, hasher),
+        Asked::Places => places_of_keys(alloc, sides, false),
+        Asked::HalfPlaces => places_of_keys(alloc, sides, true),
         Asked::Pieces(0) => String::from_str(alloc, "pieces of no row"),
         Asked::Pieces(rows) => match sides.spec.how {
             JoinType::Cross => through_cross(alloc, sides, rows),

@@ -12,8 +12,12 @@ pub(crate) enum Asked {
     Pieces(u32),
     /// The index of the built side.
     Slots,
-    /// Where the rows of each built key stand in a build of two builds.
+    /// The numbers of the keys of the built side's one partition.
+    Members,
+    /// Where the rows of each built key stand in a build of two builds of all rows.
     Places,
+    /// Where they stand in a build of the first two rows and one of the others.
+    HalfPlaces,
 }
 
 /// A join and how it is worked out.
@@ -102,6 +106,8 @@ const ANTI_WITH_NULLS: WrittenJoin = WrittenJoin {
 };
 
 const ONE: &[WrittenColumn] = &[("k", INT, &["1"])];
+
+const ONE_TWO_TWO_THREE: &[WrittenColumn] = &[("k", INT, &["1", "2", "2", "3"])];
 
 const ONE_TWO: &[WrittenColumn] = &[("k", INT, &["1", "2"])];
 
@@ -294,5 +300,17 @@ pub(crate) const CASES: &[Case] = &[
         nodes: &[Scan(P_Q_R_S), Scan(ONE), Join(0, 1, WITH_NULLS)],
         asks: Asked::Places,
         hash: None,
+    },
+    Case {
+        shows: "places of keys in a build of two rows and one of two others",
+        nodes: &[Scan(ONE_TWO_TWO_THREE), Scan(ONE), Join(0, 1, INNER_ON_K)],
+        asks: Asked::HalfPlaces,
+        hash: None,
+    },
+    Case {
+        shows: "one partition of three keys of hash 0",
+        nodes: &[Scan(ONE_TWO_TWO_THREE), Scan(ONE), Join(0, 1, INNER_ON_K)],
+        asks: Asked::Members,
+        hash: Some(0),
     },
 ];

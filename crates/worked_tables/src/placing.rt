@@ -1,6 +1,6 @@
 //! Where the rows of keys stand in a build.
 
-ghost use Rattle.std.specs.Prelude.{◌≡◌, ◌≤◌, length};
+ghost use Rattle.std.specs.Prelude.{◌≡◌, ◌≤◌, length, IfOk};
 ghost use Rattle.pipe_table.specs.Spec.{IsSpec, built_schema};
 ghost use Rattle.worked_tables.specs.Sides.{AreSides};
 
@@ -16,22 +16,50 @@ use std::sync::Arc;
 /// More rows than a case has.
 const MOST_ROWS: usize = 1000;
 
-/// A build of a frame's rows, with those of another build, of the same frame.
-fn twice_built(
+/// A build of a frame's rows, with those of another build, of the other frame.
+fn build_of_two(
     alloc: Global,
     spec: Arc<JoinSpec>,
-    built: &DataFrame,
+    first: DataFrame,
+    second: DataFrame,
 ) -> Result<GenericBuild<Fnv>, AllocError>
     requires good { IsSpec spec.value }
-    requires schema { built.now.schema ≡ built_schema spec.value }
-    requires few { length built.now.rows ≤ 1000 }
+    requires first { first.schema ≡ built_schema spec.value }
+    requires second { second.schema ≡ built_schema spec.value }
+    requires few { length first.rows ≤ 1000 }
+    requires others { length second.rows ≤ 1000 }
 {
     let mut build = GenericBuild::new(alloc, spec, 0, 2, Fnv)?;
     let mut other = build.split(alloc, 1)?;
-    build.add_chunk(alloc, DataChunk::new(0, built.try_clone()?))?;
-    other.add_chunk(alloc, DataChunk::new(1, built.try_clone()?))?;
+    build.add_chunk(alloc, DataChunk::new(0, first))?;
+    other.add_chunk(alloc, DataChunk::new(1, second))?;
     build.combine(alloc, other)?;
     Ok(build)
+}
+
+/// The first two rows of a frame where it is cut and has as many, and else all.
+fn first_part(frame: &DataFrame, cut: bool) -> Result<DataFrame, AllocError>
+    ensures schema { IfOk result (λ part. part.schema ≡ frame.now.schema) }
+    ensures few { IfOk result (λ part. length part.rows ≤ length frame.now.rows) }
+{
+    if cut && frame.height() >= 2 {
+        let part = frame.slice(0, 2)?;
+        return Ok(part);
+    }
+    frame.try_clone()
+}
+
+/// The rows behind the first two where it is cut and has as many, and else all.
+fn second_part(frame: &DataFrame, cut: bool) -> Result<DataFrame, AllocError>
+    ensures schema { IfOk result (λ part. part.schema ≡ frame.now.schema) }
+    ensures few { IfOk result (λ part. length part.rows ≤ length frame.now.rows) }
+{
+    let height = frame.height();
+    if cut && height >= 2 {
+        let part = frame.slice(2, height - 2)?;
+        return Ok(part);
+    }
+    frame.try_clone()
 }
 
 /// The places of one key's rows.
@@ -67,8 +95,9 @@ fn all_places_text(
     Ok(text)
 }
 
-/// The places of the rows of each key of the built side, in two builds put together.
-pub(crate) fn places_of_keys(alloc: Global, sides: Sides) -> Result<String, AllocError>
+/// The places of the rows of each row's key of the built side, in two builds put together: one of its first two rows
+/// and one of the others where it is cut, and else two of all.
+pub(crate) fn places_of_keys(alloc: Global, sides: Sides, cut: bool) -> Result<String, AllocError>
     requires { AreSides sides }
 {
     let Sides { spec, left, right } = sides;
@@ -78,6 +107,8 @@ pub(crate) fn places_of_keys(alloc: Global, sides: Sides) -> Result<String, Allo
     }
     let chunk = DataChunk::new(0, built.try_clone()?);
     let keys = encode_keys(alloc, spec.built_keys(), &chunk)?;
-    let build = twice_built(alloc, Arc::new(alloc, spec)?, &built)?;
+    let first = first_part(&built, cut)?;
+    let second = second_part(&built, cut)?;
+    let build = build_of_two(alloc, Arc::new(alloc, spec)?, first, second)?;
     all_places_text(alloc, &build, &keys)
 }
