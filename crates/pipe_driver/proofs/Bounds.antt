@@ -1,7 +1,8 @@
 -- What came to a place is among what has to come there.
 use Rattle.std.proofs.Common.{ℕ, zero, suc, ◌<◌, ◌≤◌, List, [], ◌∷◌, ◌++◌, arith}
 use Rattle.pipe_frame.specs.Rows.{Row}
-use Rattle.pipe_frame.proofs.Weights.{total, total-append}
+use Rattle.pipe_frame.specs.Weights.{total}
+use Rattle.pipe_frame.proofs.Weights.{total-append}
 use Rattle.pipe_legs.specs.Meaning.{Meaning, Place, due}
 use Rattle.pipe_legs.specs.Ways.{brought, own_brings}
 use Rattle.pipe_legs.proofs.Totals.{comes_add, comes_same}

@@ -1,7 +1,8 @@
 -- What came to a place is among what has to come there.
 use Rattle.std.specs.Prelude.{ℕ, ◌<◌, ◌≤◌, List, ◌++◌, Bool}
 use Rattle.pipe_frame.specs.Rows.{Row}
-use Rattle.pipe_frame.proofs.Weights.{total, SameBag}
+use Rattle.pipe_frame.specs.Weights.{total}
+use Rattle.pipe_frame.proofs.Weights.{SameBag}
 use Rattle.pipe_legs.specs.Meaning.{Meaning, Place, due}
 use Rattle.pipe_legs.specs.Legs.{Way}
 use Rattle.pipe_driver.specs.State.{World, Counts, IsOpen, IsLeft}
