@@ -78,7 +78,7 @@ def differences():
                 yield f"{name}: status {row[0]} isn't told by its line: {row[1]}"
     table = {}
     for words, _, statuses in rows_under(formats, "| words | reads |"):
-        command = words.strip("`").split(" ")[0].lstrip("-") if words.startswith("`") else "other"
+        command = words.strip("`").split(" ")[0].replace("-", "") if words.startswith("`") else "other"
         table.setdefault(command, []).append([int(n) for n in statuses.split()])
     if table.pop("other", None) != [[1]]:
         yield "docs/FORMATS.md: other words don't end with 1"
@@ -93,7 +93,7 @@ def differences():
     told = [int(row.split()[0]) for row in shown if re.match(r" ?\d+  ", row)]
     if told != [0] + numbers:
         yield f"--help: statuses {told}, not {[0] + numbers}"
-    named = {row.split()[1].lstrip("-") for row in shown if row.startswith("liskevar ")}
+    named = {row.split()[1].replace("-", "") for row in shown if row.startswith("liskevar ")}
     if named != set(commands):
         yield f"--help: commands {sorted(named)}, not {sorted(commands)}"
 

@@ -1,6 +1,6 @@
 -- The contract of each command is a sound one, and holds the statuses of reading and writing.
 use Rattle.std.proofs.Common.{◌≡◌, ℕ, false, List, [], ◌∷◌, Option, Some, None, refl}
-use Rattle.pipe_cli.specs.Commands.{Request, Run, Check, Explain, SelfTest, Reconcile, Help, Version, Stream, contract_of, source_of}
+use Rattle.pipe_cli.specs.Commands.{Request, Run, Check, Explain, SelfTest, Reconcile, ReplayEdits, Help, Version, Stream, contract_of, source_of}
 use Rattle.pipe_cli.specs.Commands.CheckCommand.{ok_text}
 use Rattle.pipe_cli.specs.Commands.HelpCommand.{help_text}
 use Rattle.pipe_cli.specs.Commands.VersionCommand.{version_text}
@@ -9,6 +9,7 @@ use Rattle.pipe_cli.specs.Jobs.{branch_lines}
 use Rattle.pipe_cli.specs.Status.{OneOf}
 use Rattle.pipe_cli.proofs.JobLemmas.{looks_lawful, run_lawful, stream_lawful}
 use Rattle.pipe_cli.proofs.ReconLemmas.{reconcile_lawful}
+use Rattle.pipe_cli.proofs.ReplayLemmas.{replay_lawful}
 use Rattle.pipe_cli.proofs.RuleLemmas.{among}
 use Rattle.pipe_cli.proofs.TestLemmas.{selftest_lawful, writes_lawful}
 
@@ -18,6 +19,7 @@ lawful Check = looks_lawful (λ job text. text ≡ ok_text)
 lawful Explain = looks_lawful (λ job text. text ≡ branch_lines job)
 lawful (SelfTest start rows) = selftest_lawful start rows
 lawful Reconcile = reconcile_lawful
+lawful ReplayEdits = replay_lawful
 lawful Help = writes_lawful help_text
 lawful Version = writes_lawful version_text
 lawful Stream = stream_lawful

@@ -4,6 +4,7 @@ pub mod CheckCommand
 pub mod ExplainCommand
 pub mod SelfTestCommand
 pub mod ReconcileCommand
+pub mod ReplayEditsCommand
 pub mod HelpCommand
 pub mod VersionCommand
 pub mod StreamCommand
@@ -18,6 +19,7 @@ use Rattle.pipe_cli.specs.Commands.CheckCommand.{check}
 use Rattle.pipe_cli.specs.Commands.ExplainCommand.{explain}
 use Rattle.pipe_cli.specs.Commands.SelfTestCommand.{selftest}
 use Rattle.pipe_cli.specs.Commands.ReconcileCommand.{reconcile}
+use Rattle.pipe_cli.specs.Commands.ReplayEditsCommand.{replay_edits}
 use Rattle.pipe_cli.specs.Commands.HelpCommand.{help}
 use Rattle.pipe_cli.specs.Commands.VersionCommand.{version}
 use Rattle.pipe_cli.specs.Commands.StreamCommand.{stream}
@@ -31,6 +33,7 @@ pub data Request : Type 0 where
   Explain : Request
   SelfTest : (start rows : ℕ) → Request
   Reconcile : Request
+  ReplayEdits : Request
   Help : Request
   Version : Request
   Stream : Request
@@ -42,6 +45,7 @@ contract_of Check = check
 contract_of Explain = explain
 contract_of (SelfTest start rows) = selftest start rows
 contract_of Reconcile = reconcile
+contract_of ReplayEdits = replay_edits
 contract_of Help = help
 contract_of Version = version
 contract_of Stream = stream
@@ -53,6 +57,7 @@ source_of Check = Standard
 source_of Explain = Standard
 source_of (SelfTest start rows) = Nowhere
 source_of Reconcile = Standard
+source_of ReplayEdits = Standard
 source_of Help = Nowhere
 source_of Version = Nowhere
 source_of Stream = Standard
@@ -64,6 +69,7 @@ word_request word =
     else if bytes_eq word (codes "check") then Some Check
     else if bytes_eq word (codes "explain") then Some Explain
     else if bytes_eq word (codes "reconcile") then Some Reconcile
+    else if bytes_eq word (codes "replay-edits") then Some ReplayEdits
     else if bytes_eq word (codes "--help") then Some Help
     else if bytes_eq word (codes "--version") then Some Version
     else None
@@ -98,6 +104,7 @@ request_of command.Check = Check
 request_of command.Explain = Explain
 request_of (command.SelfTest start rows) = SelfTest start rows
 request_of command.Reconcile = Reconcile
+request_of command.ReplayEdits = ReplayEdits
 request_of command.Help = Help
 request_of command.Version = Version
 
@@ -108,5 +115,6 @@ HasGoodRows command.Check = ⊤
 HasGoodRows command.Explain = ⊤
 HasGoodRows (command.SelfTest start rows) = (1 ≤ rows) × (rows ≤ 1000000)
 HasGoodRows command.Reconcile = ⊤
+HasGoodRows command.ReplayEdits = ⊤
 HasGoodRows command.Help = ⊤
 HasGoodRows command.Version = ⊤

@@ -8,6 +8,8 @@ pub mod Contract
 pub mod Jobs
 -- reconciliations
 pub mod Recons
+-- views and their edits
+pub mod Replays
 -- commands that read nothing
 pub mod NoInputs
 -- the commands, each with its contract in a file of its own

@@ -16,6 +16,7 @@ mod check;
 mod explain;
 mod help;
 mod reconcile;
+mod replay_edits;
 mod run;
 mod selftest;
 mod version;
@@ -24,6 +25,7 @@ use self::check::check;
 use self::explain::explain;
 use self::help::help_text;
 use self::reconcile::reconcile;
+use self::replay_edits::replay_edits;
 pub(crate) use self::run::frame_of;
 use self::run::run;
 use self::selftest::selftest;
@@ -50,6 +52,8 @@ pub enum Command<'a> {
     SelfTest(u64, u32),
     /// `reconcile`: the two tables on standard input are reconciled.
     Reconcile,
+    /// `replay-edits`: a join on standard input is kept while its tables are edited.
+    ReplayEdits,
     /// `--help`: a text tells what the program does.
     Help,
     /// `--version`: the name and the version are told.
@@ -76,6 +80,7 @@ pub fn command_of(words: &[Text]) -> Option<Command<'_>>
             "check" => Some(Command::Check),
             "explain" => Some(Command::Explain),
             "reconcile" => Some(Command::Reconcile),
+            "replay-edits" => Some(Command::ReplayEdits),
             "--help" => Some(Command::Help),
             "--version" => Some(Command::Version),
             _ => None,
@@ -112,7 +117,9 @@ pub(crate) fn input_of<R: JobReader>(
 {
     match command {
         Command::Run(name) => bytes_at(alloc, name, input),
-        Command::Check | Command::Explain | Command::Reconcile => bytes_left(alloc, input),
+        Command::Check | Command::Explain | Command::Reconcile | Command::ReplayEdits => {
+            bytes_left(alloc, input)
+        }
         Command::SelfTest(..) | Command::Help | Command::Version => Ok(Vec::new(alloc)),
     }
 }
@@ -146,6 +153,7 @@ pub(crate) fn answer_of<T: Threads + Sync, C: StopCheck, G: Gate + Sync>(
         Command::Explain => explain(alloc, bytes),
         Command::SelfTest(start, rows) => selftest(rt, alloc, start, rows, stop, gate),
         Command::Reconcile => reconcile(rt, alloc, bytes, stop, gate),
+        Command::ReplayEdits => replay_edits(alloc, bytes),
         Command::Help => Ok(Answer::Fixed(help_text())),
         Command::Version => Ok(Answer::Fixed(version_text())),
     }

@@ -12,6 +12,7 @@ mod laws;
 mod program;
 mod recons;
 mod refused;
+mod replays;
 mod status;
 mod stream;
 mod streams;
