@@ -1,9 +1,10 @@
 -- The contract of each command is a sound one, and holds the statuses of reading and writing.
 use Rattle.std.proofs.Common.{◌≡◌, ℕ, false, List, [], ◌∷◌, Option, Some, None, refl}
-use Rattle.pipe_cli.specs.Commands.{Request, Run, Check, Explain, SelfTest, Reconcile, ReplayEdits, Help, Version, Stream, contract_of, source_of}
+use Rattle.pipe_cli.specs.Commands.{Request, Run, Check, Explain, SelfTest, Reconcile, ReplayEdits, Help, Version, Stream, Why, contract_of, source_of}
 use Rattle.pipe_cli.specs.Commands.CheckCommand.{ok_text}
 use Rattle.pipe_cli.specs.Commands.HelpCommand.{help_text}
 use Rattle.pipe_cli.specs.Commands.VersionCommand.{version_text}
+use Rattle.pipe_cli.specs.Commands.WhyCommand.{IsGoodText}
 use Rattle.pipe_cli.specs.Contract.{IsLawful}
 use Rattle.pipe_cli.specs.Jobs.{branch_lines}
 use Rattle.pipe_cli.specs.Status.{OneOf}
@@ -23,6 +24,7 @@ lawful ReplayEdits = replay_lawful
 lawful Help = writes_lawful help_text
 lawful Version = writes_lawful version_text
 lawful Stream = stream_lawful
+lawful (Why name) = looks_lawful (λ job text. IsGoodText text)
 
 pub may_write : (asked : Request) → OneOf (contract_of asked).statuses 9
 may_write asked = (lawful asked).writes

@@ -30,7 +30,7 @@ settled refusal.Stopped told out written k = (written, k)
 settled refusal.WriteFault told out written k = (written, k)
 settled refusal.Memory told out written k = (out, refl)
 
-read_failed : (r : Refusal) (told : Option (List ℕ)) (input now : InputSeen) → OfReading r told input now → status_of r ≡ 2 → ReadFails input now
+pub read_failed : (r : Refusal) (told : Option (List ℕ)) (input now : InputSeen) → OfReading r told input now → status_of r ≡ 2 → ReadFails input now
 read_failed refusal.BadWords told input now d e = absurd (omega (arith, e))
 read_failed refusal.ReadFault told input now d e = d
 read_failed refusal.TooLong told input now d e = absurd (omega (arith, e))
@@ -42,7 +42,7 @@ read_failed refusal.Stopped told input now d e = absurd (omega (arith, e))
 read_failed refusal.WriteFault told input now d e = absurd (omega (arith, e))
 read_failed refusal.Memory told input now d e = absurd (omega (arith, e))
 
-was_long : (r : Refusal) (told : Option (List ℕ)) (input now : InputSeen) → OfReading r told input now → status_of r ≡ 3 → IsLongOn told input now
+pub was_long : (r : Refusal) (told : Option (List ℕ)) (input now : InputSeen) → OfReading r told input now → status_of r ≡ 3 → IsLongOn told input now
 was_long refusal.BadWords told input now d e = absurd (omega (arith, e))
 was_long refusal.ReadFault told input now d e = absurd (omega (arith, e))
 was_long refusal.TooLong told input now d e = d

@@ -11,7 +11,7 @@ use Rattle.pipe_cli.specs.Sources.{HasAll, IsTakenInPart, IsTooMany, IsWhole, Op
 use Rattle.pipe_cli.specs.declared.status.Refusal.{Refusal}
 use Rattle.pipe_cli.specs.declared.status.Refusal.TheVariants as refusal
 
-all_is_front : (text : List ℕ) (first now : OutputSeen) → Writes text first now → WritesFront text first now
+pub all_is_front : (text : List ℕ) (first now : OutputSeen) → Writes text first now → WritesFront text first now
 all_is_front text first now h = (length text, rw (take-length text) h)
 
 -- a line that was handed to a writer is noted

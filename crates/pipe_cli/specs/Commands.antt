@@ -8,6 +8,7 @@ pub mod ReplayEditsCommand
 pub mod HelpCommand
 pub mod VersionCommand
 pub mod StreamCommand
+pub mod WhyCommand
 use Rattle.std.specs.Prelude.{ℕ, ◌≡◌, ◌≤◌, List, [], ◌∷◌, codes, Bool, true, false, Option, Some, None, ⊤, if◌then◌else◌}
 use Rattle.std.specs.Option.{option_copied}
 use Rattle.std.specs.Str.{bytes_eq}
@@ -23,10 +24,11 @@ use Rattle.pipe_cli.specs.Commands.ReplayEditsCommand.{replay_edits}
 use Rattle.pipe_cli.specs.Commands.HelpCommand.{help}
 use Rattle.pipe_cli.specs.Commands.VersionCommand.{version}
 use Rattle.pipe_cli.specs.Commands.StreamCommand.{stream}
+use Rattle.pipe_cli.specs.Commands.WhyCommand.{why}
 use Rattle.pipe_cli.specs.declared.commands.Command.{Command}
 use Rattle.pipe_cli.specs.declared.commands.Command.TheVariants as command
 
--- what is asked for; a stream is asked of `run_words` alone
+-- what is asked for; a stream, and why a job can't be run, are asked of `run_words` alone
 pub data Request : Type 0 where
   Run : (name : Option (List ℕ)) → Request
   Check : Request
@@ -37,6 +39,7 @@ pub data Request : Type 0 where
   Help : Request
   Version : Request
   Stream : Request
+  Why : (name : Option (List ℕ)) → Request
 
 -- what it promises
 abbrev pub contract_of : Request → Contract
@@ -49,6 +52,7 @@ contract_of ReplayEdits = replay_edits
 contract_of Help = help
 contract_of Version = version
 contract_of Stream = stream
+contract_of (Why name) = why
 
 -- where its input stands
 abbrev pub source_of : Request → Source
@@ -61,6 +65,7 @@ source_of ReplayEdits = Standard
 source_of Help = Nowhere
 source_of Version = Nowhere
 source_of Stream = Standard
+source_of (Why name) = standard_or name
 
 -- the request of one word
 abbrev pub word_request : List ℕ → Option Request

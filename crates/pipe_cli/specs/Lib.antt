@@ -20,5 +20,7 @@ pub mod Refused
 pub mod Outcome
 -- what a run says of a stream, and of other words
 pub mod Streams
+-- what a run says of `why`
+pub mod Whys
 -- the text of an answer
 pub mod Answers

@@ -1,6 +1,6 @@
 //! The outside and the top call.
 //!
-//! The one contract of this crate is that of `run_program`, which `run_words` carries for all words but `stream`: where it answers 0, the input was read to its end, and
+//! The one contract of this crate is that of `run_program`, which `run_words` carries for all words but `stream` and `why`: where it answers 0, the input was read to its end, and
 //! what was written is the answer to it; every other status has its cause as a clause. What a command adds to that
 //! is one record, in a file of its own.
 #![tactic(auto)]
@@ -16,6 +16,7 @@ mod replays;
 mod status;
 mod stream;
 mod streams;
+mod why;
 mod words;
 
 pub use commands::{Command, command_of};

@@ -1,0 +1,109 @@
+//! Nodes in words.
+
+use pipe_expr::FunctionIR;
+use pipe_plan::{Arena, IR};
+use std::alloc::{AllocError, Global};
+use std::fmt::Write;
+
+/// The word of a node's kind.
+pub(crate) fn kind_word(node: &IR) -> &'static str {
+    match node {
+        IR::DataFrameScan {
+            frame: _,
+            columns: _,
+        } => "DataFrameScan",
+        IR::Filter {
+            input: _,
+            predicate: _,
+        } => "Filter",
+        IR::SimpleProjection {
+            input: _,
+            columns: _,
+        } => "SimpleProjection",
+        IR::Select { input: _, exprs: _ } => "Select",
+        IR::HStack { input: _, exprs: _ } => "HStack",
+        IR::MapFunction { input: _, function } => match function {
+            FunctionIR::Unpivot {
+                on: _,
+                index: _,
+                variable: _,
+                value: _,
+            } => "Unpivot",
+            FunctionIR::Rename { pairs: _ } => "Rename",
+        },
+        IR::Union { inputs: _ } => "Union",
+        IR::Join {
+            left: _,
+            right: _,
+            left_on: _,
+            right_on: _,
+            options: _,
+        } => "Join",
+        IR::Sort {
+            input: _,
+            by: _,
+            options: _,
+        } => "Sort",
+    }
+}
+
+/// Appends a node's number and kind.
+pub(crate) fn push_node(out: &mut String, arena: &Arena, n: u32) -> Result<(), AllocError> {
+    write!(out, "node {n}")?;
+    match arena.nodes.as_slice().get(n as usize) {
+        Some(node) => write!(out, ", a {}", kind_word(node)),
+        None => Ok(()),
+    }
+}
+
+/// The numbers of the nodes that a node reads.
+pub(crate) fn numbers_read(alloc: Global, node: &IR) -> Result<Vec<u32>, AllocError> {
+    match node {
+        IR::DataFrameScan {
+            frame: _,
+            columns: _,
+        } => Ok(Vec::new(alloc)),
+        IR::Filter {
+            input,
+            predicate: _,
+        }
+        | IR::SimpleProjection { input, columns: _ }
+        | IR::Select { input, exprs: _ }
+        | IR::HStack { input, exprs: _ }
+        | IR::MapFunction { input, function: _ }
+        | IR::Sort {
+            input,
+            by: _,
+            options: _,
+        } => Ok(vec![in alloc; *input]?),
+        IR::Union { inputs } => Ok(inputs.as_slice().to_vec(alloc)?),
+        IR::Join {
+            left,
+            right,
+            left_on: _,
+            right_on: _,
+            options: _,
+        } => Ok(vec![in alloc; *left, *right]?),
+    }
+}
+
+/// Which nodes are under a root: it, and what each of them reads that is smaller.
+pub(crate) fn under(alloc: Global, nodes: &[IR], root: u32) -> Result<Vec<bool>, AllocError> {
+    let mut marks = vec![in alloc; false; nodes.len()]?;
+    if let Some(mark) = marks.get_mut(root as usize) {
+        *mark = true;
+    }
+    for (n, node) in nodes.iter().enumerate().rev() {
+        if marks.as_slice().get(n) != Some(&true) {
+            continue;
+        }
+        for input in numbers_read(alloc, node)? {
+            if (input as usize) < n {
+                if let Some(mark) = marks.get_mut(input as usize) {
+                    *mark = true;
+                }
+            }
+        }
+    }
+    Ok(marks)
+}

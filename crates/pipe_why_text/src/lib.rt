@@ -1,0 +1,17 @@
+//! What is told of bytes that are no JSON text: where reading stops, what might have stood there, and what does. And the
+//! parts of sentences that are told of jobs.
+#![tactic(auto)]
+
+mod bad_text;
+mod near;
+mod place;
+mod reading_stop;
+mod string_stop;
+mod words;
+
+pub use bad_text::bad_json;
+pub use near::{distance, is_near, nearest};
+pub use place::push_place;
+pub use words::{
+    push_count, push_field, push_fields, push_name, push_quoted, push_words, type_word,
+};

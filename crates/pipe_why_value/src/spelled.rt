@@ -1,0 +1,158 @@
+//! Whether a value spells what is wanted of it, by the reader of jobs.
+
+ghost use Rattle.std.specs.Prelude.{◌≡◌, false, is_some, IfOk};
+ghost use Rattle.serde_json.specs.Find.{as_array};
+ghost use Rattle.pipe_value.specs.View.{view};
+ghost use Rattle.pipe_job.specs.Kinds.{is_version};
+ghost use Rattle.pipe_job.specs.Shape.{is_cell, is_couple};
+ghost use Rattle.pipe_why_value.specs.Wanted.{is_wanted};
+
+use crate::want::Want;
+use pipe_expr::{Expr, JoinCoalesce, JoinType, NamedExpr, RenamePair};
+use pipe_frame::{Bytes, DataFrame, DataType, List, Series, Text};
+use pipe_job::{Misread, Spelled, two_items};
+use pipe_plan::{IR, PlanSlice, RowsHint};
+use pipe_value::Value;
+use std::alloc::{AllocError, Global};
+
+/// Whether a value is read as a `T`.
+fn is_read<T: Spelled>(alloc: Global, value: &Value) -> Result<bool, AllocError>
+    ensures { IfOk result (λ read. read ≡ false → T.shape (view value.now) ≡ false) }
+{
+    match T::read(alloc, value) {
+        Ok(read) => {
+            drop(read);
+            Ok(true)
+        }
+        Err(Misread::Other) => Ok(false),
+        Err(Misread::Memory) => Err(AllocError),
+    }
+}
+
+/// Whether a value is a cell of a type.
+pub(crate) fn is_cell(alloc: Global, dtype: DataType, value: &Value) -> Result<bool, AllocError>
+    ensures { IfOk result (λ holds. holds ≡ false → is_cell dtype (view value.now) ≡ false) }
+{
+    match dtype {
+        DataType::Int32 => is_read::<Option<i32>>(alloc, value),
+        DataType::Int64 => is_read::<Option<i64>>(alloc, value),
+        DataType::UInt32 => is_read::<Option<u32>>(alloc, value),
+        DataType::UInt64 => is_read::<Option<u64>>(alloc, value),
+        DataType::Boolean => is_read::<Option<bool>>(alloc, value),
+        DataType::String => is_read::<Option<Text>>(alloc, value),
+        DataType::Binary => is_read::<Option<Bytes>>(alloc, value),
+        DataType::Int128 => is_read::<Option<i128>>(alloc, value),
+    }
+}
+
+/// Whether a value is the word of a kind of nodes.
+fn is_kind(value: &Value) -> bool
+    ensures { result ≡ false → is_wanted Want.Kind (view value.now) ≡ false }
+{
+    match value.as_str() {
+        Some("DataFrameScan") => true,
+        Some("Filter") => true,
+        Some("SimpleProjection") => true,
+        Some("Select") => true,
+        Some("HStack") => true,
+        Some("Unpivot") => true,
+        Some("Rename") => true,
+        Some("Union") => true,
+        Some("Join") => true,
+        Some("Sort") => true,
+        _ => false,
+    }
+}
+
+/// Whether a value is the number of a version.
+fn is_version(value: &Value) -> bool
+    ensures { result ≡ false → is_version (view value.now) ≡ false }
+{
+    match value.as_u64() {
+        Some(1) => true,
+        Some(2) => true,
+        _ => false,
+    }
+}
+
+/// Whether a value is an object.
+fn is_object(value: &Value) -> bool
+    ensures { result ≡ false → is_wanted Want.Job (view value.now) ≡ false }
+{
+    matches!(value, Value::Object(_))
+}
+
+/// Whether a value is an array of two.
+fn is_couple(alloc: Global, value: &Value) -> Result<bool, AllocError>
+    ensures { IfOk result (λ holds. holds ≡ false → is_couple (view value.now) ≡ false) }
+{
+    match two_items(alloc, value) {
+        Ok(_) => Ok(true),
+        Err(Misread::Other) => Ok(false),
+        Err(Misread::Memory) => Err(AllocError),
+    }
+}
+
+/// Whether a value is an array.
+fn is_array(value: &Value) -> Result<bool, AllocError>
+    ensures { IfOk result (λ holds. holds ≡ false → is_some (as_array (view value.now)) ≡ false) }
+{
+    match value.array_len()? {
+        Some(_) => Ok(true),
+        None => Ok(false),
+    }
+}
+
+/// Whether a value spells what is wanted, of objects and arrays.
+fn is_part_spelled(alloc: Global, want: Want, value: &Value) -> Result<bool, AllocError>
+    ensures { IfOk result (λ holds. holds ≡ false → is_wanted want (view value.now) ≡ false) }
+{
+    match want {
+        Want::Texts => is_read::<List<Text>>(alloc, value),
+        Want::MaybeTexts => is_read::<Option<List<Text>>>(alloc, value),
+        Want::Truths => is_read::<List<bool>>(alloc, value),
+        Want::Numbers => is_read::<List<u32>>(alloc, value),
+        Want::Hint => is_read::<RowsHint>(alloc, value),
+        Want::Slice => is_read::<Option<PlanSlice>>(alloc, value),
+        Want::Expr => is_read::<Expr>(alloc, value),
+        Want::Exprs => is_read::<List<Expr>>(alloc, value),
+        Want::NamedExpr => is_read::<NamedExpr>(alloc, value),
+        Want::NamedExprs => is_read::<List<NamedExpr>>(alloc, value),
+        Want::Pair => is_read::<RenamePair>(alloc, value),
+        Want::Pairs => is_read::<List<RenamePair>>(alloc, value),
+        Want::Node => is_read::<IR>(alloc, value),
+        Want::Nodes => is_read::<List<IR>>(alloc, value),
+        Want::Column => is_read::<Series>(alloc, value),
+        Want::Columns => is_read::<List<Series>>(alloc, value),
+        Want::Frame => is_read::<DataFrame>(alloc, value),
+        Want::Frames => is_read::<List<DataFrame>>(alloc, value),
+        Want::Sides => is_couple(alloc, value),
+        Want::Cells(_) => is_array(value),
+        Want::Job | Want::Reconciliation | Want::Literal => Ok(is_object(value)),
+        Want::Version | Want::Kind | Want::Whole32 | Want::Whole64 | Want::MaybeWhole64 => Ok(true),
+        Want::Signed64 | Want::Truth | Want::Text | Want::Type | Want::How => Ok(true),
+        Want::Coalesce | Want::Cell(_) => Ok(true),
+    }
+}
+
+/// Whether a value spells what is wanted. Of what has no reader of its own, as the two sides of an operator, only its
+/// outermost form is looked at.
+pub(crate) fn is_spelled(alloc: Global, want: Want, value: &Value) -> Result<bool, AllocError>
+    ensures { IfOk result (λ holds. holds ≡ false → is_wanted want (view value.now) ≡ false) }
+{
+    match want {
+        Want::Version => Ok(is_version(value)),
+        Want::Kind => Ok(is_kind(value)),
+        Want::Whole32 => is_read::<u32>(alloc, value),
+        Want::Whole64 => is_read::<u64>(alloc, value),
+        Want::MaybeWhole64 => is_read::<Option<u64>>(alloc, value),
+        Want::Signed64 => is_read::<i64>(alloc, value),
+        Want::Truth => is_read::<bool>(alloc, value),
+        Want::Text => is_read::<Text>(alloc, value),
+        Want::Type => is_read::<DataType>(alloc, value),
+        Want::How => is_read::<JoinType>(alloc, value),
+        Want::Coalesce => is_read::<JoinCoalesce>(alloc, value),
+        Want::Cell(dtype) => is_cell(alloc, dtype, value),
+        _ => is_part_spelled(alloc, want, value),
+    }
+}

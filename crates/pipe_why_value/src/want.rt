@@ -1,0 +1,290 @@
+//! What may stand at a place of a job: one of these for each part of its spelling.
+
+use pipe_frame::DataType;
+
+/// What may stand at a place.
+#[derive(Clone, Copy, Debug, PartialEq, Eq)]
+pub(crate) enum Want {
+    Job,
+    Version,
+    Whole32,
+    Whole64,
+    MaybeWhole64,
+    Signed64,
+    Truth,
+    Text,
+    Frames,
+    Frame,
+    Columns,
+    Column,
+    Type,
+    Cells(DataType),
+    Cell(DataType),
+    Nodes,
+    Node,
+    /// The word of a node's kind.
+    Kind,
+    How,
+    Coalesce,
+    /// A known size and an estimate.
+    Hint,
+    /// Null, or an offset and a length.
+    Slice,
+    Texts,
+    MaybeTexts,
+    Truths,
+    Numbers,
+    Expr,
+    /// The two sides of an operator.
+    Sides,
+    Literal,
+    Exprs,
+    NamedExpr,
+    NamedExprs,
+    Pair,
+    Pairs,
+    /// Two tables, a key and the numbers of a run.
+    Reconciliation,
+}
+
+/// The name of a member, and what its value may be.
+pub(crate) type Member = (&'static str, Want);
+
+/// The words of the kinds of nodes.
+pub(crate) const KINDS: &[&str] = &[
+    "DataFrameScan",
+    "Filter",
+    "SimpleProjection",
+    "Select",
+    "HStack",
+    "Unpivot",
+    "Rename",
+    "Union",
+    "Join",
+    "Sort",
+];
+
+/// The words of the kinds of joins.
+pub(crate) const HOWS: &[&str] = &["inner", "left", "full", "cross", "semi", "anti"];
+
+/// The words of what becomes of key columns.
+pub(crate) const COALESCES: &[&str] = &["JoinSpecific", "CoalesceColumns", "KeepColumns"];
+
+/// The words of types.
+pub(crate) const TYPES: &[&str] = &[
+    "Int32", "Int64", "UInt32", "UInt64", "Boolean", "String", "Binary", "Int128",
+];
+
+/// The names of the one member of an expression.
+pub(crate) const FORMS: &[&str] = &[
+    "col",
+    "lit",
+    "add",
+    "sub",
+    "mul",
+    "eq",
+    "not_eq",
+    "lt",
+    "lt_eq",
+    "gt",
+    "gt_eq",
+    "and",
+    "or",
+    "not",
+    "is_null",
+    "is_not_null",
+];
+
+const JOB: &[Member] = &[
+    ("version", Want::Version),
+    ("workers", Want::Whole32),
+    ("chunk_rows", Want::Whole32),
+    ("row_limit", Want::Whole32),
+    ("frames", Want::Frames),
+    ("plan", Want::Nodes),
+    ("root", Want::Whole32),
+];
+
+const RECONCILIATION: &[Member] = &[
+    ("version", Want::Version),
+    ("workers", Want::Whole32),
+    ("chunk_rows", Want::Whole32),
+    ("row_limit", Want::Whole32),
+    ("frames", Want::Frames),
+    ("on", Want::Texts),
+    ("join_nulls", Want::Truth),
+];
+
+const FRAME: &[Member] = &[("columns", Want::Columns)];
+
+const LITERAL: &[Member] = &[("type", Want::Type), ("value", Want::Cell(DataType::Int64))];
+
+const NAMED_EXPR: &[Member] = &[("name", Want::Text), ("expr", Want::Expr)];
+
+const PAIR: &[Member] = &[("existing", Want::Text), ("new", Want::Text)];
+
+const COLUMN: &[Member] = &[
+    ("name", Want::Text),
+    ("type", Want::Type),
+    ("values", Want::Cells(DataType::Int64)),
+];
+
+const SCAN: &[Member] = &[
+    ("node", Want::Kind),
+    ("frame", Want::Whole32),
+    ("columns", Want::MaybeTexts),
+];
+
+const FILTER: &[Member] = &[
+    ("node", Want::Kind),
+    ("input", Want::Whole32),
+    ("predicate", Want::Expr),
+];
+
+const PROJECTION: &[Member] = &[
+    ("node", Want::Kind),
+    ("input", Want::Whole32),
+    ("columns", Want::Texts),
+];
+
+const EXPRS: &[Member] = &[
+    ("node", Want::Kind),
+    ("input", Want::Whole32),
+    ("exprs", Want::NamedExprs),
+];
+
+const UNPIVOT: &[Member] = &[
+    ("node", Want::Kind),
+    ("input", Want::Whole32),
+    ("on", Want::Texts),
+    ("index", Want::Texts),
+    ("variable", Want::Text),
+    ("value", Want::Text),
+];
+
+const RENAME: &[Member] = &[
+    ("node", Want::Kind),
+    ("input", Want::Whole32),
+    ("pairs", Want::Pairs),
+];
+
+const UNION: &[Member] = &[("node", Want::Kind), ("inputs", Want::Numbers)];
+
+const JOIN: &[Member] = &[
+    ("node", Want::Kind),
+    ("left", Want::Whole32),
+    ("right", Want::Whole32),
+    ("left_on", Want::Exprs),
+    ("right_on", Want::Exprs),
+    ("how", Want::How),
+    ("join_nulls", Want::Truth),
+    ("coalesce", Want::Coalesce),
+    ("suffix", Want::Text),
+    ("rows_left", Want::Hint),
+    ("rows_right", Want::Hint),
+];
+
+const SORT: &[Member] = &[
+    ("node", Want::Kind),
+    ("input", Want::Whole32),
+    ("by", Want::Texts),
+    ("descending", Want::Truths),
+    ("nulls_last", Want::Truths),
+    ("slice", Want::Slice),
+];
+
+/// The members of a node of this kind, the word of the kind alone where it is none.
+pub(crate) fn node_members(kind: &str) -> &'static [Member] {
+    match kind {
+        "DataFrameScan" => SCAN,
+        "Filter" => FILTER,
+        "SimpleProjection" => PROJECTION,
+        "Select" => EXPRS,
+        "HStack" => EXPRS,
+        "Unpivot" => UNPIVOT,
+        "Rename" => RENAME,
+        "Union" => UNION,
+        "Join" => JOIN,
+        "Sort" => SORT,
+        _ => &[("node", Want::Kind)],
+    }
+}
+
+/// The members of an object that isn't a node or an expression, none of what is no object.
+pub(crate) fn object_members(want: Want) -> &'static [Member] {
+    match want {
+        Want::Job => JOB,
+        Want::Reconciliation => RECONCILIATION,
+        Want::Frame => FRAME,
+        Want::Column => COLUMN,
+        Want::Literal => LITERAL,
+        Want::NamedExpr => NAMED_EXPR,
+        Want::Pair => PAIR,
+        _ => &[],
+    }
+}
+
+/// What an expression's one member of this name may be.
+pub(crate) fn form(name: &str) -> Option<Want> {
+    match name {
+        "col" => Some(Want::Text),
+        "lit" => Some(Want::Literal),
+        "not" => Some(Want::Expr),
+        "is_null" => Some(Want::Expr),
+        "is_not_null" => Some(Want::Expr),
+        "add" => Some(Want::Sides),
+        "sub" => Some(Want::Sides),
+        "mul" => Some(Want::Sides),
+        "eq" => Some(Want::Sides),
+        "not_eq" => Some(Want::Sides),
+        "lt" => Some(Want::Sides),
+        "lt_eq" => Some(Want::Sides),
+        "gt" => Some(Want::Sides),
+        "gt_eq" => Some(Want::Sides),
+        "and" => Some(Want::Sides),
+        "or" => Some(Want::Sides),
+        _ => None,
+    }
+}
+
+/// What each item of a list may be, none of what is no list.
+pub(crate) fn item_want(want: Want) -> Option<Want> {
+    match want {
+        Want::Frames => Some(Want::Frame),
+        Want::Columns => Some(Want::Column),
+        Want::Cells(dtype) => Some(Want::Cell(dtype)),
+        Want::Nodes => Some(Want::Node),
+        Want::Texts | Want::MaybeTexts => Some(Want::Text),
+        Want::Truths => Some(Want::Truth),
+        Want::Numbers => Some(Want::Whole32),
+        Want::Exprs => Some(Want::Expr),
+        Want::NamedExprs => Some(Want::NamedExpr),
+        Want::Pairs => Some(Want::Pair),
+        _ => None,
+    }
+}
+
+/// What the two items of an array of two may be, none of what is no such array.
+pub(crate) fn couple_wants(want: Want) -> Option<(Want, Want)> {
+    match want {
+        Want::Sides => Some((Want::Expr, Want::Expr)),
+        Want::Hint => Some((Want::MaybeWhole64, Want::Whole64)),
+        Want::Slice => Some((Want::Signed64, Want::Whole64)),
+        _ => None,
+    }
+}
+
+/// The type of a word.
+pub(crate) fn type_named(word: &str) -> Option<DataType> {
+    match word {
+        "Int32" => Some(DataType::Int32),
+        "Int64" => Some(DataType::Int64),
+        "UInt32" => Some(DataType::UInt32),
+        "UInt64" => Some(DataType::UInt64),
+        "Boolean" => Some(DataType::Boolean),
+        "String" => Some(DataType::String),
+        "Binary" => Some(DataType::Binary),
+        "Int128" => Some(DataType::Int128),
+        _ => None,
+    }
+}
