@@ -7,7 +7,7 @@ Parts: `random`: random edits over two tables under a left join, beside dictiona
 SQLite in memory (which makes the join anew after each thousand edits, and tells nothing of an edit). `sizes`: what an
 edit costs at 1,000 to 1,000,000 rows a table: the time with edits less the time without, by the number of edits.
 `colliding`: 100,000 inserts of distinct keys on each side, first of keys drawn at random and then of keys that have one
-hash under FNV-1a (colliding.py). Times are seconds of whole processes, from start to end, in turns.
+hash under FNV-1a (bench/hostile_jobs/colliding.py). Times are seconds of whole processes, from start to end, in turns.
 """
 
 import argparse
@@ -22,10 +22,12 @@ import tempfile
 import time
 from pathlib import Path
 
-import colliding
-
 HERE = Path(__file__).resolve().parent
 TOP = HERE.parent.parent
+sys.path.insert(0, str(HERE.parent / "hostile_jobs"))
+
+from colliding import random_long_texts, texts_of_one_hash  # noqa: E402
+
 # Where the program runs, as ./liskevar has it.
 ENVIRONMENT = {**os.environ, "MALLOC_ARENA_MAX": "1"}
 PEERS = {
@@ -123,16 +125,14 @@ def sizes(folder, chance, given):
         print(f"  {rows:9} rows a table: {told} (without an edit: {without['liskevar']:.2f} s)")
 
 
-def colliding_keys(folder, chance, given):
+def colliding_keys(folder, _chance, given):
     count = 100_000
     command = {"liskevar": [given.program, "replay-edits"]}
-    made = colliding.colliding(count, lambda length: bytes([1]) + length.to_bytes(8, "little"))
-    chance.shuffle(made)
-    drawn = [chance.randbytes(len(made[0])) for _ in range(count)]
-    columns = [[{"name": "k", "type": "Binary", "values": []}] for _ in range(2)]
-    print(f"{count} inserts of distinct keys of {len(made[0])} bytes on each side")
+    drawn, made = random_long_texts(count), texts_of_one_hash(count)
+    columns = [[{"name": "k", "type": "String", "values": []}] for _ in range(2)]
+    print(f"{count} inserts of distinct texts of {len(made[0])} bytes on each side")
     for name, keys in (("drawn at random", drawn), ("of one FNV-1a hash", made)):
-        edits = [[side, "insert", [key.hex()]] for side in ("left", "right") for key in keys]
+        edits = [[side, "insert", [key]] for side in ("left", "right") for key in keys]
         seconds, written = medians(folder, asked(columns, edits), command, given.turns)
         if len(written["liskevar"]) != 1 + 3 * count:
             sys.exit(f"{len(written['liskevar'])} lines")

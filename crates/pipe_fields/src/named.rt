@@ -8,7 +8,7 @@ ghost use Rattle.pipe_fields.specs.Named.{first_named};
 use pipe_expr::{NamedExpr, RenamePair};
 use pipe_frame::Text;
 use std::alloc::{AllocError, Global};
-use std::collections::HashMap;
+use std::collections::BTreeMap;
 use std::marker::Model;
 
 /// What has a name.
@@ -47,19 +47,20 @@ impl Named for Text {
     }
 }
 
-/// Some things, found by their names.
+/// Some things, found by their names: by an ordered map, which no choice of names makes slow.
 #[derive(Drop)]
 pub struct NameIndex<'a, N: Named> {
     items: &'a [N],
-    first: HashMap<&'a str, &'a N>,
+    first: BTreeMap<&'a str, &'a N>,
     repeated: Option<&'a Text>,
 }
 
 impl<'a, N: Named> Model for NameIndex<'a, N> {
     ghost use Rattle.std.specs.Prelude.{◌≡◌, ℕ, List, map, option_map};
-    ghost use Rattle.std.specs.HashMap as hash;
+    ghost use Rattle.std.specs.BTreeMap.{get_by};
+    ghost use Rattle.std.specs.Cmp.Lexicographic.{slice_cmp};
     ghost use Rattle.std.specs.Option.{option_copied};
-    ghost use Rattle.std.specs.Str.{bytes_eq};
+    ghost use Rattle.std.specs.Ordering.{nat_cmp};
     ghost use Rattle.pipe_frame.specs.Schema.{first_repeated};
     ghost use Rattle.pipe_fields.specs.Named.{first_named};
 
@@ -67,7 +68,7 @@ impl<'a, N: Named> Model for NameIndex<'a, N> {
 
     ghost view = { λ index. index.items.now };
 
-    ghost invariant = { λ index. ((q : List ℕ) → option_copied (hash.get_by (λ k. bytes_eq q k.now) index.first) ≡ first_named N.name index.items.now q) × (option_copied index.repeated ≡ first_repeated (map N.name index.items.now)) };
+    ghost invariant = { λ index. ((q : List ℕ) → option_copied (get_by (λ k. slice_cmp nat_cmp q k.now) index.first) ≡ first_named N.name index.items.now q) × (option_copied index.repeated ≡ first_repeated (map N.name index.items.now)) };
 }
 
 impl<'a, N: Named> NameIndex<'a, N> {
@@ -75,7 +76,7 @@ impl<'a, N: Named> NameIndex<'a, N> {
     pub fn of(alloc: Global, items: &'a [N]) -> Result<NameIndex<'a, N>, AllocError>
         ensures { IfOk result (λ index. index ≡ items.now) }
     {
-        let mut first = HashMap::new(alloc);
+        let mut first = BTreeMap::new(alloc);
         let mut repeated = None;
         let mut i = items.len();
         while i > 0 {

@@ -9,7 +9,7 @@ use crate::field::Field;
 use crate::text::Text;
 use crate::try_clone::TryClone;
 use std::alloc::{AllocError, Global};
-use std::collections::HashMap;
+use std::collections::BTreeMap;
 
 /// What has a name.
 pub trait Named {
@@ -67,11 +67,12 @@ fn repeated_of_few<N: Named>(items: &[N]) -> Option<&Text>
     None
 }
 
-/// The first name that stands again further on, by a map of the names behind each.
+/// The first name that stands again further on, by a map of the names behind each: an ordered one, which no choice of
+/// names makes slow.
 fn repeated_of_many<N: Named>(alloc: Global, items: &[N]) -> Result<Option<&Text>, AllocError>
     ensures { IfOk result (λ name. option_copied name ≡ first_repeated (map N.name items.now)) }
 {
-    let mut later: HashMap<&str, ()> = HashMap::with_capacity(alloc, items.len())?;
+    let mut later: BTreeMap<&str, ()> = BTreeMap::new(alloc);
     let mut found = None;
     let mut i = items.len();
     while i > 0 {
@@ -84,7 +85,7 @@ fn repeated_of_many<N: Named>(alloc: Global, items: &[N]) -> Result<Option<&Text
     Ok(found)
 }
 
-/// The first of the names of some things that stands again further on, in time that grows as their count does.
+/// The first of the names of some things that stands again further on, in time that grows as their count does, but for a logarithm.
 pub fn first_repeated<N: Named>(alloc: Global, items: &[N]) -> Result<Option<&Text>, AllocError>
     ensures { IfOk result (λ name. option_copied name ≡ first_repeated (map N.name items.now)) }
 {

@@ -1,7 +1,8 @@
 use Rattle.std.proofs.Common.{◌≡◌, ◌≤◌, ℕ, List, drop, map, length}
-use Rattle.std.specs.HashMap as hash
+use Rattle.std.specs.BTreeMap.{get_by}
+use Rattle.std.specs.Cmp.Lexicographic.{slice_cmp}
+use Rattle.std.specs.Ordering.{nat_cmp}
 use Rattle.std.specs.Option.{option_copied}
-use Rattle.std.specs.Str.{bytes_eq}
 use Rattle.pipe_frame.specs.Schema.{first_repeated}
 use Rattle.pipe_fields.specs.Named.{first_named}
 use Rattle.pipe_fields.proofs.named.NameIndex.of.Given as goal
@@ -9,7 +10,7 @@ use Rattle.pipe_fields.proofs.named.NameIndex.of.Given as goal
 abbrev pub invariant-loop-i : goal.invariant-loop-i
 invariant-loop-i g l = record {
   within : l.i ≤ length l.items;
-  first : (q : List ℕ) → option_copied (hash.get_by (λ k. bytes_eq q k.now) l.first) ≡ first_named g.N.Named.name (drop l.i l.items) q;
+  first : (q : List ℕ) → option_copied (get_by (λ k. slice_cmp nat_cmp q k.now) l.first) ≡ first_named g.N.Named.name (drop l.i l.items) q;
   repeated : option_copied l.repeated ≡ first_repeated (map g.N.Named.name (drop l.i l.items));
 }
 
