@@ -153,7 +153,7 @@ pub fields-in : (fields part : List Field) → AllByRecursion (λ name. has_name
 fields-in fields [] h = tt
 fields-in fields (f ∷ part) h = (h.0, fields-in fields part h.1)
 
-own-types : (s : List Field) → first_repeated (names_of s) ≡ None → AllByRecursion (λ f. type_of_column f.name s ≡ Some f.dtype) s
+pub own-types : (s : List Field) → first_repeated (names_of s) ≡ None → AllByRecursion (λ f. type_of_column f.name s ≡ Some f.dtype) s
 own-types [] once = tt
 own-types (field ∷ fields) once = (
   (let own = own-name field.name in rw own refl),
@@ -163,11 +163,11 @@ own-types (field ∷ fields) once = (
       (all-both (λ f. type_of_column f.name fields ≡ Some f.dtype) (λ f. has_name (names_of fields) f.name ≡ true) fields (own-types fields (once-rest field.name (names_of fields) once)) (fields-in fields fields (all-in (names_of fields)))),
 )
 
-all-true : (keep : Names) (names : List (List ℕ)) → AllByRecursion (λ name. keep name ≡ true) names → filter keep names ≡ names
+pub all-true : (keep : Names) (names : List (List ℕ)) → AllByRecursion (λ name. keep name ≡ true) names → filter keep names ≡ names
 all-true keep [] h = refl
 all-true keep (n ∷ names) h = ap (λ b. cond b (n ∷ filter keep names) (filter keep names)) h.0 ∙ ap (λ l. n ∷ l) (all-true keep names h.1)
 
-named-own : (s part : List Field) → AllByRecursion (λ f. type_of_column f.name s ≡ Some f.dtype) part → fields_named s (names_of part) ≡ part
+pub named-own : (s part : List Field) → AllByRecursion (λ f. type_of_column f.name s ≡ Some f.dtype) part → fields_named s (names_of part) ≡ part
 named-own s [] h = refl
 named-own s (f ∷ part) h =
     ap (λ o. record { name = f.name; dtype = known_type o } ∷ fields_named s (names_of part)) h.0

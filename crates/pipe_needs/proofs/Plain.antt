@@ -229,7 +229,7 @@ module _ (needed : Names) (names : List (List ℕ)) where
         ] in split (bytes_eq field.name old) refl h
 
     -- a renaming gives the names that it gave, as far as columns are there
-    renamed-kept : (pairs : List RenamePair) (name : List ℕ) → has_name (names_of t) name ≡ true → renamed (filter (is_existing t) pairs) name ≡ renamed pairs name
+    pub renamed-kept : (pairs : List RenamePair) (name : List ℕ) → has_name (names_of t) name ≡ true → renamed (filter (is_existing t) pairs) name ≡ renamed pairs name
     renamed-kept [] name h = refl
     renamed-kept (pair ∷ pairs) name h =
         let some = filter (is_existing t) pairs in

@@ -27,7 +27,7 @@ any-same p f g [] (i ∷ is) e = cc
 any-same p f g (k ∷ ks) [] e = cc
 any-same p f g (k ∷ ks) (i ∷ is) e = two (λ a b. p a || b) (heads e) (any-same p f g ks is (tails e))
 
-differ-same : (f g : ℕ → List Field) (ks is : List ℕ) → map f ks ≡ map g is → inputs_differ f ks ≡ inputs_differ g is
+pub differ-same : (f g : ℕ → List Field) (ks is : List ℕ) → map f ks ≡ map g is → inputs_differ f ks ≡ inputs_differ g is
 differ-same f g [] [] e = refl
 differ-same f g [] (i ∷ is) e = cc
 differ-same f g (k ∷ ks) [] e = cc

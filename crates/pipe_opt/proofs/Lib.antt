@@ -2,6 +2,7 @@ pub mod Renumber
 pub mod Growing
 pub mod Granted
 pub mod Counted
+pub mod Bounded
 pub mod Faultless
 pub mod Sounding
 pub mod Typed

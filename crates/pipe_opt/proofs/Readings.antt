@@ -24,7 +24,7 @@ map-long f (x ∷ xs) = ap suc (map-long f xs)
 pub in-bounds : (arena : Arena) (root n : ℕ) (slice : List IR) → IsWellFormed (plan_of arena) root → is_under (plan_of arena).nodes root n ≡ true → slice ≡ arena.nodes → n < length slice
 in-bounds arena root n slice good under is = (let lt = there (plan_of arena) root good n under in let e = map-long node_of arena.nodes in let f : length slice ≡ length arena.nodes = ap length is in omega arith)
 
-read-at : (nodes : List IR) (n : ℕ) (x : IR) → n < length nodes → x ≡ get_or nodes n x → node_at (map node_of nodes) n ≡ node_of x
+pub read-at : (nodes : List IR) (n : ℕ) (x : IR) → n < length nodes → x ≡ get_or nodes n x → node_at (map node_of nodes) n ≡ node_of x
 read-at [] n x lt is = absurd (omega arith)
 read-at (y ∷ nodes) zero x lt is = ap node_of (sym is)
 read-at (y ∷ nodes) (suc n) x lt is = read-at nodes n x (omega arith) is

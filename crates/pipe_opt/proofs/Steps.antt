@@ -14,7 +14,7 @@ use Rattle.pipe_plan.specs.Under.{node_at, inputs_of, is_under}
 use Rattle.pipe_plan.specs.Schemas.{node_schema, schema_of}
 use Rattle.pipe_plan.specs.PlanRows.{rows_of}
 use Rattle.pipe_plan.specs.Faults.{eq_types, is_mistyped, IsWellFormed}
-use Rattle.pipe_check.proofs.Walks.{member, itself}
+use Rattle.pipe_check.proofs.Walks.{member, itself, under-there}
 use Rattle.pipe_typing.specs.Fits.{FramesFit}
 use Rattle.pipe_typing.proofs.Lists.{all-append}
 use Rattle.pipe_typing.proofs.Rows.{same-dtype}
@@ -23,9 +23,9 @@ use Rattle.pipe_rules.specs.Placed.{is_input}
 use Rattle.pipe_rules.specs.Laws.{IsPredicate}
 use Rattle.pipe_rules.specs.Parted.{Parts, part_for, parted}
 use Rattle.pipe_opt.specs.Renumbered.{with_inputs}
-use Rattle.pipe_opt.specs.Low.{is_filter, IsConjunct, AreLow}
+use Rattle.pipe_opt.specs.Low.{is_filter, is_sort, IsConjunct, AreLow}
 use Rattle.pipe_opt.specs.Sizes.{sum_of, size_of, count_under}
-use Rattle.pipe_opt.specs.Grown.{over, IsRewritten, AreRewritten}
+use Rattle.pipe_opt.specs.Grown.{over, AreWithin, AreUnder, IsRewritten, AreRewritten}
 use Rattle.pipe_opt.proofs.Granted.{granted, ready}
 use Rattle.pipe_opt.proofs.Remade.{remade-bare, remade-under}
 use Rattle.pipe_opt.proofs.Counted.{size-made, no-more}
@@ -54,13 +54,13 @@ module _ (plan : Plan) (root : ℕ) (good : IsWellFormed plan root) (n : ℕ) (u
   pub filter-input : (input : ℕ) (predicate : Formula) → node_at plan.nodes n ≡ node.Filter input predicate → (input < n) × (is_under plan.nodes root input ≡ true)
   filter-input input predicate at = (granted plan root n good under).fed input (ap (λ x. member input (inputs_of x)) at ∙ only input)
 
-  pub filter-typed : (input : ℕ) (predicate : Formula) (cs all : List Formula) → node_at plan.nodes n ≡ node.Filter input predicate → AllByRecursion (IsConjunct (schema_of plan n)) cs → all ≡ conjuncts_of predicate ++ cs → AllByRecursion (IsConjunct (schema_of plan input)) all
+  pub filter-typed : (input : ℕ) (predicate : Formula) (cs all : List Formula) → node_at plan.nodes n ≡ node.Filter input predicate → AllByRecursion (IsConjunct (schema_of plan n)) cs → all ≡ cs ++ conjuncts_of predicate → AllByRecursion (IsConjunct (schema_of plan input)) all
   filter-typed input predicate cs all at typed is =
       let g = granted plan root n good under in
       let s : schema_of plan n ≡ schema_of plan input = g.made ∙ ap (node_schema plan.frames (schema_of plan)) at in
       let own : IsPredicate (schema_of plan input) predicate = boolean (type_of predicate (schema_of plan input)) (sym (ap (is_mistyped (schema_of plan)) at) ∙ g.typed) in
       let others : AllByRecursion (IsConjunct (schema_of plan input)) cs = subst (λ f. AllByRecursion (IsConjunct f) cs) s typed in
-      subst (AllByRecursion (IsConjunct (schema_of plan input))) (sym is) (all-append (IsConjunct (schema_of plan input)) (conjuncts_of predicate) cs (conjuncts-typed (schema_of plan input) predicate own) others)
+      subst (AllByRecursion (IsConjunct (schema_of plan input))) (sym is) (all-append (IsConjunct (schema_of plan input)) cs (conjuncts_of predicate) others (conjuncts-typed (schema_of plan input) predicate own))
 
   -- ---- the inputs
 
@@ -157,3 +157,12 @@ module _ (plan : Plan) (root : ℕ) (good : IsWellFormed plan root) where
 
     pub made-rows : rows_of (over plan.frames new) k ≡ rows_of plan root
     made-rows = made.rows ∙ each-none (schema_of plan root) (rows_of plan root)
+
+    pub made-whole : AreUnder new k
+    made-whole m below = made.whole m (omega arith) below
+
+    pub made-sorts : is_sort (node_at plan.nodes root) ≡ true → is_sort (node_at new k) ≡ true
+    made-sorts sort = made.sorts refl sort
+
+    pub made-within : (limit : ℕ) → AreWithin plan root limit → AreWithin (over plan.frames new) k limit
+    made-within limit within m under = made.within limit within m (omega arith) (let last = made.last in under-there new m (length new) k (omega arith) (omega arith) under)

@@ -1,18 +1,18 @@
 -- Plans that grow by nodes, and the new numbers of nodes of another plan.
-use Rattle.std.specs.Prelude.{◌≡◌, ◌<◌, ◌≤◌, ◌+◌, ◌*◌, ℕ, suc, List, ◌++◌, true, false, None, length, map}
-use Rattle.std.specs.List.{AllByRecursion}
+use Rattle.std.specs.Prelude.{◌≡◌, ◌<◌, ◌≤◌, ◌+◌, ◌*◌, ℕ, suc, List, [], ◌++◌, Bool, true, false, None, length, map}
+use Rattle.std.specs.List.{AllByRecursion, list_any}
 use Rattle.pipe_frame.specs.Frame.{Table}
 use Rattle.pipe_expr.specs.Formula.{Formula}
 use Rattle.pipe_plan.specs.Node.{Node}
 use Rattle.pipe_plan.specs.Plan.{Plan}
-use Rattle.pipe_plan.specs.Under.{node_at, inputs_of}
+use Rattle.pipe_plan.specs.Under.{node_at, inputs_of, is_under}
 use Rattle.pipe_plan.specs.Schemas.{schema_of}
 use Rattle.pipe_plan.specs.PlanRows.{rows_of}
 use Rattle.pipe_plan.specs.Faults.{has_input, repeats, is_void}
 use Rattle.pipe_check.specs.Checking.{fault_with}
 use Rattle.pipe_rules.specs.Conjuncts.{filter_each}
 use Rattle.pipe_rules.specs.Parted.{Parts, rows_below}
-use Rattle.pipe_opt.specs.Low.{IsLow}
+use Rattle.pipe_opt.specs.Low.{IsLow, is_sort}
 use Rattle.pipe_opt.specs.Sizes.{sum_of, size_of}
 
 -- the plan of some nodes over some tables
@@ -39,6 +39,19 @@ pub record AreSound (frames : List Table) (old new : List Node) : Type 0 where
       → has_input new i j ≡ false
   pub each : (m : ℕ) → length old ≤ m → m < length new → IsSound frames new m
 
+-- each node under a root has at most so many rows
+abbrev pub AreWithin : Plan → ℕ → ℕ → Type 0
+AreWithin plan root limit =
+    (n : ℕ) → is_under plan.nodes root n ≡ true → length (rows_of plan n) ≤ limit
+
+-- each of some nodes stands under a root
+abbrev pub AreUnder : List Node → ℕ → Type 0
+AreUnder nodes root = (m : ℕ) → m < length nodes → is_under nodes root m ≡ true
+
+-- whether a node is under another
+abbrev pub is_reached : List Node → ℕ → ℕ → Bool
+is_reached nodes m k = is_under nodes k m
+
 -- a node of a plan, under some conjuncts, stands last among new nodes: it has its schema, and those of
 -- its rows at which each conjunct is true
 pub record IsRewritten
@@ -51,6 +64,12 @@ pub record IsRewritten
   pub schema : schema_of (over plan.frames new) k ≡ schema_of plan n
   pub rows : rows_of (over plan.frames new) k
       ≡ filter_each conjuncts (schema_of plan n) (rows_of plan n)
+  pub whole : (m : ℕ) → length old ≤ m → m < length new → is_under new k m ≡ true
+  pub sorts : conjuncts ≡ [] → is_sort (node_at plan.nodes n) ≡ true
+      → is_sort (node_at new k) ≡ true
+  pub within : (limit : ℕ) → AreWithin plan n limit
+      → (m : ℕ) → length old ≤ m → m < length new
+      → length (rows_of (over plan.frames new) m) ≤ limit
 
 -- a number is that of one of the nodes that were added, which none of them reads
 pub record IsFree (old new : List Node) (k : ℕ) : Type 0 where
@@ -70,3 +89,8 @@ pub record AreRewritten
   pub schemas : map (schema_of (over plan.frames new)) ks ≡ map (schema_of plan) ns
   pub rows : map (rows_of (over plan.frames new)) ks
       ≡ map (rows_below (schema_of plan) x parts (rows_of plan)) ns
+  pub whole : (m : ℕ) → length old ≤ m → m < length new
+      → list_any (is_reached new m) ks ≡ true
+  pub within : (limit : ℕ) → AllByRecursion (λ i. AreWithin plan i limit) ns
+      → (m : ℕ) → length old ≤ m → m < length new
+      → length (rows_of (over plan.frames new) m) ≤ limit

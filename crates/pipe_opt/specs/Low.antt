@@ -22,6 +22,17 @@ is_filter (node.Union inputs) = false
 is_filter (node.Join left right left_on right_on options) = false
 is_filter (node.Sort input by options) = false
 
+abbrev pub is_sort : Node → Bool
+is_sort (node.DataFrameScan frame columns) = false
+is_sort (node.Filter input predicate) = false
+is_sort (node.SimpleProjection input columns) = false
+is_sort (node.Select input exprs) = false
+is_sort (node.HStack input exprs) = false
+is_sort (node.MapFunction input function) = false
+is_sort (node.Union inputs) = false
+is_sort (node.Join left right left_on right_on options) = false
+is_sort (node.Sort input by options) = true
+
 -- a conjunct of a filter on a node doesn't go lower
 abbrev pub Stays : (ℕ → List Field) → Node → Formula → Type 0
 Stays schema x conjunct = placing_at schema x conjunct ≡ Above conjunct

@@ -12,7 +12,7 @@ use pipe_plan::IR;
 use std::alloc::{AllocError, Global};
 
 /// The inputs of a node, in the order of its members.
-pub(crate) fn inputs(alloc: Global, node: &IR) -> Result<Vec<u32>, AllocError>
+pub fn inputs(alloc: Global, node: &IR) -> Result<Vec<u32>, AllocError>
     ensures { IfOk result (λ numbers. numbers.items ≡ inputs_of (node_of node.now)) }
 {
     match node {

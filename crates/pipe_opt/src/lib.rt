@@ -6,4 +6,5 @@ mod counting;
 mod parting;
 mod pushdown;
 
+pub use copying::inputs;
 pub use pushdown::{Rewritten, push_filters};

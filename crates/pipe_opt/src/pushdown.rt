@@ -15,9 +15,9 @@ ghost use Rattle.pipe_rules.specs.Conjuncts.{conjuncts_of};
 ghost use Rattle.pipe_rules.specs.Placed.{is_input};
 ghost use Rattle.pipe_rules.specs.Parted.{parted, part_for};
 ghost use Rattle.pipe_opt.specs.Values.{parts_in};
-ghost use Rattle.pipe_opt.specs.Low.{is_filter, IsConjunct, AreLow};
+ghost use Rattle.pipe_opt.specs.Low.{is_filter, is_sort, IsConjunct, AreLow};
 ghost use Rattle.pipe_opt.specs.Sizes.{sum_of, size_of, count_under as nodes_counted, IsTooLarge};
-ghost use Rattle.pipe_opt.specs.Grown.{over, IsRewritten, AreRewritten};
+ghost use Rattle.pipe_opt.specs.Grown.{over, AreWithin, AreUnder, IsRewritten, AreRewritten};
 
 use crate::copying::{copy_over, first_or, inputs, second_or};
 use crate::counting::count_under;
@@ -56,19 +56,19 @@ fn push_node(nodes: &mut List<IR>, node: IR) -> Result<u32, PipeError>
     Ok(number)
 }
 
-/// The conjuncts of a filter's predicate, and behind them those that stand on the filter.
+/// The conjuncts that stand on a filter, and behind them those of its predicate.
 fn with_conjuncts(
     alloc: Global,
     predicate: &Expr,
     above: List<Expr>,
 ) -> Result<List<Expr>, PipeError>
     ensures all { IfOk result (λ all. map formula_of all
-        ≡ conjuncts_of (formula_of predicate.now) ++ map formula_of above) }
+        ≡ map formula_of above ++ conjuncts_of (formula_of predicate.now)) }
     ensures err { IfErr result (λ e. e ≡ error.Memory) }
 {
-    let mut all = conjuncts(alloc, predicate)?.into_vec();
-    let mut above = above.into_vec();
-    all.append(&mut above)?;
+    let mut own = conjuncts(alloc, predicate)?.into_vec();
+    let mut all = above.into_vec();
+    all.append(&mut own)?;
     Ok(List::from_vec(all))
 }
 
@@ -212,6 +212,14 @@ pub fn push_filters(alloc: Global, plan: &CheckedPlan) -> Result<Rewritten, Pipe
     ensures low { IfOk result (λ made.
         AreLow (schema_of (over (plan_of plan.now.arena).frames (map node_of made.nodes)))
         (map node_of made.nodes)) }
+    ensures bounded { IfOk result (λ made. (limit : ℕ)
+        → AreWithin (plan_of plan.now.arena) plan.now.root limit
+        → AreWithin (over (plan_of plan.now.arena).frames (map node_of made.nodes)) made.root limit) }
+    ensures whole { IfOk result (λ made. AreUnder (map node_of made.nodes) made.root) }
+    ensures last { IfOk result (λ made. made.root + 1 ≡ length made.nodes) }
+    ensures sorts { IfOk result (λ made.
+        is_sort (node_at (plan_of plan.now.arena).nodes plan.now.root) ≡ true
+        → is_sort (node_at (map node_of made.nodes) made.root) ≡ true) }
     ensures few { IfOk result (λ made. length made.nodes
         ≤ 2 * nodes_counted (plan_of plan.now.arena).nodes plan.now.root) }
     ensures small { OnOk result

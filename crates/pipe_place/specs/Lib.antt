@@ -2,5 +2,3 @@
 pub mod Placements
 -- the join of two sides
 pub mod Sides
--- the conjuncts of a predicate that may be missing
-pub mod Before

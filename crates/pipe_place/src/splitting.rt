@@ -1,9 +1,8 @@
 //! The conjuncts of a predicate, and a predicate of conjuncts.
 
-ghost use Rattle.std.specs.Prelude.{◌≡◌, [], ◌++◌, map, option_map, IfOk, OnOk, IfSome, IfNone};
+ghost use Rattle.std.specs.Prelude.{◌≡◌, ◌<◌, ◌≤◌, [], ◌++◌, map, take, drop, length, IfOk, OnOk, IfSome, IfNone};
 ghost use Rattle.pipe_expr.specs.Formula.{formula_of};
 ghost use Rattle.pipe_rules.specs.Conjuncts.{conjuncts_of, all_conjuncts};
-ghost use Rattle.pipe_place.specs.Before.{conjuncts_before};
 
 use pipe_expr::Expr;
 use pipe_frame::List;
@@ -36,32 +35,40 @@ pub fn conjuncts(alloc: Global, predicate: &Expr) -> Result<List<Expr>, AllocErr
     Ok(parts)
 }
 
-/// A conjunct behind a predicate, if there is one, joined by `And`.
-fn joined(alloc: Global, before: Option<Expr>, conjunct: Expr) -> Result<Expr, AllocError>
-    ensures { IfOk result (λ predicate. conjuncts_of (formula_of predicate)
-        ≡ conjuncts_before (option_map formula_of before) ++ conjuncts_of (formula_of conjunct)) }
+/// Some conjuncts in two parts: those before a place, and those from it on.
+fn parted_at(conjuncts: &[Expr], place: usize) -> (&[Expr], &[Expr])
+    requires { place ≤ length conjuncts.now }
+    ensures before { result.0.now ≡ take place conjuncts.now }
+    ensures after { result.1.now ≡ drop place conjuncts.now }
 {
-    match before {
-        None => Ok(conjunct),
-        Some(before) => {
-            let before = Box::new(alloc, before)?;
-            let conjunct = Box::new(alloc, conjunct)?;
-            Ok(Expr::And(before, conjunct))
-        }
+    (&conjuncts[..place], &conjuncts[place..])
+}
+
+/// A predicate that joins copies of one conjunct or more by `And`: that of their first half and that of their second,
+/// so that it nests no deeper than the logarithm of their number.
+fn joined(alloc: Global, conjuncts: &[Expr]) -> Result<Expr, AllocError>
+    requires { 0 < length conjuncts.now }
+    ensures { IfOk result (λ predicate.
+        conjuncts_of (formula_of predicate) ≡ all_conjuncts (map formula_of conjuncts.now)) }
+{
+    if conjuncts.len() == 1 {
+        return Ok(conjuncts[0].try_clone()?);
     }
+    let (front, back) = parted_at(conjuncts, conjuncts.len() / 2);
+    let left = Box::new(alloc, joined(alloc, front)?)?;
+    let right = Box::new(alloc, joined(alloc, back)?)?;
+    Ok(Expr::And(left, right))
 }
 
 /// The predicate that joins copies of some conjuncts by `And`, none where there is no conjunct.
-#[tactic(auto, using(crate::proofs::Keys::key_rules))]
 pub fn conjunction(alloc: Global, conjuncts: &[Expr]) -> Result<Option<Expr>, AllocError>
     ensures some { IfOk result (λ made. IfSome made (λ predicate.
         conjuncts_of (formula_of predicate) ≡ all_conjuncts (map formula_of conjuncts.now))) }
     ensures none { IfOk result (λ made. IfNone made (conjuncts.now ≡ [])) }
 {
-    let mut made = None;
-    for conjunct in conjuncts {
-        let copy = conjunct.try_clone()?;
-        made = Some(joined(alloc, made, copy)?);
+    if conjuncts.is_empty() {
+        Ok(None)
+    } else {
+        Ok(Some(joined(alloc, conjuncts)?))
     }
-    Ok(made)
 }
