@@ -25,7 +25,7 @@ use pipe_frame::Text;
 use pipe_job::{Job, JobError, job_of, read_value};
 use pipe_outside::{JobReader, RowWriter, write_whole};
 use pipe_value::Value;
-use pipe_why::{bad_json, fault_text, misfit_text, outcome_text};
+use pipe_why_inputs::{bad_json, fault_text, misfit_text, outcome_text};
 use std::alloc::{AllocError, Global};
 use std::fmt::Write;
 

@@ -1,0 +1,2 @@
+-- the columns of a key have one height
+pub mod EvenColumns

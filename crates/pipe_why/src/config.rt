@@ -18,13 +18,19 @@ fn push_number(
     )
 }
 
-/// Appends the first of the numbers that isn't within its range.
-pub(crate) fn push_config(out: &mut String, config: &PipeConfig) -> Result<(), AllocError> {
+/// Appends the first of the numbers that isn't within its range, if one isn't.
+pub fn push_config(out: &mut String, config: &PipeConfig) -> Result<bool, AllocError> {
     if config.workers == 0 || 256 < config.workers {
-        return push_number(out, "workers", 1, 256, config.workers);
+        push_number(out, "workers", 1, 256, config.workers)?;
+        return Ok(true);
     }
     if config.chunk_rows == 0 {
-        return push_number(out, "chunk_rows", 1, u32::MAX, config.chunk_rows);
+        push_number(out, "chunk_rows", 1, u32::MAX, config.chunk_rows)?;
+        return Ok(true);
     }
-    push_number(out, "row_limit", 1, u32::MAX - 1, config.row_limit)
+    if config.row_limit == 0 || config.row_limit == u32::MAX {
+        push_number(out, "row_limit", 1, u32::MAX - 1, config.row_limit)?;
+        return Ok(true);
+    }
+    Ok(false)
 }

@@ -21,7 +21,10 @@ fn push_fault(
 ) -> Result<(), AllocError> {
     let arena = &job.arena;
     match error {
-        PipeError::BadConfig => push_config(out, &job.config),
+        PipeError::BadConfig => {
+            let _ = push_config(out, &job.config)?;
+            Ok(())
+        }
         PipeError::BadNode(n) => push_bad_node(alloc, out, arena, job.root, *n),
         PipeError::UnknownColumn(n, name) => push_unknown(alloc, out, arena, *n, name),
         PipeError::DuplicateName(n, name) => push_duplicate(alloc, out, arena, *n, name),

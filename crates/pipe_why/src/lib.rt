@@ -1,7 +1,6 @@
-//! Why a job can't be run: what stands where it shouldn't, in words for people.
+//! Why a job can't be run: what keeps it from that, in words for people.
 //!
-//! A text is told of bytes that are no JSON, of a value that spells no job, and of a job whose numbers or plan have a
-//! fault; and of a good job what it will do.
+//! A text is told of a job whose numbers or plan have a fault; and of a good job what it will do.
 #![tactic(auto)]
 
 mod bad_joins;
@@ -12,12 +11,15 @@ mod duplicates;
 mod faults;
 mod formulas;
 mod inputs;
+mod matches;
 mod mistyped;
 mod node_words;
+mod origins;
 mod outcome;
 mod unknown;
 
+pub use config::push_config;
 pub use faults::fault_text;
+pub use matches::{Matches, matches_of};
 pub use outcome::outcome_text;
-pub use pipe_why_text::bad_json;
-pub use pipe_why_value::misfit_text;
+pub use unknown::push_columns;

@@ -1,10 +1,10 @@
 //! What is told of expressions, keys, columns and inputs whose types don't fit.
 
 use crate::formulas::{push_untyped, type_or_none};
-use crate::inputs::{columns_of, schema_of};
+use crate::inputs::{columns_of, schema_of, schemas_below};
 use crate::node_words::push_node;
 use pipe_expr::{Expr, FunctionIR, NamedExpr};
-use pipe_fields::{Columns, are_same_types, column_type, expr_type};
+use pipe_fields::{Columns, are_same_types, column_type, columns_of as columns_at, expr_type};
 use pipe_frame::{Field, Text};
 use pipe_plan::{Arena, IR};
 use pipe_why_text::{push_count, push_field, push_name};
@@ -163,16 +163,17 @@ fn push_union(
     alloc: Global,
     out: &mut String,
     arena: &Arena,
+    n: u32,
     inputs: &[u32],
 ) -> Result<(), AllocError> {
     let Some(first) = inputs.first() else {
         return out.push_str("\n");
     };
-    let schema = schema_of(alloc, arena, *first)?;
-    let columns = columns_of(&schema);
+    let schemas = schemas_below(alloc, arena, n)?;
+    let columns = columns_at(schemas.as_slice(), *first);
     for (i, input) in inputs.iter().enumerate() {
-        let other = schema_of(alloc, arena, *input)?;
-        if push_difference(out, i, columns.fields(), columns_of(&other).fields())? {
+        let other = columns_at(schemas.as_slice(), *input);
+        if push_difference(out, i, columns.fields(), other.fields())? {
             return out.push_str(
                 "hint: a Select before it brings columns into one order and under one name\n",
             );
@@ -201,7 +202,13 @@ fn push_on(out: &mut String, on: &[Text], columns: &Columns) -> Result<(), Alloc
 }
 
 /// Appends what doesn't fit at a node.
-fn push_at(alloc: Global, out: &mut String, arena: &Arena, node: &IR) -> Result<(), AllocError> {
+fn push_at(
+    alloc: Global,
+    out: &mut String,
+    arena: &Arena,
+    n: u32,
+    node: &IR,
+) -> Result<(), AllocError> {
     match node {
         IR::Filter { input, predicate } => {
             let schema = schema_of(alloc, arena, *input)?;
@@ -223,7 +230,7 @@ fn push_at(alloc: Global, out: &mut String, arena: &Arena, node: &IR) -> Result<
             let schema = schema_of(alloc, arena, *input)?;
             push_on(out, on.as_slice(), &columns_of(&schema))
         }
-        IR::Union { inputs } => push_union(alloc, out, arena, inputs.as_slice()),
+        IR::Union { inputs } => push_union(alloc, out, arena, n, inputs.as_slice()),
         IR::Join {
             left,
             right,
@@ -252,7 +259,7 @@ pub(crate) fn push_mistyped(
     out.push_str("TypeMismatch at ")?;
     push_node(out, arena, n)?;
     match arena.nodes.as_slice().get(n as usize) {
-        Some(node) => push_at(alloc, out, arena, node),
+        Some(node) => push_at(alloc, out, arena, n, node),
         None => out.push_str("\n"),
     }
 }

@@ -31,7 +31,7 @@ fn nearest_first(alloc: Global, fields: &[Field], name: &Text) -> Result<Vec<Nea
 }
 
 /// Appends the columns of a schema, nearest first, and which is near.
-fn push_columns(
+pub fn push_columns(
     alloc: Global,
     out: &mut String,
     schema: &Schema,

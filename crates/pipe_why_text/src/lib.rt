@@ -1,17 +1,23 @@
-//! What is told of bytes that are no JSON text: where reading stops, what might have stood there, and what does. And the
-//! parts of sentences that are told of jobs.
+//! What is told of bytes that are no JSON text: where reading stops, what might have stood there, and what does. Where
+//! the parts of a value stand in its text. And the parts of sentences that are told of jobs.
 #![tactic(auto)]
 
 mod bad_text;
+mod layout;
+mod literals;
 mod near;
 mod place;
 mod reading_stop;
+mod steps;
 mod string_stop;
 mod words;
 
 pub use bad_text::bad_json;
+pub use layout::{Layout, Placed, layout_of, offset_of};
+pub use literals::Literal;
 pub use near::{distance, is_near, nearest};
 pub use place::push_place;
+pub use steps::{Step, copies, push_steps};
 pub use words::{
     push_count, push_field, push_fields, push_name, push_quoted, push_words, type_word,
 };

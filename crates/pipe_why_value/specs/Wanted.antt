@@ -1,17 +1,34 @@
 -- What may stand at a place of a job: the test of the spelling of each part, by the definitions of the reader of jobs.
-use Rattle.std.specs.Prelude.{Bool, is_some}
+use Rattle.std.specs.Prelude.{Bool, is_some, codes, [], ◌∷◌}
 use Rattle.serde_json.specs.Data.{Data}
 use Rattle.serde_json.specs.Find.{as_array}
 use Rattle.pipe_job.specs.Kinds.{is_node, is_version}
-use Rattle.pipe_job.specs.Shape.{is_cell, is_coalesce, is_column, is_couple, is_expr, is_frame, is_hint, is_how, is_list, is_maybe, is_named, is_object, is_one_of, is_pair, is_signed, is_slice, is_text, is_truth, is_type, is_unsigned, node_words}
+use Rattle.pipe_job.specs.Shape.{is_cell, is_coalesce, is_column, is_couple, is_exactly, is_expr, is_frame, is_hint, is_how, is_list, is_maybe, is_named, is_object, is_one_of, is_pair, is_signed, is_slice, is_text, is_truth, is_type, is_unsigned, is_word, node_words}
+use Rattle.pipe_why_value.specs.declared.want.Foreign.{Foreign}
+use Rattle.pipe_why_value.specs.declared.want.Foreign.TheVariants as foreign
 use Rattle.pipe_why_value.specs.declared.want.Want.{Want}
 use Rattle.pipe_why_value.specs.declared.want.Want.TheVariants as want
+
+-- whether a value spells a part of what another command reads: of the whole, of its two tables, its edits and their rows
+-- their outermost form
+abbrev pub is_foreign : Foreign → Data → Bool
+is_foreign foreign.Reconciliation d = is_object d
+is_foreign foreign.Replay d = is_object d
+is_foreign foreign.TwoFrames d = is_couple d
+is_foreign foreign.KeptJoin d = is_node d
+is_foreign foreign.JoinWord d = is_word (codes "Join") d
+is_foreign foreign.LeftTable d = is_exactly 0 d
+is_foreign foreign.RightTable d = is_exactly 1 d
+is_foreign foreign.Edits d = is_some (as_array d)
+is_foreign foreign.Edit d = is_some (as_array d)
+is_foreign foreign.Side d = is_one_of (codes "left" ∷ codes "right" ∷ []) d
+is_foreign foreign.Word d = is_one_of (codes "insert" ∷ codes "remove" ∷ []) d
+is_foreign foreign.Row d = is_some (as_array d)
 
 -- whether a value spells what is wanted of it; of a whole job, a literal, the sides of an operator and the cells of a
 -- column this is their outermost form, whose parts have tests of their own
 abbrev pub is_wanted : Want → Data → Bool
 is_wanted want.Job d = is_object d
-is_wanted want.Reconciliation d = is_object d
 is_wanted want.Literal d = is_object d
 is_wanted want.Sides d = is_couple d
 is_wanted (want.Cells t) d = is_some (as_array d)
@@ -45,3 +62,4 @@ is_wanted want.NamedExpr d = is_named d
 is_wanted want.NamedExprs d = is_list is_named d
 is_wanted want.Pair d = is_pair d
 is_wanted want.Pairs d = is_list is_pair d
+is_wanted (want.Foreign f) d = is_foreign f d

@@ -1,6 +1,6 @@
 //! What may stand at a place, in words.
 
-use crate::want::{COALESCES, FORMS, HOWS, KINDS, TYPES, Want};
+use crate::want::{COALESCES, EDITS, FORMS, Foreign, HOWS, KINDS, SIDES, TYPES, Want};
 use pipe_frame::DataType;
 use pipe_why_text::push_words;
 use std::alloc::AllocError;
@@ -33,7 +33,6 @@ fn push_one_of(out: &mut String, words: &[&str]) -> Result<(), AllocError> {
 fn part_words(want: Want) -> &'static str {
     match want {
         Want::Job => "a job, which is one object: { .. }",
-        Want::Reconciliation => "two tables and a key, which are one object: { .. }",
         Want::Version => "1 or 2",
         Want::Whole32 => "a whole number from 0 to 4294967295",
         Want::Whole64 => "a whole number from 0 to 18446744073709551615",
@@ -68,7 +67,26 @@ fn part_words(want: Want) -> &'static str {
             "an array of names and expressions, as [{\"name\":\"a\",\"expr\":{\"col\":\"k\"}}]",
         Want::Pair => "an old name and a new one, as {\"existing\":\"a\",\"new\":\"b\"}",
         Want::Pairs => "an array of old and new names, as [{\"existing\":\"a\",\"new\":\"b\"}]",
+        Want::Foreign(foreign) => foreign_words(foreign),
         Want::Type | Want::Cell(_) | Want::Kind | Want::How | Want::Coalesce => "",
+    }
+}
+
+/// What a part of what another command reads may be that isn't one of some words.
+fn foreign_words(foreign: Foreign) -> &'static str {
+    match foreign {
+        Foreign::Reconciliation => "two tables and a key, which are one object: { .. }",
+        Foreign::Replay => "two tables, their join and edits, which are one object: { .. }",
+        Foreign::TwoFrames =>
+            "an array of two frames, the left and the right table, as [{\"columns\":[..]},{\"columns\":[..]}]",
+        Foreign::KeptJoin => "a Join node over the left table, 0, and the right one, 1",
+        Foreign::JoinWord => "\"Join\"",
+        Foreign::LeftTable => "0, the left table",
+        Foreign::RightTable => "1, the right table",
+        Foreign::Edits => "an array of edits, as [[\"left\",\"insert\",[1,null]]]",
+        Foreign::Edit => "an array of a side, a word and a row, as [\"left\",\"insert\",[1,null]]",
+        Foreign::Row => "an array of values and nulls, one for each column of the table",
+        Foreign::Side | Foreign::Word => "",
     }
 }
 
@@ -79,6 +97,8 @@ pub(crate) fn push_expected(out: &mut String, want: Want) -> Result<(), AllocErr
         Want::Kind => push_one_of(out, KINDS),
         Want::How => push_one_of(out, HOWS),
         Want::Coalesce => push_one_of(out, COALESCES),
+        Want::Foreign(Foreign::Side) => push_one_of(out, SIDES),
+        Want::Foreign(Foreign::Word) => push_one_of(out, EDITS),
         Want::Cell(dtype) => {
             out.push_str("null or ")?;
             out.push_str(cell_words(dtype))
@@ -94,6 +114,8 @@ pub(crate) fn words_of(want: Want) -> &'static [&'static str] {
         Want::Kind => KINDS,
         Want::How => HOWS,
         Want::Coalesce => COALESCES,
+        Want::Foreign(Foreign::Side) => SIDES,
+        Want::Foreign(Foreign::Word) => EDITS,
         Want::Expr => FORMS,
         _ => &[],
     }

@@ -1,10 +1,9 @@
 //! What helps with a value that stands where another should.
 
 use crate::expected::words_of;
-use crate::literals::Literal;
-use crate::want::Want;
+use crate::want::{Foreign, Want};
 use pipe_frame::DataType;
-use pipe_why_text::{nearest, push_quoted};
+use pipe_why_text::{Literal, nearest, push_quoted};
 use std::alloc::{AllocError, Global};
 
 /// What helps where a whole number is wanted.
@@ -124,6 +123,30 @@ fn other_word(found: Literal<'_>) -> Option<&'static str> {
     None
 }
 
+/// What helps with a word of what an edit does.
+fn edit_word(found: Literal<'_>) -> Option<&'static str> {
+    let word = found.inside();
+    if word.eq_ignore_ascii_case(b"add") || word.eq_ignore_ascii_case(b"put") {
+        return Some("a row is put in by \"insert\"");
+    }
+    if word.eq_ignore_ascii_case(b"delete") || word.eq_ignore_ascii_case(b"take") {
+        return Some("a row is taken out by \"remove\"");
+    }
+    if word.eq_ignore_ascii_case(b"update") || word.eq_ignore_ascii_case(b"replace") {
+        return Some("a changed row is one \"remove\" and one \"insert\"");
+    }
+    None
+}
+
+/// What helps with a word that stands where other words may.
+fn word_hint(want: Want, found: Literal<'_>) -> Option<&'static str> {
+    match want {
+        Want::Type | Want::Kind | Want::How | Want::Coalesce | Want::Expr => other_word(found),
+        Want::Foreign(Foreign::Word) => edit_word(found),
+        _ => None,
+    }
+}
+
 /// What helps with a value that stands where another should, of what takes no words.
 fn plain_hint(want: Want, found: Literal<'_>) -> Option<&'static str> {
     match want {
@@ -142,7 +165,9 @@ fn plain_hint(want: Want, found: Literal<'_>) -> Option<&'static str> {
         | Want::Pairs
         | Want::Columns
         | Want::Frames
-        | Want::Nodes => list_hint(found),
+        | Want::Nodes
+        | Want::Foreign(Foreign::Edits)
+        | Want::Foreign(Foreign::Row) => list_hint(found),
         _ => None,
     }
 }
@@ -154,9 +179,9 @@ pub(crate) fn push_hint(
     want: Want,
     found: Literal<'_>,
 ) -> Result<(), AllocError> {
-    let hint = match other_word(found) {
-        Some(hint) if !words_of(want).is_empty() => Some(hint),
-        _ => plain_hint(want, found),
+    let hint = match word_hint(want, found) {
+        Some(hint) => Some(hint),
+        None => plain_hint(want, found),
     };
     match hint {
         Some(hint) => {

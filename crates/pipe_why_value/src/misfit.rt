@@ -1,15 +1,17 @@
-//! What is told of a value that spells no job: the first place of the text at which something else stands than may,
-//! what may stand there and what does.
+//! What is told of a value that isn't what a command reads: the first place of the text at which something else stands
+//! than may, what may stand there and what does.
 
+use crate::edits::Tables;
 use crate::expected::push_expected;
 use crate::hints::{push_hint, push_nearest};
-use crate::layout::{layout_of, offset_of};
-use crate::literals::Literal;
-use crate::steps::{Step, push_steps};
+use crate::input_kind::InputKind;
 use crate::walk::{Misfit, Walk, Wrong, look_at};
-use crate::want::{FORMS, Member, TYPES, Want};
+use crate::want::{FORMS, Foreign, Member, TYPES, Want};
 use pipe_value::Value;
-use pipe_why_text::{push_count, push_place, push_quoted, push_words, type_word};
+use pipe_why_text::{
+    Literal, Step, layout_of, offset_of, push_count, push_place, push_quoted, push_steps,
+    push_words, type_word,
+};
 use std::alloc::{AllocError, Global};
 use std::fmt::Write;
 
@@ -95,6 +97,15 @@ fn push_wide(out: &mut String) -> Result<(), AllocError> {
     out.push_str("\nfound: \"Int128\"\nhint: version 1 has no Int128: write \"version\":2\n")
 }
 
+/// Appends that a row has another count of cells than its table of columns.
+fn push_width(out: &mut String, cells: usize, columns: usize) -> Result<(), AllocError> {
+    out.push_str("\nexpected: ")?;
+    push_count(out, columns, "cell")?;
+    out.push_str(", one for each column of the table\nfound: ")?;
+    push_count(out, cells, "cell")?;
+    out.push_str("\n")
+}
+
 /// Appends what is wrong with the columns of a frame.
 fn push_table(
     alloc: Global,
@@ -153,6 +164,12 @@ fn push_wrong(
             write!(out, " of type {}", type_word(*dtype))?;
             push_other(alloc, out, Want::Cell(*dtype), found)
         }
+        Wrong::Frames(count) => {
+            out.push_str(" has ")?;
+            push_count(out, *count, "frame")?;
+            push_other(alloc, out, Want::Foreign(Foreign::TwoFrames), found)
+        }
+        Wrong::Width { cells, columns } => push_width(out, *cells, *columns),
         Wrong::Wide => push_wide(out),
         Wrong::NoColumns
         | Wrong::SecondName(_)
@@ -164,7 +181,7 @@ fn push_wrong(
 }
 
 /// Appends a place of a text and what is wrong there.
-fn push_misfit(
+fn push_first(
     alloc: Global,
     out: &mut String,
     text: &str,
@@ -191,11 +208,6 @@ fn push_further(out: &mut String, found: usize) -> Result<(), AllocError> {
     Ok(())
 }
 
-/// Whether a value is that of another command: what it spells is no job then.
-fn is_reconciliation(value: &Value) -> bool {
-    value.get("plan").is_none() && value.get("on").is_some() && value.get("frames").is_some()
-}
-
 /// Whether types may be Int128.
 fn is_wide(value: &Value) -> bool {
     match value.get("version") {
@@ -204,47 +216,41 @@ fn is_wide(value: &Value) -> bool {
     }
 }
 
-/// What is wrong with the value of a text.
-fn walked(alloc: Global, text: &str, value: &Value, want: Want) -> Result<Walk, AllocError> {
+/// What the whole of an input should be.
+fn whole_of(kind: InputKind) -> Want {
+    match kind {
+        InputKind::Job => Want::Job,
+        InputKind::Reconciliation => Want::Foreign(Foreign::Reconciliation),
+        InputKind::Edits => Want::Foreign(Foreign::Replay),
+    }
+}
+
+/// What is wrong with the value of a text that should be an input of a kind.
+fn walked(alloc: Global, text: &str, value: &Value, kind: InputKind) -> Result<Walk, AllocError> {
     let layout = layout_of(alloc, text)?;
-    let mut walk = Walk::new(alloc, is_wide(value));
-    look_at(&mut walk, want, value, Some(&layout), DEPTH)?;
+    let tables = match kind {
+        InputKind::Edits => Tables::of(alloc, value)?,
+        InputKind::Job | InputKind::Reconciliation => Tables::none(alloc),
+    };
+    let mut walk = Walk::new(alloc, is_wide(value), tables);
+    look_at(&mut walk, whole_of(kind), value, Some(&layout), DEPTH)?;
     Ok(walk)
 }
 
-/// Appends what is told of a value that may spell two tables and a key.
-fn push_reconciliation(
+/// Appends the first place of the bytes at which their value isn't what an input of a kind is, and how many further
+/// ones there are.
+pub fn push_misfit(
     alloc: Global,
     out: &mut String,
-    text: &str,
+    bytes: &[u8],
     value: &Value,
+    kind: InputKind,
 ) -> Result<(), AllocError> {
-    out.push_str("not a job: it has no plan, but \"on\", as what reconcile reads\n")?;
-    let walk = walked(alloc, text, value, Want::Reconciliation)?;
-    match &walk.first {
-        Some(misfit) => {
-            out.push_str("not a reconciliation: ")?;
-            push_misfit(alloc, out, text, misfit)?;
-            push_further(out, walk.found)
-        }
-        None => out.push_str("hint: liskevar reconcile reads it\n"),
-    }
-}
-
-/// What is told of the value of a text, which spells no job.
-pub fn misfit_text(alloc: Global, bytes: &[u8], value: &Value) -> Result<String, AllocError> {
     let text = simdutf8::compat::from_utf8(bytes).unwrap_or("");
-    let mut out = String::new(alloc);
-    if is_reconciliation(value) {
-        push_reconciliation(alloc, &mut out, text, value)?;
-        return Ok(out);
-    }
-    let walk = walked(alloc, text, value, Want::Job)?;
-    out.push_str("not a job: ")?;
+    let walk = walked(alloc, text, value, kind)?;
     match &walk.first {
-        Some(misfit) => push_misfit(alloc, &mut out, text, misfit)?,
+        Some(misfit) => push_first(alloc, out, text, misfit)?,
         None => out.push_str("the value spells none\n")?,
     }
-    push_further(&mut out, walk.found)?;
-    Ok(out)
+    push_further(out, walk.found)
 }

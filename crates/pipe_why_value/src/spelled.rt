@@ -4,10 +4,10 @@ ghost use Rattle.std.specs.Prelude.{◌≡◌, false, is_some, IfOk};
 ghost use Rattle.serde_json.specs.Find.{as_array};
 ghost use Rattle.pipe_value.specs.View.{view};
 ghost use Rattle.pipe_job.specs.Kinds.{is_version};
-ghost use Rattle.pipe_job.specs.Shape.{is_cell, is_couple};
+ghost use Rattle.pipe_job.specs.Shape.{is_cell, is_couple, is_exactly};
 ghost use Rattle.pipe_why_value.specs.Wanted.{is_wanted};
 
-use crate::want::Want;
+use crate::want::{Foreign, Want};
 use pipe_expr::{Expr, JoinCoalesce, JoinType, NamedExpr, RenamePair};
 use pipe_frame::{Bytes, DataFrame, DataType, List, Series, Text};
 use pipe_job::{Misread, Spelled, two_items};
@@ -64,6 +64,48 @@ fn is_kind(value: &Value) -> bool
     }
 }
 
+/// Whether a value is the word of a join's kind.
+fn is_join_word(value: &Value) -> bool
+    ensures { result ≡ false → is_wanted (Want.Foreign Foreign.JoinWord) (view value.now) ≡ false }
+{
+    match value.as_str() {
+        Some("Join") => true,
+        _ => false,
+    }
+}
+
+/// Whether a value is the word of a side.
+fn is_side(value: &Value) -> bool
+    ensures { result ≡ false → is_wanted (Want.Foreign Foreign.Side) (view value.now) ≡ false }
+{
+    match value.as_str() {
+        Some("left") => true,
+        Some("right") => true,
+        _ => false,
+    }
+}
+
+/// Whether a value is the word of what an edit does.
+fn is_word(value: &Value) -> bool
+    ensures { result ≡ false → is_wanted (Want.Foreign Foreign.Word) (view value.now) ≡ false }
+{
+    match value.as_str() {
+        Some("insert") => true,
+        Some("remove") => true,
+        _ => false,
+    }
+}
+
+/// Whether a value is the number of a table.
+fn is_table(value: &Value, table: u64) -> bool
+    ensures { result ≡ false → is_exactly table (view value.now) ≡ false }
+{
+    match value.as_u64() {
+        Some(n) => n == table,
+        None => false,
+    }
+}
+
 /// Whether a value is the number of a version.
 fn is_version(value: &Value) -> bool
     ensures { result ≡ false → is_version (view value.now) ≡ false }
@@ -103,35 +145,21 @@ fn is_array(value: &Value) -> Result<bool, AllocError>
     }
 }
 
-/// Whether a value spells what is wanted, of objects and arrays.
-fn is_part_spelled(alloc: Global, want: Want, value: &Value) -> Result<bool, AllocError>
-    ensures { IfOk result (λ holds. holds ≡ false → is_wanted want (view value.now) ≡ false) }
+/// Whether a value spells a part of what another command reads.
+fn is_foreign_spelled(alloc: Global, foreign: Foreign, value: &Value) -> Result<bool, AllocError>
+    ensures { IfOk result (λ holds.
+        holds ≡ false → is_wanted (Want.Foreign foreign) (view value.now) ≡ false) }
 {
-    match want {
-        Want::Texts => is_read::<List<Text>>(alloc, value),
-        Want::MaybeTexts => is_read::<Option<List<Text>>>(alloc, value),
-        Want::Truths => is_read::<List<bool>>(alloc, value),
-        Want::Numbers => is_read::<List<u32>>(alloc, value),
-        Want::Hint => is_read::<RowsHint>(alloc, value),
-        Want::Slice => is_read::<Option<PlanSlice>>(alloc, value),
-        Want::Expr => is_read::<Expr>(alloc, value),
-        Want::Exprs => is_read::<List<Expr>>(alloc, value),
-        Want::NamedExpr => is_read::<NamedExpr>(alloc, value),
-        Want::NamedExprs => is_read::<List<NamedExpr>>(alloc, value),
-        Want::Pair => is_read::<RenamePair>(alloc, value),
-        Want::Pairs => is_read::<List<RenamePair>>(alloc, value),
-        Want::Node => is_read::<IR>(alloc, value),
-        Want::Nodes => is_read::<List<IR>>(alloc, value),
-        Want::Column => is_read::<Series>(alloc, value),
-        Want::Columns => is_read::<List<Series>>(alloc, value),
-        Want::Frame => is_read::<DataFrame>(alloc, value),
-        Want::Frames => is_read::<List<DataFrame>>(alloc, value),
-        Want::Sides => is_couple(alloc, value),
-        Want::Cells(_) => is_array(value),
-        Want::Job | Want::Reconciliation | Want::Literal => Ok(is_object(value)),
-        Want::Version | Want::Kind | Want::Whole32 | Want::Whole64 | Want::MaybeWhole64 => Ok(true),
-        Want::Signed64 | Want::Truth | Want::Text | Want::Type | Want::How => Ok(true),
-        Want::Coalesce | Want::Cell(_) => Ok(true),
+    match foreign {
+        Foreign::Reconciliation | Foreign::Replay => Ok(is_object(value)),
+        Foreign::TwoFrames => is_couple(alloc, value),
+        Foreign::KeptJoin => is_read::<IR>(alloc, value),
+        Foreign::JoinWord => Ok(is_join_word(value)),
+        Foreign::LeftTable => Ok(is_table(value, 0)),
+        Foreign::RightTable => Ok(is_table(value, 1)),
+        Foreign::Side => Ok(is_side(value)),
+        Foreign::Word => Ok(is_word(value)),
+        Foreign::Edits | Foreign::Edit | Foreign::Row => is_array(value),
     }
 }
 
@@ -153,6 +181,27 @@ pub(crate) fn is_spelled(alloc: Global, want: Want, value: &Value) -> Result<boo
         Want::How => is_read::<JoinType>(alloc, value),
         Want::Coalesce => is_read::<JoinCoalesce>(alloc, value),
         Want::Cell(dtype) => is_cell(alloc, dtype, value),
-        _ => is_part_spelled(alloc, want, value),
+        Want::Texts => is_read::<List<Text>>(alloc, value),
+        Want::MaybeTexts => is_read::<Option<List<Text>>>(alloc, value),
+        Want::Truths => is_read::<List<bool>>(alloc, value),
+        Want::Numbers => is_read::<List<u32>>(alloc, value),
+        Want::Hint => is_read::<RowsHint>(alloc, value),
+        Want::Slice => is_read::<Option<PlanSlice>>(alloc, value),
+        Want::Expr => is_read::<Expr>(alloc, value),
+        Want::Exprs => is_read::<List<Expr>>(alloc, value),
+        Want::NamedExpr => is_read::<NamedExpr>(alloc, value),
+        Want::NamedExprs => is_read::<List<NamedExpr>>(alloc, value),
+        Want::Pair => is_read::<RenamePair>(alloc, value),
+        Want::Pairs => is_read::<List<RenamePair>>(alloc, value),
+        Want::Node => is_read::<IR>(alloc, value),
+        Want::Nodes => is_read::<List<IR>>(alloc, value),
+        Want::Column => is_read::<Series>(alloc, value),
+        Want::Columns => is_read::<List<Series>>(alloc, value),
+        Want::Frame => is_read::<DataFrame>(alloc, value),
+        Want::Frames => is_read::<List<DataFrame>>(alloc, value),
+        Want::Sides => is_couple(alloc, value),
+        Want::Cells(_) => is_array(value),
+        Want::Job | Want::Literal => Ok(is_object(value)),
+        Want::Foreign(foreign) => is_foreign_spelled(alloc, foreign, value),
     }
 }

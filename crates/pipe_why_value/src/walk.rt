@@ -1,20 +1,20 @@
-//! The walk through a value that should spell a job, in the order of its text: the first place at which something else
-//! stands than may, and how many further ones there are.
+//! The walk through a value that should spell a job, or what another command reads, in the order of its text: the first
+//! place at which something else stands than may, and how many further ones there are.
 
 ghost use Rattle.std.specs.Prelude.{◌<◌, length};
 ghost use Rattle.pipe_value.specs.Items.{elements};
 ghost use Rattle.pipe_value.specs.View.{view};
 
 use crate::cells::{BadCells, bad_cells};
-use crate::layout::{Layout, Placed};
+use crate::edits::{Tables, look_at_edit};
 use crate::spelled::is_spelled;
-use crate::steps::{Step, copies};
 use crate::table::look_at_table;
 use crate::want::{
-    Member, Want, couple_wants, form, item_want, node_members, object_members, type_named,
+    Foreign, Member, Want, couple_wants, form, item_want, node_members, object_members, type_named,
 };
 use pipe_frame::DataType;
 use pipe_value::Value;
+use pipe_why_text::{Layout, Placed, Step, copies};
 use std::alloc::{AllocError, Global};
 
 /// What is wrong at a place.
@@ -47,6 +47,13 @@ pub(crate) enum Wrong {
         cells: usize,
         wanted: usize,
     },
+    /// So many frames, where two are wanted.
+    Frames(usize),
+    /// A row of so many cells, of a table of so many columns.
+    Width {
+        cells: usize,
+        columns: usize,
+    },
 }
 
 /// A place and what is wrong there.
@@ -64,6 +71,8 @@ pub(crate) struct Walk {
     pub(crate) alloc: Global,
     /// Whether types may be Int128.
     is_wide: bool,
+    /// The tables that are edited.
+    pub(crate) tables: Tables,
     /// The steps to where the walk is.
     steps: Vec<Step>,
     /// How many members on the way to where the walk is stand twice.
@@ -74,7 +83,7 @@ pub(crate) struct Walk {
 }
 
 /// The text that the member of a name is, the empty one where it is none.
-fn word_in<'v>(value: &'v Value, name: &str) -> &'v str {
+pub(crate) fn word_in<'v>(value: &'v Value, name: &str) -> &'v str {
     match value.get(name) {
         Some(Value::String(text)) => text.as_str(),
         _ => "",
@@ -82,7 +91,7 @@ fn word_in<'v>(value: &'v Value, name: &str) -> &'v str {
 }
 
 /// The type that a column or a literal has.
-fn type_in(value: &Value) -> Option<DataType> {
+pub(crate) fn type_in(value: &Value) -> Option<DataType> {
     type_named(word_in(value, "type"))
 }
 
@@ -116,10 +125,11 @@ fn member_want(known: &[Member], name: &str, parent: &Value) -> MemberWant {
 
 impl Walk {
     /// A walk that has found nothing.
-    pub(crate) fn new(alloc: Global, is_wide: bool) -> Walk {
+    pub(crate) fn new(alloc: Global, is_wide: bool, tables: Tables) -> Walk {
         Walk {
             alloc,
             is_wide,
+            tables,
             steps: Vec::new(alloc),
             repeated: 0,
             first: None,
@@ -149,7 +159,7 @@ impl Walk {
     }
 
     /// Goes to an item.
-    fn enter_item(&mut self, i: usize) -> Result<(), AllocError> {
+    pub(crate) fn enter_item(&mut self, i: usize) -> Result<(), AllocError> {
         self.steps.push(Step::Item(i))?;
         Ok(())
     }
@@ -165,7 +175,7 @@ impl Walk {
     }
 
     /// Takes note of a value that doesn't spell what is wanted, of whose parts nothing was noted.
-    fn judge(&mut self, want: Want, value: &Value) -> Result<(), AllocError> {
+    pub(crate) fn judge(&mut self, want: Want, value: &Value) -> Result<(), AllocError> {
         if self.is_too_wide(want, value) {
             return self.note(Wrong::Wide);
         }
@@ -395,6 +405,9 @@ fn array(
     layout: Option<&Layout>,
     depth: usize,
 ) -> Result<(), AllocError> {
+    if want == Want::Foreign(Foreign::Edit) {
+        return look_at_edit(walk, value);
+    }
     let Some(count) = value.array_len()? else {
         return Ok(());
     };
@@ -402,6 +415,8 @@ fn array(
         if count == 2 {
             item(walk, first, value, 0, layout, depth)?;
             item(walk, second, value, 1, layout, depth)?;
+        } else if want == Want::Foreign(Foreign::TwoFrames) {
+            walk.note(Wrong::Frames(count))?;
         }
         return Ok(());
     }

@@ -1,6 +1,31 @@
-//! What may stand at a place of a job: one of these for each part of its spelling.
+//! What may stand at a place of a job, or of what another command reads: one of these for each part of its spelling.
 
 use pipe_frame::DataType;
+
+/// What may stand at a place of what another command reads, where no part of a job may.
+#[derive(Clone, Copy, Debug, PartialEq, Eq)]
+pub(crate) enum Foreign {
+    /// Two tables, a key and the numbers of a run.
+    Reconciliation,
+    /// Two tables, their join, a limit and edits of them.
+    Replay,
+    TwoFrames,
+    /// The join of the two tables, as a node.
+    KeptJoin,
+    /// The word of a join's kind.
+    JoinWord,
+    /// The number of the left table.
+    LeftTable,
+    /// The number of the right table.
+    RightTable,
+    Edits,
+    Edit,
+    /// The word of the side that is edited.
+    Side,
+    /// The word of what an edit does.
+    Word,
+    Row,
+}
 
 /// What may stand at a place.
 #[derive(Clone, Copy, Debug, PartialEq, Eq)]
@@ -43,8 +68,8 @@ pub(crate) enum Want {
     NamedExprs,
     Pair,
     Pairs,
-    /// Two tables, a key and the numbers of a run.
-    Reconciliation,
+    /// A part of what another command reads.
+    Foreign(Foreign),
 }
 
 /// The name of a member, and what its value may be.
@@ -74,6 +99,12 @@ pub(crate) const COALESCES: &[&str] = &["JoinSpecific", "CoalesceColumns", "Keep
 pub(crate) const TYPES: &[&str] = &[
     "Int32", "Int64", "UInt32", "UInt64", "Boolean", "String", "Binary", "Int128",
 ];
+
+/// The words of the sides that are edited.
+pub(crate) const SIDES: &[&str] = &["left", "right"];
+
+/// The words of what an edit does.
+pub(crate) const EDITS: &[&str] = &["insert", "remove"];
 
 /// The names of the one member of an expression.
 pub(crate) const FORMS: &[&str] = &[
@@ -110,9 +141,17 @@ const RECONCILIATION: &[Member] = &[
     ("workers", Want::Whole32),
     ("chunk_rows", Want::Whole32),
     ("row_limit", Want::Whole32),
-    ("frames", Want::Frames),
+    ("frames", Want::Foreign(Foreign::TwoFrames)),
     ("on", Want::Texts),
     ("join_nulls", Want::Truth),
+];
+
+const REPLAY: &[Member] = &[
+    ("version", Want::Version),
+    ("row_limit", Want::Whole32),
+    ("frames", Want::Foreign(Foreign::TwoFrames)),
+    ("join", Want::Foreign(Foreign::KeptJoin)),
+    ("edits", Want::Foreign(Foreign::Edits)),
 ];
 
 const FRAME: &[Member] = &[("columns", Want::Columns)];
@@ -184,6 +223,20 @@ const JOIN: &[Member] = &[
     ("rows_right", Want::Hint),
 ];
 
+const KEPT_JOIN: &[Member] = &[
+    ("node", Want::Foreign(Foreign::JoinWord)),
+    ("left", Want::Foreign(Foreign::LeftTable)),
+    ("right", Want::Foreign(Foreign::RightTable)),
+    ("left_on", Want::Exprs),
+    ("right_on", Want::Exprs),
+    ("how", Want::How),
+    ("join_nulls", Want::Truth),
+    ("coalesce", Want::Coalesce),
+    ("suffix", Want::Text),
+    ("rows_left", Want::Hint),
+    ("rows_right", Want::Hint),
+];
+
 const SORT: &[Member] = &[
     ("node", Want::Kind),
     ("input", Want::Whole32),
@@ -214,7 +267,9 @@ pub(crate) fn node_members(kind: &str) -> &'static [Member] {
 pub(crate) fn object_members(want: Want) -> &'static [Member] {
     match want {
         Want::Job => JOB,
-        Want::Reconciliation => RECONCILIATION,
+        Want::Foreign(Foreign::Reconciliation) => RECONCILIATION,
+        Want::Foreign(Foreign::Replay) => REPLAY,
+        Want::Foreign(Foreign::KeptJoin) => KEPT_JOIN,
         Want::Frame => FRAME,
         Want::Column => COLUMN,
         Want::Literal => LITERAL,
@@ -260,6 +315,7 @@ pub(crate) fn item_want(want: Want) -> Option<Want> {
         Want::Exprs => Some(Want::Expr),
         Want::NamedExprs => Some(Want::NamedExpr),
         Want::Pairs => Some(Want::Pair),
+        Want::Foreign(Foreign::Edits) => Some(Want::Foreign(Foreign::Edit)),
         _ => None,
     }
 }
@@ -268,6 +324,7 @@ pub(crate) fn item_want(want: Want) -> Option<Want> {
 pub(crate) fn couple_wants(want: Want) -> Option<(Want, Want)> {
     match want {
         Want::Sides => Some((Want::Expr, Want::Expr)),
+        Want::Foreign(Foreign::TwoFrames) => Some((Want::Frame, Want::Frame)),
         Want::Hint => Some((Want::MaybeWhole64, Want::Whole64)),
         Want::Slice => Some((Want::Signed64, Want::Whole64)),
         _ => None,

@@ -1,10 +1,12 @@
-//! Mistakes that are made in jobs: prints what `why` tells of each.
+//! Mistakes that are made in jobs, and in what other commands read: prints what `why` tells of each.
 #![tactic(auto)]
 
 mod asked;
+mod counts;
 mod faults;
 mod good;
 mod nodes;
+mod others;
 mod table;
 mod texts;
 mod values;

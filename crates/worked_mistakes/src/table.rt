@@ -1,9 +1,11 @@
 //! The cases, in the order in which they are told.
 
 use crate::asked::{tell_file, tell_text, tell_unwritten};
+use crate::counts::COUNTS;
 use crate::faults::FAULTS;
 use crate::good::GOOD;
 use crate::nodes::NODES;
+use crate::others::OTHERS;
 use crate::texts::TEXTS;
 use crate::values::VALUES;
 use std::alloc::{AllocError, Global};
@@ -32,6 +34,8 @@ pub(crate) fn answers<T: Threads + Wait + Sync>(rt: &T, a: Global) -> Result<Str
     tell_each(rt, a, &mut answers, NODES)?;
     tell_each(rt, a, &mut answers, FAULTS)?;
     tell_each(rt, a, &mut answers, GOOD)?;
+    tell_each(rt, a, &mut answers, COUNTS)?;
+    tell_each(rt, a, &mut answers, OTHERS)?;
     tell_file(rt, a, &mut answers, "a file that isn't there", "job.json")?;
     tell_file(rt, a, &mut answers, "a job in a file", "sorted.json")?;
     tell_unwritten(rt, a, &mut answers, "a text that can't be written", "[]")?;

@@ -1,12 +1,12 @@
 //! Where a part of a value stands: the steps that lead to it.
 
-use pipe_why_text::push_quoted;
+use crate::words::push_quoted;
 use std::alloc::{AllocError, Global};
 use std::fmt::Write;
 
 /// A step into a value.
 #[derive(Drop)]
-pub(crate) enum Step {
+pub enum Step {
     /// To the member of an object.
     Member(String),
     /// To the item of an array.
@@ -15,7 +15,7 @@ pub(crate) enum Step {
 
 impl Step {
     /// A copy of the step.
-    pub(crate) fn copied(&self, alloc: Global) -> Result<Step, AllocError> {
+    pub fn copied(&self, alloc: Global) -> Result<Step, AllocError> {
         match self {
             Step::Member(name) => Ok(Step::Member(String::from_str(alloc, name.as_str())?)),
             Step::Item(i) => Ok(Step::Item(*i)),
@@ -24,7 +24,7 @@ impl Step {
 }
 
 /// Copies of some steps.
-pub(crate) fn copies(alloc: Global, steps: &[Step]) -> Result<Vec<Step>, AllocError> {
+pub fn copies(alloc: Global, steps: &[Step]) -> Result<Vec<Step>, AllocError> {
     let mut copied = Vec::new(alloc);
     for step in steps {
         copied.push(step.copied(alloc)?)?;
@@ -43,7 +43,7 @@ fn is_plain(name: &str) -> bool {
 }
 
 /// Appends the steps, as `plan[3].left_on[0].lit.value`; without a step, that it is the whole.
-pub(crate) fn push_steps(out: &mut String, steps: &[Step]) -> Result<(), AllocError> {
+pub fn push_steps(out: &mut String, steps: &[Step]) -> Result<(), AllocError> {
     if steps.is_empty() {
         return out.push_str("the whole text");
     }

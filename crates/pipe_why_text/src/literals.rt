@@ -2,8 +2,8 @@
 
 /// A part of a job's text.
 #[derive(Clone, Copy)]
-pub(crate) struct Literal<'t> {
-    pub(crate) bytes: &'t [u8],
+pub struct Literal<'t> {
+    pub bytes: &'t [u8],
 }
 
 /// Whether a byte ends a number or a word.
@@ -78,7 +78,7 @@ fn word_len(bytes: &[u8]) -> usize {
 
 impl<'t> Literal<'t> {
     /// The value that begins at a place of a text.
-    pub(crate) fn at(bytes: &'t [u8], at: usize) -> Literal<'t> {
+    pub fn at(bytes: &'t [u8], at: usize) -> Literal<'t> {
         let rest = bytes.get(at..).unwrap_or(&[]);
         let len = match rest.first() {
             Some(b'"') => string_len(rest),
@@ -91,7 +91,7 @@ impl<'t> Literal<'t> {
     }
 
     /// The first byte, a space where there is none.
-    pub(crate) fn first(self) -> u8 {
+    pub fn first(self) -> u8 {
         match self.bytes.first() {
             Some(byte) => *byte,
             None => b' ',
@@ -99,12 +99,12 @@ impl<'t> Literal<'t> {
     }
 
     /// Whether it is a number.
-    pub(crate) fn is_number(self) -> bool {
+    pub fn is_number(self) -> bool {
         self.first() == b'-' || self.first().is_ascii_digit()
     }
 
     /// Whether it is a number with a point or an exponent.
-    pub(crate) fn is_fraction(self) -> bool {
+    pub fn is_fraction(self) -> bool {
         let mut is_found = false;
         for byte in self.bytes {
             is_found = is_found || *byte == b'.' || *byte == b'e' || *byte == b'E';
@@ -113,18 +113,18 @@ impl<'t> Literal<'t> {
     }
 
     /// Whether it is a text in double quotes.
-    pub(crate) fn is_text(self) -> bool {
+    pub fn is_text(self) -> bool {
         self.first() == b'"'
     }
 
     /// What stands in the double quotes.
-    pub(crate) fn inside(self) -> &'t [u8] {
+    pub fn inside(self) -> &'t [u8] {
         let len = self.bytes.len();
         self.bytes.get(1..len.saturating_sub(1)).unwrap_or(&[])
     }
 
     /// Whether it is a text of digits alone, behind an optional minus sign.
-    pub(crate) fn is_quoted_number(self) -> bool {
+    pub fn is_quoted_number(self) -> bool {
         let mut are_digits = self.is_text() && !self.inside().is_empty();
         for byte in self.inside() {
             are_digits = are_digits && (byte.is_ascii_digit() || *byte == b'-');

@@ -8,7 +8,7 @@ use std::collections::BTreeMap;
 /// How the parts of a value stand in its text.
 #[cycle(layout)]
 #[derive(Drop)]
-pub(crate) enum Layout {
+pub enum Layout {
     /// A value without parts.
     Plain,
     /// The items of an array, up to the last one that has parts.
@@ -20,18 +20,18 @@ pub(crate) enum Layout {
 /// A member of an object in its text.
 #[cycle(layout)]
 #[derive(Drop)]
-pub(crate) struct Placed {
-    pub(crate) name: String,
-    pub(crate) layout: Layout,
+pub struct Placed {
+    pub name: String,
+    pub layout: Layout,
     /// Whether a member of this name stands further behind: that one counts.
-    pub(crate) stands_again: bool,
+    pub stands_again: bool,
     /// Whether one of this name stands before it.
-    pub(crate) stood_before: bool,
+    pub stood_before: bool,
 }
 
 impl Layout {
     /// The layout of an item of an array, where it is told.
-    pub(crate) fn item(&self, i: usize) -> Option<&Layout> {
+    pub fn item(&self, i: usize) -> Option<&Layout> {
         match self {
             Layout::Items(items) => items.get(i),
             Layout::Plain | Layout::Members(_) => None,
@@ -39,7 +39,7 @@ impl Layout {
     }
 
     /// The members of an object.
-    pub(crate) fn members(&self) -> &[Placed] {
+    pub fn members(&self) -> &[Placed] {
         match self {
             Layout::Members(members) => members.as_slice(),
             Layout::Plain | Layout::Items(_) => &[],
@@ -201,7 +201,7 @@ impl Laying {
 }
 
 /// The layout of a text's value.
-pub(crate) fn layout_of(alloc: Global, text: &str) -> Result<Layout, AllocError> {
+pub fn layout_of(alloc: Global, text: &str) -> Result<Layout, AllocError> {
     let mut scratch = Scratch::new(alloc);
     let mut reader = Reader::new(text, &mut scratch)?;
     let mut laying = Laying {
@@ -320,7 +320,7 @@ impl<'s> Way<'s> {
 
 /// The byte at which the value begins to which some steps lead, the last one of several; that of the text where none
 /// is there.
-pub(crate) fn offset_of(alloc: Global, text: &str, steps: &[Step]) -> Result<usize, AllocError> {
+pub fn offset_of(alloc: Global, text: &str, steps: &[Step]) -> Result<usize, AllocError> {
     let mut scratch = Scratch::new(alloc);
     let mut reader = Reader::new(text, &mut scratch)?;
     let mut way = Way {

@@ -1,0 +1,44 @@
+//! What commands read, told apart by its members.
+
+use pipe_value::Value;
+
+/// The kinds of inputs that commands read.
+#[derive(Clone, Copy, Debug, PartialEq, Eq)]
+pub enum InputKind {
+    /// Frames and a plan, which `run` reads.
+    Job,
+    /// Two tables and a key, which `reconcile` reads.
+    Reconciliation,
+    /// Two tables, their join and edits of them, which `replay-edits` reads.
+    Edits,
+}
+
+/// Whether a value has a member.
+fn has(value: &Value, name: &str) -> bool {
+    value.get(name).is_some()
+}
+
+impl InputKind {
+    /// What a value is by its members: a job wherever it has a plan, or no member that a job hasn't.
+    pub fn of(value: &Value) -> InputKind {
+        if has(value, "plan") {
+            return InputKind::Job;
+        }
+        if has(value, "edits") || has(value, "join") {
+            return InputKind::Edits;
+        }
+        if has(value, "on") || has(value, "join_nulls") {
+            return InputKind::Reconciliation;
+        }
+        InputKind::Job
+    }
+
+    /// The member by which such a value is told from a job.
+    pub fn own_member(self, value: &Value) -> &'static str {
+        match self {
+            InputKind::Job => "plan",
+            InputKind::Reconciliation => if has(value, "on") { "on" } else { "join_nulls" },
+            InputKind::Edits => if has(value, "edits") { "edits" } else { "join" },
+        }
+    }
+}
