@@ -1,0 +1,15 @@
+pub mod NameLists
+pub mod Cut
+pub mod Over
+pub mod Plain
+pub mod Joined
+pub mod Served
+pub mod Bags
+pub mod Composed
+pub mod Low
+pub mod Readers
+pub mod Plans
+pub mod ByNames
+pub mod Passing
+pub mod Steps
+pub mod Optimized

@@ -1,0 +1,10 @@
+-- the columns that are needed of a plan's nodes
+pub mod Needed
+-- narrowed plans
+pub mod Narrow
+-- lists of names
+pub mod Lists
+-- outputs and needs by names
+pub mod Sides
+pub mod Put
+pub mod Full

@@ -1,0 +1,14 @@
+//! Plans rewritten: filters stand as low as they can, and columns that nobody needs are left out.
+#![tactic(auto)]
+
+mod full;
+mod names;
+mod narrowing;
+mod needed;
+mod outputs;
+mod passes;
+mod reads;
+mod trimming;
+
+pub use passes::optimize;
+pub use pipe_opt::Rewritten;

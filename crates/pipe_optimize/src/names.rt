@@ -1,0 +1,52 @@
+//! Lists of names, by the numbers of nodes.
+
+ghost use Rattle.std.specs.Prelude.{◌≡◌, IfOk};
+ghost use Rattle.pipe_frame.specs.Schema.{has_name, names_of};
+ghost use Rattle.pipe_optimize.specs.Lists.{names_at as kept_names_at};
+
+use pipe_fields::NameIndex;
+use pipe_frame::{Field, List, Text, TryClone};
+use std::alloc::{AllocError, Global};
+
+/// The names that are kept for a node, none where none are kept.
+pub(crate) fn names_at(lists: &[List<Text>], n: u32) -> &[Text]
+    ensures { result.now ≡ kept_names_at lists.now n }
+{
+    match lists.get(n as usize) {
+        Some(names) => names.as_slice(),
+        None => &[],
+    }
+}
+
+/// Whether a name stands among some names.
+#[tactic(auto, using(crate::proofs::NameLists::name_rules))]
+pub(crate) fn has(names: &NameIndex<Text>, name: &Text) -> bool
+    ensures { result ≡ has_name names.now name.now }
+{
+    match names.first(name) {
+        Some(_) => true,
+        None => false,
+    }
+}
+
+/// Copies of some names.
+pub(crate) fn copied(alloc: Global, names: &[Text]) -> Result<List<Text>, AllocError>
+    ensures { IfOk result (λ copies. copies ≡ names.now) }
+{
+    let mut copies = List::new(alloc);
+    for name in names {
+        copies.push(name.try_clone()?)?;
+    }
+    Ok(copies)
+}
+
+/// The names of some fields.
+pub(crate) fn field_names(alloc: Global, fields: &[Field]) -> Result<List<Text>, AllocError>
+    ensures { IfOk result (λ names. names ≡ names_of fields.now) }
+{
+    let mut names = List::new(alloc);
+    for field in fields {
+        names.push(field.name.try_clone()?)?;
+    }
+    Ok(names)
+}
