@@ -1,0 +1,10 @@
+pub mod Putting
+pub mod Packing
+pub mod Fronts
+pub mod Newline
+pub mod Floats
+pub mod RangeLists
+pub mod Known
+pub mod Lined
+pub mod Lines
+pub mod Reading
