@@ -1,0 +1,4 @@
+pub mod Best
+pub mod Own
+pub mod Steps
+pub mod Below

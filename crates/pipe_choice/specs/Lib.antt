@@ -1,0 +1,4 @@
+-- the choice that leaves the least to be had whole
+pub mod Least
+-- what the sides of a join are asked
+pub mod Sides

@@ -1,0 +1,10 @@
+pub mod Together
+pub mod Lying
+pub mod Sides
+pub mod Exprs
+pub mod Columns
+pub mod Granted
+pub mod Asked
+pub mod Joined
+pub mod Plans
+pub mod Roots

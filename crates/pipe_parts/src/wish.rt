@@ -1,0 +1,45 @@
+//! How rows are to lie in parts.
+
+use pipe_frame::{List, Text, TryClone};
+use std::alloc::AllocError;
+
+/// How the rows of a node are wished to lie in parts.
+#[derive(Debug, Drop)]
+pub enum Wish {
+    /// Each row lies in one part, in any way.
+    Split,
+    /// The same, and rows with the same values in these columns (null is the same as null) lie in one part, which is
+    /// the same for all rows that are cut by one key. A key has the number of the join that asks for it.
+    Key { key: u32, columns: List<Text> },
+    /// Each part has all rows.
+    Whole,
+}
+
+/// How the frame that one scan reads is cut.
+#[derive(Debug, Drop)]
+pub struct ScanCut {
+    pub scan: u32,
+    pub cut: Wish,
+}
+
+impl TryClone for Wish {
+    fn try_clone(&self) -> Result<Wish, AllocError> {
+        match self {
+            Wish::Split => Ok(Wish::Split),
+            Wish::Key { key, columns } => Ok(Wish::Key {
+                key: *key,
+                columns: columns.try_clone()?,
+            }),
+            Wish::Whole => Ok(Wish::Whole),
+        }
+    }
+}
+
+impl TryClone for ScanCut {
+    fn try_clone(&self) -> Result<ScanCut, AllocError> {
+        Ok(ScanCut {
+            scan: self.scan,
+            cut: self.cut.try_clone()?,
+        })
+    }
+}

@@ -1,0 +1,101 @@
+//! The answer to a case: how each scan is cut, where the rules allow a choice.
+
+use pipe_check::{CheckedPlan, check_plan};
+use pipe_choice::{Found, least_choice};
+use pipe_frame::Text;
+use pipe_parts::{ScanCut, Wish};
+use pipe_plan::Arena;
+use std::alloc::{AllocError, Global};
+use worked_builders::{WrittenPlan, plan_of};
+
+/// A plan, and how many rows each of its frames is told to have.
+pub(crate) struct Case {
+    pub(crate) plan: WrittenPlan,
+    pub(crate) sizes: &'static [u64],
+}
+
+/// The columns of a key, each behind a space.
+fn columns_text(alloc: Global, columns: &[Text]) -> Result<String, AllocError> {
+    let mut text = String::new(alloc);
+    for column in columns {
+        text.push_str(" ")?;
+        text.push_str(column.as_str())?;
+    }
+    Ok(text)
+}
+
+/// How rows are cut.
+fn cut_text(alloc: Global, cut: &Wish) -> Result<String, AllocError> {
+    match cut {
+        Wish::Split => String::from_str(alloc, "split"),
+        Wish::Key { key, columns } => {
+            let columns = columns_text(alloc, columns.as_slice())?;
+            format!(in alloc; "key {key} by{columns}")
+        }
+        Wish::Whole => String::from_str(alloc, "whole"),
+    }
+}
+
+/// How one scan is cut.
+fn scan_line(alloc: Global, one: &ScanCut) -> Result<String, AllocError> {
+    let scan = one.scan;
+    let cut = cut_text(alloc, &one.cut)?;
+    format!(in alloc; "scan {scan} {cut}\n")
+}
+
+/// A choice.
+fn push_found(alloc: Global, answers: &mut String, found: &Found) -> Result<(), AllocError> {
+    for one in found.cuts.as_slice() {
+        answers.push_str(scan_line(alloc, one)?.as_str())?;
+    }
+    let whole = found.whole;
+    answers.push_str(format!(in alloc; "{whole} rows whole\n")?.as_str())
+}
+
+/// The choice for a plan, if there is one.
+fn push_choice(
+    alloc: Global,
+    answers: &mut String,
+    plan: &CheckedPlan,
+    sizes: &[u64],
+) -> Result<(), AllocError> {
+    match least_choice(alloc, plan, sizes)? {
+        Some(found) => push_found(alloc, answers, &found),
+        None => answers.push_str("not in parts\n"),
+    }
+}
+
+/// The choice for a plan that has no fault.
+fn push_answer(
+    alloc: Global,
+    answers: &mut String,
+    arena: &Arena,
+    root: u32,
+    sizes: &[u64],
+) -> Result<(), AllocError> {
+    match check_plan(alloc, arena, root) {
+        Ok(plan) => push_choice(alloc, answers, &plan, sizes),
+        Err(_error) => answers.push_str("refused\n"),
+    }
+}
+
+/// Builds a plan, and appends what the case shows and its choice.
+fn tell(alloc: Global, answers: &mut String, case: &Case) -> Result<(), AllocError> {
+    let built = plan_of(alloc, case.plan.nodes)?;
+    answers.push_str("# ")?;
+    answers.push_str(case.plan.shows)?;
+    answers.push_str("\n")?;
+    push_answer(alloc, answers, &built.arena, built.root, case.sizes)
+}
+
+/// Appends what some cases show, and their choices.
+pub(crate) fn tell_cases(
+    alloc: Global,
+    answers: &mut String,
+    cases: &[Case],
+) -> Result<(), AllocError> {
+    for case in cases {
+        tell(alloc, answers, case)?;
+    }
+    Ok(())
+}
