@@ -1,0 +1,2 @@
+-- rounds one after another, until a source is out
+pub mod Rounds

@@ -1,0 +1,2 @@
+-- branches that stand one behind the other
+pub mod Blocks

@@ -1,0 +1,4 @@
+pub mod Kept
+pub mod Copies
+pub mod Places
+pub mod Padded
