@@ -16,5 +16,5 @@ pub use call_back::CallBack;
 pub use phys_operator::PhysOperator;
 pub use place_holder::{PlaceHolder, get_dummy_operator};
 pub use probe_kind::{ProbeKind, probe_for};
-pub use slot::{Built, Slot};
+pub use slot::Slot;
 pub use slots::Slots;
