@@ -4,6 +4,7 @@
 mod columns;
 mod entries;
 mod key;
+mod parts;
 mod prefix;
 mod sink;
 mod sorted;
