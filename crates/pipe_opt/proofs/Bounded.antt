@@ -1,5 +1,5 @@
 -- How many rows rewritten nodes have, and that each stands under the last.
-use Rattle.std.proofs.Common.{◌≡◌, ℕ, suc, ◌<◌, ◌≤◌, Bool, true, false, cond, eqb, ◌||◌, List, [], ◌∷◌, ◌++◌, length, map, refl, ap, sym, ◌∙◌, subst, arith, ◌⊎◌, inl, inr, length-append}
+use Rattle.std.proofs.Common.{◌≡◌, ℕ, suc, ◌<◌, ◌≤◌, Bool, true, false, cond, eqb, ◌||◌, List, [], ◌∷◌, ◌++◌, Option, Some, None, length, map, refl, ap, sym, ◌∙◌, subst, arith, ◌⊎◌, inl, inr, length-append}
 use Rattle.std.specs.Prelude.{filter}
 use Rattle.std.specs.List.{AllByRecursion, flat_map, list_any}
 use Rattle.std.proofs.lemmas.Bool.{cases_lt}
@@ -24,6 +24,7 @@ use Rattle.pipe_rules.specs.Parted.{Parts, above_in, inputs_in, left_in, right_i
 use Rattle.pipe_rules.proofs.Parts.{parts-down, each-none}
 use Rattle.pipe_opt.specs.Renumbered.{with_inputs}
 use Rattle.pipe_opt.specs.Low.{is_sort}
+use Rattle.pipe_opt.specs.Sorts.{sorting_of}
 use Rattle.pipe_opt.specs.Grown.{over, AreWithin, is_reached}
 use Rattle.pipe_opt.proofs.Growing.{under-new, rows-stays}
 use Rattle.pipe_opt.proofs.Granted.{granted}
@@ -145,13 +146,32 @@ one-within frames old new y limit before here m above below =
 
 -- ---- sorts
 
-pub sort-renumbered : (x : Node) (ks : List ℕ) → is_sort (with_inputs x ks) ≡ is_sort x
-sort-renumbered (node.DataFrameScan frame columns) ks = refl
-sort-renumbered (node.Filter input predicate) ks = refl
-sort-renumbered (node.SimpleProjection input columns) ks = refl
-sort-renumbered (node.Select input exprs) ks = refl
-sort-renumbered (node.HStack input exprs) ks = refl
-sort-renumbered (node.MapFunction input function) ks = refl
-sort-renumbered (node.Union inputs) ks = refl
-sort-renumbered (node.Join left right left_on right_on options) ks = refl
-sort-renumbered (node.Sort input by options) ks = refl
+pub sorting-renumbered : (x : Node) (ks : List ℕ) → sorting_of (with_inputs x ks) ≡ sorting_of x
+sorting-renumbered (node.DataFrameScan frame columns) ks = refl
+sorting-renumbered (node.Filter input predicate) ks = refl
+sorting-renumbered (node.SimpleProjection input columns) ks = refl
+sorting-renumbered (node.Select input exprs) ks = refl
+sorting-renumbered (node.HStack input exprs) ks = refl
+sorting-renumbered (node.MapFunction input function) ks = refl
+sorting-renumbered (node.Union inputs) ks = refl
+sorting-renumbered (node.Join left right left_on right_on options) ks = refl
+sorting-renumbered (node.Sort input by options) ks = refl
+
+abbrev is-there : {A : Type 0} → Option A → Bool
+is-there None = false
+is-there (Some a) = true
+
+sort-by : (x : Node) → is_sort x ≡ is-there (sorting_of x)
+sort-by (node.DataFrameScan frame columns) = refl
+sort-by (node.Filter input predicate) = refl
+sort-by (node.SimpleProjection input columns) = refl
+sort-by (node.Select input exprs) = refl
+sort-by (node.HStack input exprs) = refl
+sort-by (node.MapFunction input function) = refl
+sort-by (node.Union inputs) = refl
+sort-by (node.Join left right left_on right_on options) = refl
+sort-by (node.Sort input by options) = refl
+
+-- what sorts by what a sort sorts by is a sort
+pub is-sorted : (x y : Node) → sorting_of x ≡ sorting_of y → is_sort y ≡ true → is_sort x ≡ true
+is-sorted x y same sort = sort-by x ∙ ap is-there same ∙ sym (sort-by y) ∙ sort

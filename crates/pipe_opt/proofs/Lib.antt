@@ -3,6 +3,7 @@ pub mod Growing
 pub mod Granted
 pub mod Counted
 pub mod Bounded
+pub mod Literals
 pub mod Faultless
 pub mod Sounding
 pub mod Typed

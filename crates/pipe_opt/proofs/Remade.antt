@@ -1,7 +1,7 @@
 -- A node that is made again over rewritten inputs.
 use Rattle.std.proofs.Common.{◌≡◌, ℕ, zero, suc, ◌+◌, ◌<◌, ◌≤◌, Bool, true, false, eqb, ◌||◌, ◌⊎◌, inl, inr, List, [], ◌∷◌, ◌++◌, length, map, take, get_or, refl, ap, sym, ◌∙◌, subst, arith, length-append, append_assoc, append-nil}
 use Rattle.std.specs.Prelude.{◌&&◌}
-use Rattle.std.specs.List.{AllByRecursion, list_any}
+use Rattle.std.specs.List.{AllByRecursion, list_all, list_any}
 use Rattle.pipe_frame.specs.Rows.{Row}
 use Rattle.pipe_frame.specs.declared.field.Field.{Field}
 use Rattle.pipe_expr.specs.Formula.{Formula, Column, Literal, Add, Sub, Mul, Eq, NotEq, Lt, LtEq, Gt, GtEq, And, Or, Not, IsNull, IsNotNull}
@@ -26,13 +26,16 @@ use Rattle.pipe_rules.specs.Parted.{Parts, part_for, parted, rows_below}
 use Rattle.pipe_opt.specs.Renumbered.{with_inputs}
 use Rattle.pipe_opt.specs.Sizes.{sum_of, size_of}
 use Rattle.pipe_opt.specs.Low.{is_filter, is_sort, IsConjunct}
+use Rattle.pipe_opt.specs.Sorts.{sorting_of}
+use Rattle.pipe_opt.specs.Literals.{LiteralTest, literals_pass, node_literals_pass}
 use Rattle.pipe_opt.specs.Grown.{over, Grows, AreSound, IsFree, AreWithin, is_reached, IsRewritten, AreRewritten}
 use Rattle.pipe_rules.proofs.Parts.{parts-down, each-next, each-none}
 use Rattle.pipe_opt.proofs.Renumber.{schema-renumbered, rows-renumbered}
 use Rattle.pipe_opt.proofs.Growing.{node-new, under-stays, schema-stays, rows-stays, schema-new, rows-new}
 use Rattle.pipe_opt.proofs.Granted.{granted, ready, rows-granted, first_false, second_false}
 use Rattle.pipe_opt.proofs.Counted.{any-last, size-made}
-use Rattle.pipe_opt.proofs.Bounded.{filter-less, copy-less, within-input, within-inputs, last-reaches, one-within, sort-renumbered}
+use Rattle.pipe_opt.proofs.Bounded.{filter-less, copy-less, within-input, within-inputs, last-reaches, one-within, sorting-renumbered}
+use Rattle.pipe_opt.proofs.Literals.{pass-append, pass-more, conjuncts-pass, whole-passes, all-conjuncts-pass, above-pass, part-pass, copied-pass, node-passes}
 use Rattle.pipe_opt.proofs.Faultless.{inputs-given}
 use Rattle.pipe_opt.proofs.Typed.{IsKept, conjuncts-known}
 use Rattle.pipe_opt.proofs.Sounding.{none-sound, both-sound, free-stays, last-free}
@@ -179,6 +182,12 @@ module _ (plan : Plan) (root : ℕ) (good : IsWellFormed plan root) (frames : Fr
       (inputs.within limit (within-inputs plan root n limit good under within (inputs_of x) (λ i m. m)))
       (omega arith)
 
+  -- the literals of the copy, and of what stands below it, are the plan's
+  copied-literals : (old new made : List Node) (n : ℕ) (cs : List Formula) (ks : List ℕ) (test : LiteralTest) → (let x = node_at plan.nodes n in let parts = parted (schema_of plan) x cs in AreRewritten plan old new x parts (inputs_of x) ks) → made ≡ new ++ with_inputs (node_at plan.nodes n) ks ∷ [] → list_all (node_literals_pass test) plan.nodes ≡ true → list_all (literals_pass test) cs ≡ true → list_all (node_literals_pass test) old ≡ true → list_all (node_literals_pass test) made ≡ true
+  copied-literals old new made n cs ks test inputs is all own olds =
+      let x = node_at plan.nodes n in
+      pass-more test new made (with_inputs x ks) is (inputs.literals test all (part-pass test (schema_of plan) x cs own) olds) (copied-pass test x ks ∙ node-passes test plan.nodes n all)
+
   -- the node stands last, where no conjunct stays above it
   pub remade-bare : (old new made : List Node) (n : ℕ) (cs : List Formula) (ks : List ℕ) (k : ℕ) → is_under plan.nodes root n ≡ true → is_filter (node_at plan.nodes n) ≡ false → AllByRecursion (IsConjunct (schema_of plan n)) cs → (let x = node_at plan.nodes n in let parts = parted (schema_of plan) x cs in AreRewritten plan old new x parts (inputs_of x) ks) → made ≡ new ++ with_inputs (node_at plan.nodes n) ks ∷ [] → k ≡ length new → (parted (schema_of plan) (node_at plan.nodes n) cs).above ≡ [] → IsRewritten plan old made n cs k
   remade-bare old new made n cs ks k under plain typed inputs is at none =
@@ -201,7 +210,8 @@ module _ (plan : Plan) (root : ℕ) (good : IsWellFormed plan root) (frames : Fr
             ∙ both.1;
         whole = λ m above below. subst (λ l. is_under l k m ≡ true) (sym is) (subst (λ j. is_under (new ++ y ∷ []) j m ≡ true) (sym at)
             (last-reaches old new y ks (inputs-given plan.frames (schema_of (over plan.frames new)) (schema_of plan) x ks inputs.schemas) inputs.whole m above (subst (λ l. m < length l) is below)));
-        sorts = λ no_conjunct sort. ap (λ l. is_sort (node_at l k)) is ∙ ap (λ j. is_sort (node_at (new ++ y ∷ []) j)) at ∙ ap is_sort (node-new new y []) ∙ sort-renumbered x ks ∙ sort;
+        sorts = λ no_conjunct sort. ap (λ l. sorting_of (node_at l k)) is ∙ ap (λ j. sorting_of (node_at (new ++ y ∷ []) j)) at ∙ ap sorting_of (node-new new y []) ∙ sorting-renumbered x ks;
+        literals = λ test all own olds. copied-literals old new made n cs ks test inputs is all own olds;
         within = λ limit small m above below. subst (λ l. length (rows_of (over plan.frames l) m) ≤ limit) (sym is)
             (copied-within old new n cs ks limit under (conjuncts-known (schema_of plan n) cs typed) inputs small m above (subst (λ l. m < length l) is below));
       }
@@ -238,6 +248,8 @@ module _ (plan : Plan) (root : ℕ) (good : IsWellFormed plan root) (frames : Fr
             (last-reaches old new y ks (inputs-given plan.frames (schema_of (over plan.frames new)) (schema_of plan) x ks inputs.schemas) inputs.whole j over_j (subst (λ l. j < length l) is under_j))))
             m above (subst (λ l. m < length l) whole_is below)));
         sorts = λ none sort. absurd (some-conjunct p (conjuncts ∙ ap (λ l. all_conjuncts (parted (schema_of plan) x l).above) none));
+        literals = λ test all own olds. pass-more test made whole f whole_is (copied-literals old new made n cs ks test inputs is all own olds)
+            (whole-passes test p (ap (list_all (literals_pass test)) conjuncts ∙ all-conjuncts-pass test above (above-pass test (schema_of plan) x cs own)));
         within = λ limit small m above below. subst (λ l. length (rows_of (over plan.frames l) m) ≤ limit) (sym whole_is)
             (one-within plan.frames old made f limit
             (λ j over_j under_j. subst (λ l. length (rows_of (over plan.frames l) j) ≤ limit) (sym is)
@@ -269,6 +281,9 @@ module _ (plan : Plan) (root : ℕ) (good : IsWellFormed plan root) (frames : Fr
             ∙ ap (λ f. filter_each cs f (rows_of plan n)) (sym s);
         whole = inner.whole;
         sorts = λ none sort. absurd (let no_sort : is_sort (node.Filter input predicate) ≡ true = sym (ap is_sort is) ∙ sort in cc);
+        literals = λ test every own olds. inner.literals test every
+            (ap (list_all (literals_pass test)) made ∙ pass-append (literals_pass test) cs (conjuncts_of predicate) own (conjuncts-pass test predicate (sym (ap (node_literals_pass test) is) ∙ node-passes test plan.nodes n every)))
+            olds;
         within = λ limit small. inner.within limit (within-input plan root n limit input good under (ap (λ x. member input (inputs_of x)) is ∙ only input) small);
       }
 
@@ -276,7 +291,7 @@ module _ (plan : Plan) (root : ℕ) (good : IsWellFormed plan root) (frames : Fr
 
 module _ (plan : Plan) (x : Node) (parts : Parts) where
   pub none-rewritten : (old : List Node) → AreRewritten plan old old x parts [] []
-  none-rewritten old = record { grows = grows-none old; few = omega arith; sound = none-sound plan.frames old; free = tt; once = refl; schemas = refl; rows = refl; whole = λ m above below. absurd (omega arith); within = λ limit small m above below. absurd (omega arith) }
+  none-rewritten old = record { grows = grows-none old; few = omega arith; sound = none-sound plan.frames old; free = tt; once = refl; schemas = refl; rows = refl; whole = λ m above below. absurd (omega arith); within = λ limit small m above below. absurd (omega arith); literals = λ test all own olds. olds }
 
   map-push : {A B : Type 0} (f : A → B) (ys : List A) (y : A) → map f (ys ++ y ∷ []) ≡ map f ys ++ f y ∷ []
   map-push f [] y = refl
@@ -359,6 +374,7 @@ module _ (plan : Plan) (x : Node) (parts : Parts) where
               | inl l ↦ (let same : length (rows_of (over plan.frames new) m) ≡ length (rows_of (over plan.frames middle) m) = ap (λ q. length (rows_of (over plan.frames q) m)) new_is ∙ ap length (rows-stays plan.frames middle more m l) in let fits = before.within limit (all-left (λ j. AreWithin plan j limit) (take i ns) (n ∷ []) all) m above l in omega arith)
               | inr g ↦ one.within limit (all-right (λ j. AreWithin plan j limit) (take i ns) (n ∷ []) all).0 m g less
             ] in split (cases_lt m (length middle)));
+        literals = λ test all own olds. one.literals test all (own n) (before.literals test all own olds);
       }
 
   take-whole : {A : Type 0} (xs : List A) (i : ℕ) → length xs ≤ i → take i xs ≡ xs

@@ -24,6 +24,8 @@ use Rattle.pipe_rules.specs.Laws.{IsPredicate}
 use Rattle.pipe_rules.specs.Parted.{Parts, part_for, parted}
 use Rattle.pipe_opt.specs.Renumbered.{with_inputs}
 use Rattle.pipe_opt.specs.Low.{is_filter, is_sort, IsConjunct, AreLow}
+use Rattle.pipe_opt.specs.Sorts.{sorting_of}
+use Rattle.pipe_opt.specs.Literals.{AddsNoLiteral}
 use Rattle.pipe_opt.specs.Sizes.{sum_of, size_of, count_under}
 use Rattle.pipe_opt.specs.Grown.{over, AreWithin, AreUnder, IsRewritten, AreRewritten}
 use Rattle.pipe_opt.proofs.Granted.{granted, ready}
@@ -161,8 +163,11 @@ module _ (plan : Plan) (root : ℕ) (good : IsWellFormed plan root) where
     pub made-whole : AreUnder new k
     made-whole m below = made.whole m (omega arith) below
 
-    pub made-sorts : is_sort (node_at plan.nodes root) ≡ true → is_sort (node_at new k) ≡ true
+    pub made-sorts : is_sort (node_at plan.nodes root) ≡ true → sorting_of (node_at new k) ≡ sorting_of (node_at plan.nodes root)
     made-sorts sort = made.sorts refl sort
+
+    pub made-literals : AddsNoLiteral plan.nodes new
+    made-literals test all = made.literals test all refl refl
 
     pub made-within : (limit : ℕ) → AreWithin plan root limit → AreWithin (over plan.frames new) k limit
     made-within limit within m under = made.within limit within m (omega arith) (let last = made.last in under-there new m (length new) k (omega arith) (omega arith) under)

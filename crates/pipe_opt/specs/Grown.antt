@@ -1,6 +1,6 @@
 -- Plans that grow by nodes, and the new numbers of nodes of another plan.
 use Rattle.std.specs.Prelude.{◌≡◌, ◌<◌, ◌≤◌, ◌+◌, ◌*◌, ℕ, suc, List, [], ◌++◌, Bool, true, false, None, length, map}
-use Rattle.std.specs.List.{AllByRecursion, list_any}
+use Rattle.std.specs.List.{AllByRecursion, list_all, list_any}
 use Rattle.pipe_frame.specs.Frame.{Table}
 use Rattle.pipe_expr.specs.Formula.{Formula}
 use Rattle.pipe_plan.specs.Node.{Node}
@@ -11,8 +11,10 @@ use Rattle.pipe_plan.specs.PlanRows.{rows_of}
 use Rattle.pipe_plan.specs.Faults.{has_input, repeats, is_void}
 use Rattle.pipe_check.specs.Checking.{fault_with}
 use Rattle.pipe_rules.specs.Conjuncts.{filter_each}
-use Rattle.pipe_rules.specs.Parted.{Parts, rows_below}
+use Rattle.pipe_rules.specs.Parted.{Parts, part_for, rows_below}
 use Rattle.pipe_opt.specs.Low.{IsLow, is_sort}
+use Rattle.pipe_opt.specs.Sorts.{sorting_of}
+use Rattle.pipe_opt.specs.Literals.{LiteralTest, literals_pass, node_literals_pass}
 use Rattle.pipe_opt.specs.Sizes.{sum_of, size_of}
 
 -- the plan of some nodes over some tables
@@ -66,7 +68,11 @@ pub record IsRewritten
       ≡ filter_each conjuncts (schema_of plan n) (rows_of plan n)
   pub whole : (m : ℕ) → length old ≤ m → m < length new → is_under new k m ≡ true
   pub sorts : conjuncts ≡ [] → is_sort (node_at plan.nodes n) ≡ true
-      → is_sort (node_at new k) ≡ true
+      → sorting_of (node_at new k) ≡ sorting_of (node_at plan.nodes n)
+  pub literals : (test : LiteralTest) → list_all (node_literals_pass test) plan.nodes ≡ true
+      → list_all (literals_pass test) conjuncts ≡ true
+      → list_all (node_literals_pass test) old ≡ true
+      → list_all (node_literals_pass test) new ≡ true
   pub within : (limit : ℕ) → AreWithin plan n limit
       → (m : ℕ) → length old ≤ m → m < length new
       → length (rows_of (over plan.frames new) m) ≤ limit
@@ -94,3 +100,7 @@ pub record AreRewritten
   pub within : (limit : ℕ) → AllByRecursion (λ i. AreWithin plan i limit) ns
       → (m : ℕ) → length old ≤ m → m < length new
       → length (rows_of (over plan.frames new) m) ≤ limit
+  pub literals : (test : LiteralTest) → list_all (node_literals_pass test) plan.nodes ≡ true
+      → ((i : ℕ) → list_all (literals_pass test) (part_for x parts i) ≡ true)
+      → list_all (node_literals_pass test) old ≡ true
+      → list_all (node_literals_pass test) new ≡ true

@@ -16,6 +16,8 @@ ghost use Rattle.pipe_rules.specs.Placed.{is_input};
 ghost use Rattle.pipe_rules.specs.Parted.{parted, part_for};
 ghost use Rattle.pipe_opt.specs.Values.{parts_in};
 ghost use Rattle.pipe_opt.specs.Low.{is_filter, is_sort, IsConjunct, AreLow};
+ghost use Rattle.pipe_opt.specs.Sorts.{sorting_of};
+ghost use Rattle.pipe_opt.specs.Literals.{AddsNoLiteral};
 ghost use Rattle.pipe_opt.specs.Sizes.{sum_of, size_of, count_under as nodes_counted, IsTooLarge};
 ghost use Rattle.pipe_opt.specs.Grown.{over, AreWithin, AreUnder, IsRewritten, AreRewritten};
 
@@ -219,7 +221,10 @@ pub fn push_filters(alloc: Global, plan: &CheckedPlan) -> Result<Rewritten, Pipe
     ensures last { IfOk result (λ made. made.root + 1 ≡ length made.nodes) }
     ensures sorts { IfOk result (λ made.
         is_sort (node_at (plan_of plan.now.arena).nodes plan.now.root) ≡ true
-        → is_sort (node_at (map node_of made.nodes) made.root) ≡ true) }
+        → sorting_of (node_at (map node_of made.nodes) made.root)
+        ≡ sorting_of (node_at (plan_of plan.now.arena).nodes plan.now.root)) }
+    ensures literals { IfOk result (λ made.
+        AddsNoLiteral (plan_of plan.now.arena).nodes (map node_of made.nodes)) }
     ensures few { IfOk result (λ made. length made.nodes
         ≤ 2 * nodes_counted (plan_of plan.now.arena).nodes plan.now.root) }
     ensures small { OnOk result

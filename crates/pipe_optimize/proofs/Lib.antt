@@ -1,8 +1,10 @@
 pub mod NameLists
+pub mod Shared
 pub mod Cut
 pub mod Over
 pub mod Plain
 pub mod Joined
+pub mod Literals
 pub mod Served
 pub mod Bags
 pub mod Composed

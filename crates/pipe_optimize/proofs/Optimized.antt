@@ -23,13 +23,17 @@ use Rattle.pipe_check.proofs.Walks.{member, none-member, itself}
 use Rattle.pipe_check.proofs.WellFormed.{root_there}
 use Rattle.pipe_typing.specs.Fits.{FramesFit}
 use Rattle.pipe_opt.specs.Low.{is_sort, AreLow}
+use Rattle.pipe_opt.specs.Sorts.{sorting_of}
+use Rattle.pipe_opt.specs.Literals.{AddsNoLiteral}
 use Rattle.pipe_opt.specs.Grown.{over, AreWithin, AreUnder}
+use Rattle.pipe_opt.proofs.Bounded.{is-sorted}
 use Rattle.pipe_opt.proofs.Granted.{granted, first_false}
 use Rattle.pipe_opt.proofs.Growing.{walk-same}
 use Rattle.pipe_optimize.specs.Needed.{IsTrimmed}
 use Rattle.pipe_optimize.specs.Full.{AreFull}
 use Rattle.pipe_optimize.specs.Put.{AreTree, IsTrimOf}
 use Rattle.pipe_optimize.proofs.Readers.{range-none}
+use Rattle.pipe_optimize.proofs.Literals.{sorting-narrowed, narrowed-pass}
 use Rattle.pipe_optimize.proofs.Plans.{inputs-left, root-schema, good-left, all-low, trimmed-left, root-rows, sorted-left, within-left}
 
 -- what pushing filters gives
@@ -41,7 +45,8 @@ pub record IsPushed (plan : Plan) (given : ℕ) (old : List Node) (root : ℕ) :
   pub bounded : (limit : ℕ) → AreWithin plan given limit → AreWithin (over plan.frames old) root limit
   pub whole : AreUnder old root
   pub last : suc root ≡ length old
-  pub sorts : is_sort (node_at plan.nodes given) ≡ true → is_sort (node_at old root) ≡ true
+  pub sorts : is_sort (node_at plan.nodes given) ≡ true → sorting_of (node_at old root) ≡ sorting_of (node_at plan.nodes given)
+  pub literals : AddsNoLiteral plan.nodes old
 
 -- ---- a tree
 
@@ -120,7 +125,13 @@ module _ (plan : Plan) (given : ℕ) (old new : List Node) (root : ℕ) (pushed 
   both-rows = subst (Same (rows_of (over plan.frames new) root)) pushed.rows (root-rows plan.frames old new root trim.needs pushed.good pushed.whole columns trim.are_needs trim.narrowed both-good fits both-whole)
 
   pub both-sorted : is_sort (node_at plan.nodes given) ≡ true → rows_of (over plan.frames new) root ≡ rows_of plan given
-  both-sorted sort = sorted-left plan.frames old new root trim.needs pushed.good pushed.whole columns trim.are_needs trim.narrowed both-good fits both-whole (pushed.sorts sort) ∙ pushed.rows
+  both-sorted sort = sorted-left plan.frames old new root trim.needs pushed.good pushed.whole columns trim.are_needs trim.narrowed both-good fits both-whole (is-sorted (node_at old root) (node_at plan.nodes given) (pushed.sorts sort) sort) ∙ pushed.rows
+
+  pub both-sorts : is_sort (node_at plan.nodes given) ≡ true → sorting_of (node_at new root) ≡ sorting_of (node_at plan.nodes given)
+  both-sorts sort = sorting-narrowed plan.frames old new trim.needs trim.narrowed root rooted ∙ pushed.sorts sort
+
+  pub both-literals : AddsNoLiteral plan.nodes new
+  both-literals test all = narrowed-pass plan.frames old new trim.needs trim.narrowed test (pushed.literals test all)
 
   pub both-within : (limit : ℕ) → AreWithin plan given limit → AreWithin (over plan.frames new) root limit
   both-within limit within = within-left plan.frames old new root trim.needs pushed.good pushed.whole columns trim.are_needs trim.narrowed both-good fits both-whole limit (pushed.bounded limit within)
@@ -147,6 +158,8 @@ pub record IsOptimized (plan : Plan) (given : ℕ) (new : List Node) (root : ℕ
   pub schema : schema_of (over plan.frames new) root ≡ schema_of plan given
   pub rows : Same (rows_of (over plan.frames new) root) (rows_of plan given)
   pub sorted : is_sort (node_at plan.nodes given) ≡ true → rows_of (over plan.frames new) root ≡ rows_of plan given
+  pub sorts : is_sort (node_at plan.nodes given) ≡ true → sorting_of (node_at new root) ≡ sorting_of (node_at plan.nodes given)
+  pub literals : AddsNoLiteral plan.nodes new
   pub low : AreLow (schema_of (over plan.frames new)) new
   pub trimmed : IsTrimmed (over plan.frames new) root
   pub bounded : (limit : ℕ) → AreWithin plan given limit → AreWithin (over plan.frames new) root limit
@@ -166,6 +179,8 @@ optimized plan given frames pushed_irs slice irs root pushed is same fits full t
       schema = both-schema plan given olds new root pushed fit all own;
       rows = both-rows plan given olds new root pushed fit all own;
       sorted = both-sorted plan given olds new root pushed fit all own;
+      sorts = both-sorts plan given olds new root pushed fit all own;
+      literals = both-literals plan given olds new root pushed fit all own;
       low = both-low plan given olds new root pushed fit all own;
       trimmed = both-trimmed plan given olds new root pushed fit all own;
       bounded = both-within plan given olds new root pushed fit all own;
@@ -173,7 +188,7 @@ optimized plan given frames pushed_irs slice irs root pushed is same fits full t
       long = omega arith;
     }
 
-pub pushed-of : (plan : Plan) (given : ℕ) (irs : List IR) (root : ℕ) → IsWellFormed (over plan.frames (map node_of irs)) root → schema_of (over plan.frames (map node_of irs)) root ≡ schema_of plan given → rows_of (over plan.frames (map node_of irs)) root ≡ rows_of plan given → AreLow (schema_of (over plan.frames (map node_of irs))) (map node_of irs) → ((limit : ℕ) → AreWithin plan given limit → AreWithin (over plan.frames (map node_of irs)) root limit) → AreUnder (map node_of irs) root → root + 1 ≡ length irs → (is_sort (node_at plan.nodes given) ≡ true → is_sort (node_at (map node_of irs) root) ≡ true) → IsPushed plan given (map node_of irs) root
-pushed-of plan given irs root good schema rows low bounded whole last sorts =
+pub pushed-of : (plan : Plan) (given : ℕ) (irs : List IR) (root : ℕ) → IsWellFormed (over plan.frames (map node_of irs)) root → schema_of (over plan.frames (map node_of irs)) root ≡ schema_of plan given → rows_of (over plan.frames (map node_of irs)) root ≡ rows_of plan given → AreLow (schema_of (over plan.frames (map node_of irs))) (map node_of irs) → ((limit : ℕ) → AreWithin plan given limit → AreWithin (over plan.frames (map node_of irs)) root limit) → AreUnder (map node_of irs) root → root + 1 ≡ length irs → (is_sort (node_at plan.nodes given) ≡ true → sorting_of (node_at (map node_of irs) root) ≡ sorting_of (node_at plan.nodes given)) → AddsNoLiteral plan.nodes (map node_of irs) → IsPushed plan given (map node_of irs) root
+pushed-of plan given irs root good schema rows low bounded whole last sorts literals =
     let long = map-long node_of irs in
-    record { good = good; schema = schema; rows = rows; low = low; bounded = bounded; whole = whole; last = omega arith; sorts = sorts }
+    record { good = good; schema = schema; rows = rows; low = low; bounded = bounded; whole = whole; last = omega arith; sorts = sorts; literals = literals }

@@ -1,6 +1,6 @@
 //! Lists of names, by the numbers of nodes.
 
-ghost use Rattle.std.specs.Prelude.{◌≡◌, IfOk};
+ghost use Rattle.std.specs.Prelude.{◌≡◌, filter, IfOk};
 ghost use Rattle.pipe_frame.specs.Schema.{has_name, names_of};
 ghost use Rattle.pipe_optimize.specs.Lists.{names_at as kept_names_at};
 
@@ -27,6 +27,35 @@ pub(crate) fn has(names: &NameIndex<Text>, name: &Text) -> bool
         Some(_) => true,
         None => false,
     }
+}
+
+/// Those of some names that stand among others.
+pub(crate) fn kept(
+    alloc: Global,
+    names: &[Text],
+    among: &NameIndex<Text>,
+) -> Result<List<Text>, AllocError>
+    ensures { IfOk result (λ kept. kept ≡ filter (has_name among.now) names.now) }
+{
+    let mut kept = List::new(alloc);
+    for name in names {
+        if has(among, name) {
+            kept.push(name.try_clone()?)?;
+        }
+    }
+    Ok(kept)
+}
+
+/// Those of some names that stand among others, which are looked up.
+pub(crate) fn kept_among(
+    alloc: Global,
+    names: &[Text],
+    among: &[Text],
+) -> Result<List<Text>, AllocError>
+    ensures { IfOk result (λ kept. kept ≡ filter (has_name among.now) names.now) }
+{
+    let among = NameIndex::of(alloc, among)?;
+    kept(alloc, names, &among)
 }
 
 /// Copies of some names.

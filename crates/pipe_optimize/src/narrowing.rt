@@ -8,8 +8,7 @@ ghost use Rattle.pipe_needs.specs.Needs.{needed_exprs};
 ghost use Rattle.pipe_optimize.specs.Lists.{names_at as kept_names_at};
 ghost use Rattle.pipe_optimize.specs.Sides.{has_existing, narrow_function_by, narrow_by};
 
-use crate::names::{has, names_at};
-use crate::needed::kept;
+use crate::names::{has, kept_among, names_at};
 use crate::outputs::scanned_names;
 use pipe_expr::{FunctionIR, NamedExpr, RenamePair};
 use pipe_fields::NameIndex;
@@ -46,6 +45,19 @@ fn kept_exprs(
         push_needed(&mut kept, needed, expr)?;
     }
     Ok(kept)
+}
+
+/// Copies of the expressions under needed names, which are looked up.
+fn needed_only(
+    alloc: Global,
+    needed: &[Text],
+    exprs: &[NamedExpr],
+) -> Result<List<NamedExpr>, AllocError>
+    ensures { IfOk result (λ kept. map named_formula_of kept
+        ≡ needed_exprs (has_name needed.now) (map named_formula_of exprs.now)) }
+{
+    let needed = NameIndex::of(alloc, needed)?;
+    kept_exprs(alloc, &needed, exprs)
 }
 
 /// Copies of the renamings of columns that are there.
@@ -94,7 +106,7 @@ pub(crate) fn narrow(
     alloc: Global,
     frames: &[DataFrame],
     lists: &[List<Text>],
-    needed: &NameIndex<Text>,
+    needed: &[Text],
     node: &IR,
 ) -> Result<IR, AllocError>
     ensures { IfOk result (λ made. node_of made
@@ -105,20 +117,20 @@ pub(crate) fn narrow(
             let names = scanned_names(alloc, frames, *frame, columns)?;
             Ok(IR::DataFrameScan {
                 frame: *frame,
-                columns: Some(kept(alloc, names.as_slice(), needed)?),
+                columns: Some(kept_among(alloc, names.as_slice(), needed)?),
             })
         }
         IR::SimpleProjection { input, columns } => Ok(IR::SimpleProjection {
             input: *input,
-            columns: kept(alloc, columns.as_slice(), needed)?,
+            columns: kept_among(alloc, columns.as_slice(), needed)?,
         }),
         IR::Select { input, exprs } => Ok(IR::Select {
             input: *input,
-            exprs: kept_exprs(alloc, needed, exprs.as_slice())?,
+            exprs: needed_only(alloc, needed, exprs.as_slice())?,
         }),
         IR::HStack { input, exprs } => Ok(IR::HStack {
             input: *input,
-            exprs: kept_exprs(alloc, needed, exprs.as_slice())?,
+            exprs: needed_only(alloc, needed, exprs.as_slice())?,
         }),
         IR::MapFunction { input, function } => Ok(IR::MapFunction {
             input: *input,

@@ -7,7 +7,7 @@ ghost use Rattle.pipe_plan.specs.Node.{node_of};
 ghost use Rattle.pipe_optimize.specs.Lists.{names_at as kept_names_at, or_head};
 ghost use Rattle.pipe_optimize.specs.Sides.{is_either, is_needed_anew, right_needed, kept_right_of, kept_left_of, kept_sorted_of, kept_function_of, kept_by, need_by};
 
-use crate::names::{copied, has, names_at};
+use crate::names::{copied, has, kept, kept_among, names_at};
 use crate::outputs::{is_kept, is_pairing, suffixed};
 use crate::reads::{columns_of, columns_read, keys_read};
 use pipe_expr::{Expr, FunctionIR, RenamePair};
@@ -52,31 +52,6 @@ fn kept_either(
 {
     let read = NameIndex::of(alloc, read)?;
     kept_of_either(alloc, names, needed, &read)
-}
-
-/// Those of some names that are read.
-fn kept_read(alloc: Global, names: &[Text], read: &[Text]) -> Result<List<Text>, AllocError>
-    ensures { IfOk result (λ kept. kept ≡ filter (has_name read.now) names.now) }
-{
-    let read = NameIndex::of(alloc, read)?;
-    kept(alloc, names, &read)
-}
-
-/// Those of some names that stand among others.
-pub(crate) fn kept(
-    alloc: Global,
-    names: &[Text],
-    among: &NameIndex<Text>,
-) -> Result<List<Text>, AllocError>
-    ensures { IfOk result (λ kept. kept ≡ filter (has_name among.now) names.now) }
-{
-    let mut kept = List::new(alloc);
-    for name in names {
-        if has(among, name) {
-            kept.push(name.try_clone()?)?;
-        }
-    }
-    Ok(kept)
 }
 
 /// Whether a column gets a needed name.
@@ -152,7 +127,8 @@ fn kept_of_right(
     Ok(kept)
 }
 
-/// Those of a join's right names that are needed.
+/// Those of a join's right names that are needed. Of the left names only those count that a right column has too.
+#[tactic(auto, using(crate::proofs::Shared::shared_rules))]
 fn kept_right(
     alloc: Global,
     left: &[Text],
@@ -164,12 +140,14 @@ fn kept_right(
     ensures { IfOk result (λ kept. kept
         ≡ kept_right_of left.now right.now (map formula_of right_on.now) needed.now options.now) }
 {
-    let left = NameIndex::of(alloc, left)?;
+    let shared = kept_among(alloc, left, right)?;
+    let left = NameIndex::of(alloc, shared.as_slice())?;
     let plain = plain_names(alloc, right_on)?;
     let keys = NameIndex::of(alloc, plain.as_slice())?;
     let columns = keys_read(alloc, right_on)?;
     let read = NameIndex::of(alloc, columns.as_slice())?;
-    kept_of_right(alloc, &left, &keys, &read, needed, options, right)
+    let kept = kept_of_right(alloc, &left, &keys, &read, needed, options, right)?;
+    Ok(kept)
 }
 
 /// Those of a join's left names that are needed: the needed ones, those that keys read, and those of right columns
@@ -263,7 +241,7 @@ fn raw_need(
         } => kept(alloc, names, needed),
         IR::Select { input: _, exprs } => {
             let read = columns_read(alloc, needed, exprs.as_slice())?;
-            kept_read(alloc, names, read.as_slice())
+            kept_among(alloc, names, read.as_slice())
         }
         IR::HStack { input: _, exprs } => {
             let read = columns_read(alloc, needed, exprs.as_slice())?;

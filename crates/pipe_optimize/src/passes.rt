@@ -9,6 +9,8 @@ ghost use Rattle.pipe_plan.specs.Schemas.{schema_of};
 ghost use Rattle.pipe_plan.specs.PlanRows.{rows_of};
 ghost use Rattle.pipe_plan.specs.Faults.{IsWellFormed};
 ghost use Rattle.pipe_opt.specs.Low.{is_sort, AreLow};
+ghost use Rattle.pipe_opt.specs.Sorts.{sorting_of};
+ghost use Rattle.pipe_opt.specs.Literals.{AddsNoLiteral};
 ghost use Rattle.pipe_opt.specs.Sizes.{count_under as nodes_counted, IsTooLarge};
 ghost use Rattle.pipe_opt.specs.Grown.{over, AreWithin, AreUnder};
 ghost use Rattle.pipe_optimize.specs.Needed.{IsTrimmed};
@@ -37,6 +39,12 @@ pub fn optimize(alloc: Global, plan: &CheckedPlan) -> Result<Rewritten, PipeErro
         is_sort (node_at (plan_of plan.now.arena).nodes plan.now.root) ≡ true
         → rows_of (over (plan_of plan.now.arena).frames (map node_of made.nodes)) made.root
         ≡ rows_of (plan_of plan.now.arena) plan.now.root) }
+    ensures sorts { IfOk result (λ made.
+        is_sort (node_at (plan_of plan.now.arena).nodes plan.now.root) ≡ true
+        → sorting_of (node_at (map node_of made.nodes) made.root)
+        ≡ sorting_of (node_at (plan_of plan.now.arena).nodes plan.now.root)) }
+    ensures literals { IfOk result (λ made.
+        AddsNoLiteral (plan_of plan.now.arena).nodes (map node_of made.nodes)) }
     ensures low { IfOk result (λ made.
         AreLow (schema_of (over (plan_of plan.now.arena).frames (map node_of made.nodes)))
         (map node_of made.nodes)) }

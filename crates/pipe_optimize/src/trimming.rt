@@ -147,8 +147,8 @@ fn narrow_nodes(
     let mut lists = List::new(alloc);
     let mut made = List::new(alloc);
     for n in 0..nodes.len() {
-        let needed = NameIndex::of(alloc, names_at(needs, n as u32))?;
-        let node = narrow(alloc, frames, lists.as_slice(), &needed, &nodes[n])?;
+        let needed = names_at(needs, n as u32);
+        let node = narrow(alloc, frames, lists.as_slice(), needed, &nodes[n])?;
         let names = output_names(alloc, frames, lists.as_slice(), &node)?;
         made.push(node)?;
         lists.push(names)?;

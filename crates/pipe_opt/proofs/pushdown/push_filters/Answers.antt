@@ -5,7 +5,7 @@ use Rattle.pipe_plan.specs.Plan.{plan_of}
 use Rattle.pipe_plan.specs.Faults.{most_nodes}
 use Rattle.pipe_opt.specs.Sizes.{size_of, count_under}
 use Rattle.pipe_opt.proofs.Readings.{map-long, begun}
-use Rattle.pipe_opt.proofs.Steps.{first-room, made-few, made-good, made-rows, made-whole, made-sorts, made-within}
+use Rattle.pipe_opt.proofs.Steps.{first-room, made-few, made-good, made-rows, made-whole, made-sorts, made-literals, made-within}
 use Rattle.pipe_opt.proofs.pushdown.push_filters.Goals as goal
 
 pub rewrite-requires-clause-room : goal.rewrite-requires-clause-room
@@ -59,6 +59,13 @@ returns-clause-whole c =
     let root = c.args.plan.now.root in
     let made = begun plan (map node_of c.new-nodes.result) (map node_of c.rewrite.new.nodes) c.root-root.result root (map formula_of c.new.result) c.in_ok-root.root (ap (map node_of) c.new-nodes.ensures) c.root-root.ensures.root (ap (map formula_of) c.new.ensures) c.in_ok-root.ensures.rewritten in
     made-whole plan root c.root-root.ensures.good (map node_of c.rewrite.new.nodes) c.in_ok-root.root made
+
+pub returns-clause-literals : goal.returns-clause-literals
+returns-clause-literals c =
+    let plan = plan_of c.args.plan.now.arena in
+    let root = c.args.plan.now.root in
+    let made = begun plan (map node_of c.new-nodes.result) (map node_of c.rewrite.new.nodes) c.root-root.result root (map formula_of c.new.result) c.in_ok-root.root (ap (map node_of) c.new-nodes.ensures) c.root-root.ensures.root (ap (map formula_of) c.new.ensures) c.in_ok-root.ensures.rewritten in
+    made-literals plan root c.root-root.ensures.good (map node_of c.rewrite.new.nodes) c.in_ok-root.root made
 
 pub returns-clause-sorts : goal.returns-clause-sorts
 returns-clause-sorts c =

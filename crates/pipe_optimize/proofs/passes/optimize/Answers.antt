@@ -13,7 +13,7 @@ trim-requires-clause-tree c =
     let irs = c.in_ok-pushed.pushed.nodes in
     let root = c.in_ok-pushed.pushed.root in
     let e = c.in_ok-pushed.ensures in
-    let pushed = pushed-of plan given irs root e.good e.schema e.rows e.low e.bounded e.whole e.last e.sorts in
+    let pushed = pushed-of plan given irs root e.good e.schema e.rows e.low e.bounded e.whole e.last e.sorts e.literals in
     subst (λ l. AreTree (map node_of l) root) (sym c.as_slice.ensures) (tree-of plan.frames (map node_of irs) root pushed.good pushed.whole pushed.last)
 
 pub trim-requires-clause-there : goal.trim-requires-clause-there
@@ -29,7 +29,7 @@ trim-requires-clause-few c =
     let irs = c.in_ok-pushed.pushed.nodes in
     let root = c.in_ok-pushed.pushed.root in
     let e = c.in_ok-pushed.ensures in
-    let pushed = pushed-of plan given irs root e.good e.schema e.rows e.low e.bounded e.whole e.last e.sorts in
+    let pushed = pushed-of plan given irs root e.good e.schema e.rows e.low e.bounded e.whole e.last e.sorts e.literals in
     let few = pushed.good.few in
     let long = map-long node_of irs in
     let same = ap length c.as_slice.ensures in
@@ -42,7 +42,7 @@ returns-clause-few c =
     let irs = c.in_ok-pushed.pushed.nodes in
     let root = c.in_ok-pushed.pushed.root in
     let e = c.in_ok-pushed.ensures in
-    let pushed = pushed-of plan given irs root e.good e.schema e.rows e.low e.bounded e.whole e.last e.sorts in
+    let pushed = pushed-of plan given irs root e.good e.schema e.rows e.low e.bounded e.whole e.last e.sorts e.literals in
     let frames = c.as_slice-frames.ensures ∙ ap (λ a. a.frames) c.arena.ensures.arena in
     let all = optimized plan given c.as_slice-frames.result.now irs c.as_slice.result.now c.in_ok-nodes.nodes root pushed frames c.as_slice.ensures c.frames_fit.ensures c.frames_full.ensures c.in_ok-nodes.ensures in
     let few = e.few in
@@ -58,7 +58,7 @@ returns-clause-good c =
     let irs = c.in_ok-pushed.pushed.nodes in
     let root = c.in_ok-pushed.pushed.root in
     let e = c.in_ok-pushed.ensures in
-    let pushed = pushed-of plan given irs root e.good e.schema e.rows e.low e.bounded e.whole e.last e.sorts in
+    let pushed = pushed-of plan given irs root e.good e.schema e.rows e.low e.bounded e.whole e.last e.sorts e.literals in
     let frames = c.as_slice-frames.ensures ∙ ap (λ a. a.frames) c.arena.ensures.arena in
     let all = optimized plan given c.as_slice-frames.result.now irs c.as_slice.result.now c.in_ok-nodes.nodes root pushed frames c.as_slice.ensures c.frames_fit.ensures c.frames_full.ensures c.in_ok-nodes.ensures in
     all.good
@@ -70,7 +70,7 @@ returns-clause-schema c =
     let irs = c.in_ok-pushed.pushed.nodes in
     let root = c.in_ok-pushed.pushed.root in
     let e = c.in_ok-pushed.ensures in
-    let pushed = pushed-of plan given irs root e.good e.schema e.rows e.low e.bounded e.whole e.last e.sorts in
+    let pushed = pushed-of plan given irs root e.good e.schema e.rows e.low e.bounded e.whole e.last e.sorts e.literals in
     let frames = c.as_slice-frames.ensures ∙ ap (λ a. a.frames) c.arena.ensures.arena in
     let all = optimized plan given c.as_slice-frames.result.now irs c.as_slice.result.now c.in_ok-nodes.nodes root pushed frames c.as_slice.ensures c.frames_fit.ensures c.frames_full.ensures c.in_ok-nodes.ensures in
     all.schema
@@ -82,7 +82,7 @@ returns-clause-rows c =
     let irs = c.in_ok-pushed.pushed.nodes in
     let root = c.in_ok-pushed.pushed.root in
     let e = c.in_ok-pushed.ensures in
-    let pushed = pushed-of plan given irs root e.good e.schema e.rows e.low e.bounded e.whole e.last e.sorts in
+    let pushed = pushed-of plan given irs root e.good e.schema e.rows e.low e.bounded e.whole e.last e.sorts e.literals in
     let frames = c.as_slice-frames.ensures ∙ ap (λ a. a.frames) c.arena.ensures.arena in
     let all = optimized plan given c.as_slice-frames.result.now irs c.as_slice.result.now c.in_ok-nodes.nodes root pushed frames c.as_slice.ensures c.frames_fit.ensures c.frames_full.ensures c.in_ok-nodes.ensures in
     all.rows
@@ -94,10 +94,34 @@ returns-clause-sorted c =
     let irs = c.in_ok-pushed.pushed.nodes in
     let root = c.in_ok-pushed.pushed.root in
     let e = c.in_ok-pushed.ensures in
-    let pushed = pushed-of plan given irs root e.good e.schema e.rows e.low e.bounded e.whole e.last e.sorts in
+    let pushed = pushed-of plan given irs root e.good e.schema e.rows e.low e.bounded e.whole e.last e.sorts e.literals in
     let frames = c.as_slice-frames.ensures ∙ ap (λ a. a.frames) c.arena.ensures.arena in
     let all = optimized plan given c.as_slice-frames.result.now irs c.as_slice.result.now c.in_ok-nodes.nodes root pushed frames c.as_slice.ensures c.frames_fit.ensures c.frames_full.ensures c.in_ok-nodes.ensures in
     all.sorted
+
+pub returns-clause-sorts : goal.returns-clause-sorts
+returns-clause-sorts c =
+    let plan = plan_of c.args.plan.now.arena in
+    let given = c.args.plan.now.root in
+    let irs = c.in_ok-pushed.pushed.nodes in
+    let root = c.in_ok-pushed.pushed.root in
+    let e = c.in_ok-pushed.ensures in
+    let pushed = pushed-of plan given irs root e.good e.schema e.rows e.low e.bounded e.whole e.last e.sorts e.literals in
+    let frames = c.as_slice-frames.ensures ∙ ap (λ a. a.frames) c.arena.ensures.arena in
+    let all = optimized plan given c.as_slice-frames.result.now irs c.as_slice.result.now c.in_ok-nodes.nodes root pushed frames c.as_slice.ensures c.frames_fit.ensures c.frames_full.ensures c.in_ok-nodes.ensures in
+    all.sorts
+
+pub returns-clause-literals : goal.returns-clause-literals
+returns-clause-literals c =
+    let plan = plan_of c.args.plan.now.arena in
+    let given = c.args.plan.now.root in
+    let irs = c.in_ok-pushed.pushed.nodes in
+    let root = c.in_ok-pushed.pushed.root in
+    let e = c.in_ok-pushed.ensures in
+    let pushed = pushed-of plan given irs root e.good e.schema e.rows e.low e.bounded e.whole e.last e.sorts e.literals in
+    let frames = c.as_slice-frames.ensures ∙ ap (λ a. a.frames) c.arena.ensures.arena in
+    let all = optimized plan given c.as_slice-frames.result.now irs c.as_slice.result.now c.in_ok-nodes.nodes root pushed frames c.as_slice.ensures c.frames_fit.ensures c.frames_full.ensures c.in_ok-nodes.ensures in
+    all.literals
 
 pub returns-clause-low : goal.returns-clause-low
 returns-clause-low c =
@@ -106,7 +130,7 @@ returns-clause-low c =
     let irs = c.in_ok-pushed.pushed.nodes in
     let root = c.in_ok-pushed.pushed.root in
     let e = c.in_ok-pushed.ensures in
-    let pushed = pushed-of plan given irs root e.good e.schema e.rows e.low e.bounded e.whole e.last e.sorts in
+    let pushed = pushed-of plan given irs root e.good e.schema e.rows e.low e.bounded e.whole e.last e.sorts e.literals in
     let frames = c.as_slice-frames.ensures ∙ ap (λ a. a.frames) c.arena.ensures.arena in
     let all = optimized plan given c.as_slice-frames.result.now irs c.as_slice.result.now c.in_ok-nodes.nodes root pushed frames c.as_slice.ensures c.frames_fit.ensures c.frames_full.ensures c.in_ok-nodes.ensures in
     all.low
@@ -118,7 +142,7 @@ returns-clause-trimmed c =
     let irs = c.in_ok-pushed.pushed.nodes in
     let root = c.in_ok-pushed.pushed.root in
     let e = c.in_ok-pushed.ensures in
-    let pushed = pushed-of plan given irs root e.good e.schema e.rows e.low e.bounded e.whole e.last e.sorts in
+    let pushed = pushed-of plan given irs root e.good e.schema e.rows e.low e.bounded e.whole e.last e.sorts e.literals in
     let frames = c.as_slice-frames.ensures ∙ ap (λ a. a.frames) c.arena.ensures.arena in
     let all = optimized plan given c.as_slice-frames.result.now irs c.as_slice.result.now c.in_ok-nodes.nodes root pushed frames c.as_slice.ensures c.frames_fit.ensures c.frames_full.ensures c.in_ok-nodes.ensures in
     all.trimmed
@@ -130,7 +154,7 @@ returns-clause-bounded c =
     let irs = c.in_ok-pushed.pushed.nodes in
     let root = c.in_ok-pushed.pushed.root in
     let e = c.in_ok-pushed.ensures in
-    let pushed = pushed-of plan given irs root e.good e.schema e.rows e.low e.bounded e.whole e.last e.sorts in
+    let pushed = pushed-of plan given irs root e.good e.schema e.rows e.low e.bounded e.whole e.last e.sorts e.literals in
     let frames = c.as_slice-frames.ensures ∙ ap (λ a. a.frames) c.arena.ensures.arena in
     let all = optimized plan given c.as_slice-frames.result.now irs c.as_slice.result.now c.in_ok-nodes.nodes root pushed frames c.as_slice.ensures c.frames_fit.ensures c.frames_full.ensures c.in_ok-nodes.ensures in
     all.bounded
@@ -142,7 +166,7 @@ returns-clause-whole c =
     let irs = c.in_ok-pushed.pushed.nodes in
     let root = c.in_ok-pushed.pushed.root in
     let e = c.in_ok-pushed.ensures in
-    let pushed = pushed-of plan given irs root e.good e.schema e.rows e.low e.bounded e.whole e.last e.sorts in
+    let pushed = pushed-of plan given irs root e.good e.schema e.rows e.low e.bounded e.whole e.last e.sorts e.literals in
     let frames = c.as_slice-frames.ensures ∙ ap (λ a. a.frames) c.arena.ensures.arena in
     let all = optimized plan given c.as_slice-frames.result.now irs c.as_slice.result.now c.in_ok-nodes.nodes root pushed frames c.as_slice.ensures c.frames_fit.ensures c.frames_full.ensures c.in_ok-nodes.ensures in
     all.whole
