@@ -36,10 +36,10 @@ flat-same : {X Y : Type 0} (f g : X → List Y) (xs : List X) → ((x : X) → f
 flat-same f g [] h = refl
 flat-same f g (x ∷ xs) h = ap (λ l. l ++ flat_map f xs) (h x) ∙ ap (λ l. g x ++ l) (flat-same f g xs h)
 
-first-member : (i : ℕ) (is : List ℕ) → member i (i ∷ is) ≡ true
+pub first-member : (i : ℕ) (is : List ℕ) → member i (i ∷ is) ≡ true
 first-member i is = let e = itself i in rw e refl
 
-later-member : (i k : ℕ) (is : List ℕ) → member k is ≡ true → member k (i ∷ is) ≡ true
+pub later-member : (i k : ℕ) (is : List ℕ) → member k is ≡ true → member k (i ∷ is) ≡ true
 later-member i k is m = elim (eqb i k) as (λ t. (t || member k is) ≡ true) [ true ↦ refl | false ↦ m ]
 
 module _ (a b : ℕ → Wish → List Choice) where

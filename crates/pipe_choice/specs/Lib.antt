@@ -2,3 +2,5 @@
 pub mod Least
 -- what the sides of a join are asked
 pub mod Sides
+-- where and why a plan can't be had in parts
+pub mod Obstacles

@@ -9,7 +9,7 @@ ghost use Rattle.pipe_plan.specs.Plan.{plan_of};
 ghost use Rattle.pipe_plan.specs.Under.{is_under, node_at};
 ghost use Rattle.pipe_plan.specs.Schemas.{schema_of};
 ghost use Rattle.pipe_plan.specs.Faults.{IsWellFormed};
-ghost use Rattle.pipe_parts.specs.declared.wish.Wish.TheVariants.{Split};
+ghost use Rattle.pipe_parts.specs.declared.wish.Wish.TheVariants.{Split, Whole};
 ghost use Rattle.pipe_parts.specs.Wishes.{alone, alike, wishes_below, beside_whole, keyed_on, join_ways, slice_ways};
 ghost use Rattle.pipe_parts.specs.Choices.{choices_for, choices_of, in_pairs};
 ghost use Rattle.pipe_parts.specs.Parts.{parts_root as root_of_parts};
@@ -21,13 +21,13 @@ use crate::found::{Found, better, both, nothing, one};
 use crate::keys::{Sides, by_key, by_key_on, split_ways};
 use pipe_check::CheckedPlan;
 use pipe_expr::{Expr, JoinType};
-use pipe_frame::Text;
-use pipe_parts::Wish;
+use pipe_frame::{List, Text};
+use pipe_parts::{ScanCut, Wish};
 use pipe_plan::{IR, PlanSlice};
 use std::alloc::{AllocError, Global};
 
 /// A node of a plan.
-fn node_of_plan<'a>(plan: &CheckedPlan<'a>, n: u32) -> &'a IR
+pub fn node_of_plan<'a>(plan: &CheckedPlan<'a>, n: u32) -> &'a IR
     requires good { IsWellFormed (plan_of plan.now.arena) plan.now.root }
     requires under { is_under (plan_of plan.now.arena).nodes plan.now.root n ≡ true }
     ensures { node_of result.now ≡ node_at (plan_of plan.now.arena).nodes n }
@@ -47,17 +47,17 @@ fn rows_of_frame(sizes: &[u64], frame: u32) -> u64
 
 /// A join: its number, its inputs, its keys and its kind.
 #[derive(Clone, Copy)]
-struct JoinAt<'a> {
-    n: u32,
-    left: u32,
-    right: u32,
-    left_on: &'a [Expr],
-    right_on: &'a [Expr],
-    how: JoinType,
+pub(crate) struct JoinAt<'a> {
+    pub(crate) n: u32,
+    pub(crate) left: u32,
+    pub(crate) right: u32,
+    pub(crate) left_on: &'a [Expr],
+    pub(crate) right_on: &'a [Expr],
+    pub(crate) how: JoinType,
 }
 
 /// Both sides by a key from above, where its columns are the join's left keys; a cross join has none.
-fn key_from_above(
+pub(crate) fn key_from_above(
     alloc: Global,
     join: JoinAt,
     key: u32,
@@ -371,4 +371,19 @@ pub fn least_choice(
 {
     let _ = plan.arena();
     least(alloc, plan, sizes, parts_root(plan), &Wish::Split)
+}
+
+/// The scans of a plan from left to right, each whole: the one choice that the rules allow for the root as wished whole.
+pub fn whole_scans(alloc: Global, plan: &CheckedPlan) -> Result<List<ScanCut>, AllocError>
+    ensures { let given = plan_of plan.now.arena in
+        IfOk result (λ scans. choices_of given plan.now.root Whole ≡ scans ∷ []) }
+{
+    let root = plan.root();
+    match least(alloc, plan, &[], root, &Wish::Whole)? {
+        Some(found) => {
+            let Found { cuts, whole: _ } = found;
+            Ok(cuts)
+        }
+        None => unreachable!(),
+    }
 }
