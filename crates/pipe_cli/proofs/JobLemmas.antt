@@ -39,14 +39,14 @@ pub one_reading : (bytes : List ℕ) (v w : Data) → Reading bytes v → Readin
 one_reading bytes v w r s = same_Some _ _ (sym r.reads ∙ s.reads)
 
 -- and spell one job at most
-same_job : (bytes : List ℕ) (s t : Task) → ReadsJob bytes s → ReadsJob bytes t → s ≡ t
+pub same_job : (bytes : List ℕ) (s t : Task) → ReadsJob bytes s → ReadsJob bytes t → s ≡ t
 same_job bytes s t r q = one_job q.value s t (subst (λ (v : Data). Spells v s) (one_reading bytes r.value q.value r.reading q.reading) r.spelled) q.spelled
 
 -- what spells a job doesn't spell none
 none_job : (bytes : List ℕ) (job : Task) → ReadsNoJob bytes → ReadsJob bytes job → ⊥
 none_job bytes job n j = n.none job (subst (λ (v : Data). Spells v job) (one_reading bytes j.value n.value j.reading n.reading) j.spelled)
 
-job_is_kind : IsKind job_kind
+pub job_is_kind : IsKind job_kind
 job_is_kind = record {
   one = λ bytes a b r q. same_job bytes a b r q;
   text = λ bytes a n j. n.none j.value j.reading;
@@ -64,7 +64,7 @@ no_job_read bytes value reading none = record { value = value; reading = reading
 -- ---- refusals
 
 -- one that is refused has one error
-one_refusal : (job : Task) (d e : PipeError) → IsRefusedJob job d → IsRefusedJob job e → d ≡ e
+pub one_refusal : (job : Task) (d e : PipeError) → IsRefusedJob job d → IsRefusedJob job e → d ≡ e
 one_refusal job d e (inl a) (inl b) = a.told ∙ sym b.told
 one_refusal job d e (inl a) (inr b) = absurd (a.bad b.numbers)
 one_refusal job d e (inr a) (inl b) = absurd (b.bad a.numbers)

@@ -1,6 +1,6 @@
 -- The contract of each command is a sound one, and holds the statuses of reading and writing.
 use Rattle.std.proofs.Common.{◌≡◌, ℕ, false, List, [], ◌∷◌, Option, Some, None, refl}
-use Rattle.pipe_cli.specs.Commands.{Request, Run, Check, Explain, SelfTest, Reconcile, ReplayEdits, Help, Version, Stream, Why, contract_of, source_of}
+use Rattle.pipe_cli.specs.Commands.{Request, Run, Check, Explain, Optimize, SelfTest, Reconcile, ReplayEdits, Help, Version, Stream, Why, contract_of, source_of}
 use Rattle.pipe_cli.specs.Commands.CheckCommand.{ok_text}
 use Rattle.pipe_cli.specs.Commands.HelpCommand.{help_text}
 use Rattle.pipe_cli.specs.Commands.VersionCommand.{version_text}
@@ -9,6 +9,7 @@ use Rattle.pipe_cli.specs.Contract.{IsLawful}
 use Rattle.pipe_cli.specs.Jobs.{branch_lines}
 use Rattle.pipe_cli.specs.Status.{OneOf}
 use Rattle.pipe_cli.proofs.JobLemmas.{looks_lawful, run_lawful, stream_lawful}
+use Rattle.pipe_cli.proofs.OptimizeLemmas.{optimize_lawful}
 use Rattle.pipe_cli.proofs.ReconLemmas.{reconcile_lawful}
 use Rattle.pipe_cli.proofs.ReplayLemmas.{replay_lawful}
 use Rattle.pipe_cli.proofs.RuleLemmas.{among}
@@ -18,6 +19,7 @@ pub lawful : (asked : Request) → IsLawful (contract_of asked)
 lawful (Run name) = run_lawful
 lawful Check = looks_lawful (λ job text. text ≡ ok_text)
 lawful Explain = looks_lawful (λ job text. text ≡ branch_lines job)
+lawful Optimize = optimize_lawful
 lawful (SelfTest start rows) = selftest_lawful start rows
 lawful Reconcile = reconcile_lawful
 lawful ReplayEdits = replay_lawful

@@ -2,6 +2,7 @@
 pub mod RunCommand
 pub mod CheckCommand
 pub mod ExplainCommand
+pub mod OptimizeCommand
 pub mod SelfTestCommand
 pub mod ReconcileCommand
 pub mod ReplayEditsCommand
@@ -18,6 +19,7 @@ use Rattle.pipe_cli.specs.Sources.{Source, Nowhere, Standard, standard_or}
 use Rattle.pipe_cli.specs.Commands.RunCommand.{run}
 use Rattle.pipe_cli.specs.Commands.CheckCommand.{check}
 use Rattle.pipe_cli.specs.Commands.ExplainCommand.{explain}
+use Rattle.pipe_cli.specs.Commands.OptimizeCommand.{optimize}
 use Rattle.pipe_cli.specs.Commands.SelfTestCommand.{selftest}
 use Rattle.pipe_cli.specs.Commands.ReconcileCommand.{reconcile}
 use Rattle.pipe_cli.specs.Commands.ReplayEditsCommand.{replay_edits}
@@ -33,6 +35,7 @@ pub data Request : Type 0 where
   Run : (name : Option (List ℕ)) → Request
   Check : Request
   Explain : Request
+  Optimize : Request
   SelfTest : (start rows : ℕ) → Request
   Reconcile : Request
   ReplayEdits : Request
@@ -46,6 +49,7 @@ abbrev pub contract_of : Request → Contract
 contract_of (Run name) = run
 contract_of Check = check
 contract_of Explain = explain
+contract_of Optimize = optimize
 contract_of (SelfTest start rows) = selftest start rows
 contract_of Reconcile = reconcile
 contract_of ReplayEdits = replay_edits
@@ -59,6 +63,7 @@ abbrev pub source_of : Request → Source
 source_of (Run name) = standard_or name
 source_of Check = Standard
 source_of Explain = Standard
+source_of Optimize = Standard
 source_of (SelfTest start rows) = Nowhere
 source_of Reconcile = Standard
 source_of ReplayEdits = Standard
@@ -73,6 +78,7 @@ word_request word =
     if bytes_eq word (codes "run") then Some (Run None)
     else if bytes_eq word (codes "check") then Some Check
     else if bytes_eq word (codes "explain") then Some Explain
+    else if bytes_eq word (codes "optimize") then Some Optimize
     else if bytes_eq word (codes "reconcile") then Some Reconcile
     else if bytes_eq word (codes "replay-edits") then Some ReplayEdits
     else if bytes_eq word (codes "--help") then Some Help
@@ -107,6 +113,7 @@ abbrev pub request_of : Command → Request
 request_of (command.Run name) = Run (option_copied name)
 request_of command.Check = Check
 request_of command.Explain = Explain
+request_of command.Optimize = Optimize
 request_of (command.SelfTest start rows) = SelfTest start rows
 request_of command.Reconcile = Reconcile
 request_of command.ReplayEdits = ReplayEdits
@@ -118,6 +125,7 @@ abbrev pub HasGoodRows : Command → Type 0
 HasGoodRows (command.Run name) = ⊤
 HasGoodRows command.Check = ⊤
 HasGoodRows command.Explain = ⊤
+HasGoodRows command.Optimize = ⊤
 HasGoodRows (command.SelfTest start rows) = (1 ≤ rows) × (rows ≤ 1000000)
 HasGoodRows command.Reconcile = ⊤
 HasGoodRows command.ReplayEdits = ⊤

@@ -10,6 +10,8 @@ pub mod Jobs
 pub mod Recons
 -- views and their edits
 pub mod Replays
+-- jobs with low filters and needed columns
+pub mod Optimized
 -- commands that read nothing
 pub mod NoInputs
 -- the commands, each with its contract in a file of its own
@@ -18,6 +20,8 @@ pub mod Commands
 pub mod Refused
 -- what a run says of its input, its output and its notes
 pub mod Outcome
+-- what a run on the text that `optimize` writes gives
+pub mod OptimizedRuns
 -- what a run says of a stream, and of other words
 pub mod Streams
 -- what a run says of `why`

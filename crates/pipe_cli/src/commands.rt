@@ -15,6 +15,7 @@ ghost use Rattle.pipe_cli.specs.Status.{OneOf, status_of, yes_in};
 mod check;
 mod explain;
 mod help;
+mod optimize;
 mod reconcile;
 mod replay_edits;
 mod run;
@@ -24,6 +25,7 @@ mod version;
 use self::check::check;
 use self::explain::explain;
 use self::help::help_text;
+use self::optimize::optimize;
 use self::reconcile::reconcile;
 use self::replay_edits::replay_edits;
 pub(crate) use self::run::frame_of;
@@ -48,6 +50,8 @@ pub enum Command<'a> {
     Check,
     /// `explain`: the branches of the plan of the job on standard input are told.
     Explain,
+    /// `optimize`: the job on standard input is written with its filters low and without needless columns.
+    Optimize,
     /// `selftest START ROWS`: two frames of so many rows are drawn from a state on and joined.
     SelfTest(u64, u32),
     /// `reconcile`: the two tables on standard input are reconciled.
@@ -79,6 +83,7 @@ pub fn command_of(words: &[Text]) -> Option<Command<'_>>
             "run" => Some(Command::Run(None)),
             "check" => Some(Command::Check),
             "explain" => Some(Command::Explain),
+            "optimize" => Some(Command::Optimize),
             "reconcile" => Some(Command::Reconcile),
             "replay-edits" => Some(Command::ReplayEdits),
             "--help" => Some(Command::Help),
@@ -117,9 +122,11 @@ pub(crate) fn input_of<R: JobReader>(
 {
     match command {
         Command::Run(name) => bytes_at(alloc, name, input),
-        Command::Check | Command::Explain | Command::Reconcile | Command::ReplayEdits => {
-            bytes_left(alloc, input)
-        }
+        Command::Check
+        | Command::Explain
+        | Command::Optimize
+        | Command::Reconcile
+        | Command::ReplayEdits => bytes_left(alloc, input),
         Command::SelfTest(..) | Command::Help | Command::Version => Ok(Vec::new(alloc)),
     }
 }
@@ -151,6 +158,7 @@ pub(crate) fn answer_of<T: Threads + Sync, C: StopCheck, G: Gate + Sync>(
         Command::Run(_) => run(rt, alloc, bytes, stop, gate),
         Command::Check => check(alloc, bytes),
         Command::Explain => explain(alloc, bytes),
+        Command::Optimize => optimize(alloc, bytes),
         Command::SelfTest(start, rows) => selftest(rt, alloc, start, rows, stop, gate),
         Command::Reconcile => reconcile(rt, alloc, bytes, stop, gate),
         Command::ReplayEdits => replay_edits(alloc, bytes),

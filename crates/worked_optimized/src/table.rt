@@ -1,0 +1,16 @@
+//! All cases, topic by topic.
+
+use crate::case::tell_cases;
+use crate::{columns, filters, large, refused};
+use std::alloc::{AllocError, Global};
+use std::thread::Threads;
+
+/// What each case shows, and its answer.
+pub(crate) fn answers<T: Threads + Sync>(rt: &T, alloc: Global) -> Result<String, AllocError> {
+    let mut answers = String::new(alloc);
+    tell_cases(rt, alloc, &mut answers, filters::CASES)?;
+    tell_cases(rt, alloc, &mut answers, columns::CASES)?;
+    refused::tell(rt, alloc, &mut answers)?;
+    large::tell(rt, alloc, &mut answers)?;
+    Ok(answers)
+}
