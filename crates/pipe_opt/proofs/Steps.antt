@@ -1,5 +1,5 @@
 -- What the calls of the rewriting need and give.
-use Rattle.std.proofs.Common.{◌≡◌, ℕ, zero, suc, ◌+◌, ◌<◌, ◌≤◌, Bool, true, false, eqb, List, [], ◌∷◌, ◌++◌, Option, Some, None, ◌*◌, length, take, get_or, refl, ap, sym, ◌∙◌, subst, arith}
+use Rattle.std.proofs.Common.{◌≡◌, ◌⊎◌, inl, inr, ℕ, zero, suc, ◌+◌, ◌<◌, ◌≤◌, Bool, true, false, eqb, List, [], ◌∷◌, ◌++◌, Option, Some, None, ◌*◌, length, take, get_or, refl, ap, sym, ◌∙◌, subst, arith}
 use Rattle.std.specs.Prelude.{not}
 use Rattle.std.specs.List.{AllByRecursion}
 use Rattle.pipe_frame.specs.Cell.{eq_dtype}
@@ -27,7 +27,7 @@ use Rattle.pipe_opt.specs.Low.{is_filter, is_sort, IsConjunct, AreLow}
 use Rattle.pipe_opt.specs.Sorts.{sorting_of}
 use Rattle.pipe_opt.specs.Literals.{AddsNoLiteral}
 use Rattle.pipe_opt.specs.Sizes.{sum_of, size_of, count_under}
-use Rattle.pipe_opt.specs.Grown.{over, AreWithin, AreUnder, IsRewritten, AreRewritten}
+use Rattle.pipe_opt.specs.Grown.{over, AreWithin, AreUnder, IsPut, IsRewritten, AreRewritten}
 use Rattle.pipe_opt.proofs.Granted.{granted, ready}
 use Rattle.pipe_opt.proofs.Remade.{remade-bare, remade-under}
 use Rattle.pipe_opt.proofs.Counted.{size-made, no-more}
@@ -88,7 +88,7 @@ module _ (plan : Plan) (root : ℕ) (good : IsWellFormed plan root) (n : ℕ) (u
         let b = subst (λ l. AreRewritten plan old new x (parted (schema_of plan) x cs) l ks) ns_is a in
         subst (λ z. AreRewritten plan old new z (parted (schema_of plan) z cs) (inputs_of z) ks) (sym at) b
 
-    pub bare : (old new made : List Node) (x copy : Node) (parts : Parts) (cs : List Formula) (ns ks : List ℕ) (k : ℕ) → AllByRecursion (IsConjunct (schema_of plan n)) cs → is_filter x ≡ false → node_at plan.nodes n ≡ x → ns ≡ inputs_of x → parts ≡ parted (schema_of plan) x cs → AreRewritten plan old new x parts ns ks → copy ≡ with_inputs x ks → made ≡ new ++ copy ∷ [] → k ≡ length new → parts.above ≡ [] → IsRewritten plan old made n cs k
+    bare : (old new made : List Node) (x copy : Node) (parts : Parts) (cs : List Formula) (ns ks : List ℕ) (k : ℕ) → AllByRecursion (IsConjunct (schema_of plan n)) cs → is_filter x ≡ false → node_at plan.nodes n ≡ x → ns ≡ inputs_of x → parts ≡ parted (schema_of plan) x cs → AreRewritten plan old new x parts ns ks → copy ≡ with_inputs x ks → made ≡ new ++ copy ∷ [] → k ≡ length new → parts.above ≡ [] → IsRewritten plan old made n cs k
     bare old new made x copy parts cs ns ks k typed plain at ns_is parts_is inputs copy_is made_is k_is none =
         remade-bare plan root good frames old new made n cs ks k under (ap is_filter at ∙ plain) typed
         (moved old new x parts cs ns ks at ns_is parts_is inputs)
@@ -96,7 +96,7 @@ module _ (plan : Plan) (root : ℕ) (good : IsWellFormed plan root) (n : ℕ) (u
         k_is
         (ap (λ z. (parted (schema_of plan) z cs).above) at ∙ sym (ap (λ q. q.above) parts_is) ∙ none)
 
-    pub filtered : (old new made whole : List Node) (x copy : Node) (parts : Parts) (cs : List Formula) (ns ks : List ℕ) (input k : ℕ) (p : Formula) → AllByRecursion (IsConjunct (schema_of plan n)) cs → is_filter x ≡ false → node_at plan.nodes n ≡ x → ns ≡ inputs_of x → parts ≡ parted (schema_of plan) x cs → AreRewritten plan old new x parts ns ks → copy ≡ with_inputs x ks → made ≡ new ++ copy ∷ [] → input ≡ length new → whole ≡ made ++ node.Filter input p ∷ [] → k ≡ length made → conjuncts_of p ≡ all_conjuncts parts.above → IsRewritten plan old whole n cs k
+    filtered : (old new made whole : List Node) (x copy : Node) (parts : Parts) (cs : List Formula) (ns ks : List ℕ) (input k : ℕ) (p : Formula) → AllByRecursion (IsConjunct (schema_of plan n)) cs → is_filter x ≡ false → node_at plan.nodes n ≡ x → ns ≡ inputs_of x → parts ≡ parted (schema_of plan) x cs → AreRewritten plan old new x parts ns ks → copy ≡ with_inputs x ks → made ≡ new ++ copy ∷ [] → input ≡ length new → whole ≡ made ++ node.Filter input p ∷ [] → k ≡ length made → conjuncts_of p ≡ all_conjuncts parts.above → IsRewritten plan old whole n cs k
     filtered old new made whole x copy parts cs ns ks input k p typed plain at ns_is parts_is inputs copy_is made_is input_is whole_is k_is conjuncts =
         remade-under plan root good frames old new made whole n cs ks k p under (ap is_filter at ∙ plain) typed
         (moved old new x parts cs ns ks at ns_is parts_is inputs)
@@ -104,6 +104,14 @@ module _ (plan : Plan) (root : ℕ) (good : IsWellFormed plan root) (n : ℕ) (u
         (whole_is ∙ ap (λ i. made ++ node.Filter i p ∷ []) input_is)
         k_is
         (conjuncts ∙ ap (λ q. all_conjuncts q.above) parts_is ∙ ap (λ z. all_conjuncts (parted (schema_of plan) z cs).above) (sym at))
+
+    pub put-over : (old new made : List Node) (x : Node) (parts : Parts) (cs : List Formula) (ns ks : List ℕ) (k : ℕ) → AllByRecursion (IsConjunct (schema_of plan n)) cs → is_filter x ≡ false → node_at plan.nodes n ≡ x → ns ≡ inputs_of x → parts ≡ parted (schema_of plan) x cs → AreRewritten plan old new x parts ns ks → IsPut new made (with_inputs x ks) parts.above k → IsRewritten plan old made n cs k
+    put-over old new made x parts cs ns ks k typed plain at ns_is parts_is inputs put =
+        let y = with_inputs x ks in
+        let split : IsPut new made y parts.above k → IsRewritten plan old made n cs k = elim [
+          | inl a ↦ bare old new made x y parts cs ns ks k typed plain at ns_is parts_is inputs refl a.made a.last a.none
+          | inr f ↦ filtered old new (new ++ y ∷ []) made x y parts cs ns ks (length new) k f.predicate typed plain at ns_is parts_is inputs refl refl refl f.made f.last f.joins
+        ] in split put
 
   -- ---- room for what is added
 

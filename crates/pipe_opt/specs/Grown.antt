@@ -1,16 +1,17 @@
 -- Plans that grow by nodes, and the new numbers of nodes of another plan.
-use Rattle.std.specs.Prelude.{◌≡◌, ◌<◌, ◌≤◌, ◌+◌, ◌*◌, ℕ, suc, List, [], ◌++◌, Bool, true, false, None, length, map}
+use Rattle.std.specs.Prelude.{◌≡◌, ◌⊎◌, ◌<◌, ◌≤◌, ◌+◌, ◌*◌, ℕ, suc, List, [], ◌∷◌, ◌++◌, Bool, true, false, None, length, map}
 use Rattle.std.specs.List.{AllByRecursion, list_all, list_any}
 use Rattle.pipe_frame.specs.Frame.{Table}
 use Rattle.pipe_expr.specs.Formula.{Formula}
 use Rattle.pipe_plan.specs.Node.{Node}
+use Rattle.pipe_plan.specs.Node as node
 use Rattle.pipe_plan.specs.Plan.{Plan}
 use Rattle.pipe_plan.specs.Under.{node_at, inputs_of, is_under}
 use Rattle.pipe_plan.specs.Schemas.{schema_of}
 use Rattle.pipe_plan.specs.PlanRows.{rows_of}
 use Rattle.pipe_plan.specs.Faults.{has_input, repeats, is_void}
 use Rattle.pipe_check.specs.Checking.{fault_with}
-use Rattle.pipe_rules.specs.Conjuncts.{filter_each}
+use Rattle.pipe_rules.specs.Conjuncts.{conjuncts_of, all_conjuncts, filter_each}
 use Rattle.pipe_rules.specs.Parted.{Parts, part_for, rows_below}
 use Rattle.pipe_opt.specs.Low.{IsLow, is_sort}
 use Rattle.pipe_opt.specs.Sorts.{sorting_of}
@@ -104,3 +105,22 @@ pub record AreRewritten
       → ((i : ℕ) → list_all (literals_pass test) (part_for x parts i) ≡ true)
       → list_all (node_literals_pass test) old ≡ true
       → list_all (node_literals_pass test) new ≡ true
+
+-- a node was put behind others, and no conjunct stands on it
+pub record IsAlone
+    (old new : List Node) (y : Node) (above : List Formula) (k : ℕ) : Type 0 where
+  pub none : above ≡ []
+  pub made : new ≡ old ++ y ∷ []
+  pub last : k ≡ length old
+
+-- a node was put behind others, and a filter of some conjuncts on it
+pub record IsFiltered
+    (old new : List Node) (y : Node) (above : List Formula) (k : ℕ) : Type 0 where
+  pub predicate : Formula
+  pub joins : conjuncts_of predicate ≡ all_conjuncts above
+  pub made : new ≡ (old ++ y ∷ []) ++ node.Filter (length old) predicate ∷ []
+  pub last : k ≡ length (old ++ y ∷ [])
+
+-- a node was put behind others, with a filter of some conjuncts where there are any
+abbrev pub IsPut : List Node → List Node → Node → List Formula → ℕ → Type 0
+IsPut old new y above k = IsAlone old new y above k ⊎ IsFiltered old new y above k

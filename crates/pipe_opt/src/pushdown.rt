@@ -19,7 +19,8 @@ ghost use Rattle.pipe_opt.specs.Low.{is_filter, is_sort, IsConjunct, AreLow};
 ghost use Rattle.pipe_opt.specs.Sorts.{sorting_of};
 ghost use Rattle.pipe_opt.specs.Literals.{AddsNoLiteral};
 ghost use Rattle.pipe_opt.specs.Sizes.{sum_of, size_of, count_under as nodes_counted, IsTooLarge};
-ghost use Rattle.pipe_opt.specs.Grown.{over, AreWithin, AreUnder, IsRewritten, AreRewritten};
+ghost use Rattle.pipe_opt.specs.Renumbered.{with_inputs};
+ghost use Rattle.pipe_opt.specs.Grown.{over, AreWithin, AreUnder, IsPut, IsRewritten, AreRewritten};
 
 use crate::copying::{copy_over, first_or, inputs, second_or};
 use crate::counting::count_under;
@@ -97,6 +98,35 @@ fn part_at(
     Ok(part(alloc, node, left, right, conjuncts.as_slice())?)
 }
 
+/// Puts a copy of a node over new inputs behind others, and a filter of some conjuncts on it, where there are any; tells
+/// the number of the last. This stands apart from the recursion, whose frames are smaller so.
+#[inline(never)]
+fn push_over(
+    alloc: Global,
+    nodes: &mut List<IR>,
+    node: &IR,
+    inputs: &[u32],
+    above: &[Expr],
+) -> Result<u32, PipeError>
+    requires { length nodes.old + 1 < most_nodes }
+    ensures put { IfOk result (IsPut (map node_of nodes.old) (map node_of nodes.new)
+        (with_inputs (node_of node.now) inputs.now) (map formula_of above.now)) }
+    ensures err { IfErr result (λ e. e ≡ error.Memory) }
+{
+    let copy = copy_over(alloc, node, inputs)?;
+    let number = push_node(nodes, copy)?;
+    match conjunction(alloc, above)? {
+        None => Ok(number),
+        Some(predicate) => {
+            let filter = IR::Filter {
+                input: number,
+                predicate,
+            };
+            Ok(push_node(nodes, filter)?)
+        }
+    }
+}
+
 /// Rewrites the inputs of a node, each under the conjuncts that go onto it, and tells their new numbers.
 #[cycle(rewrite)]
 fn rewrite_inputs(
@@ -157,18 +187,13 @@ fn rewrite_node(
     let read = inputs.as_slice();
     let parts = part_at(alloc, plan, n, node, read, conjuncts)?;
     let numbers = rewrite_inputs(alloc, plan, nodes, n, node, read, &parts)?;
-    let copy = copy_over(alloc, node, numbers.as_slice())?;
-    let number = push_node(nodes, copy)?;
-    match conjunction(alloc, parts.above.as_slice())? {
-        None => Ok(number),
-        Some(predicate) => {
-            let filter = IR::Filter {
-                input: number,
-                predicate,
-            };
-            Ok(push_node(nodes, filter)?)
-        }
-    }
+    Ok(push_over(
+        alloc,
+        nodes,
+        node,
+        numbers.as_slice(),
+        parts.above.as_slice(),
+    )?)
 }
 
 /// Rewrites a node under some conjuncts, behind other new nodes, and tells its new number.

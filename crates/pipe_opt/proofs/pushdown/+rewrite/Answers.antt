@@ -7,10 +7,12 @@ use Rattle.pipe_plan.specs.Schemas.{schema_of}
 use Rattle.std.specs.List.{AllByRecursion}
 use Rattle.pipe_opt.specs.Values.{parts_in}
 use Rattle.pipe_opt.specs.Low.{IsConjunct}
+use Rattle.pipe_opt.specs.Renumbered.{with_inputs}
 use Rattle.pipe_opt.specs.Sizes.{sum_of, size_of}
+use Rattle.pipe_opt.specs.Grown.{IsPut}
 use Rattle.pipe_opt.proofs.Readings.{map-long, in-bounds, node-read, not-filter, item-member, first-none, one-next}
 use Rattle.pipe_opt.proofs.Remade.{filter-rewritten, all-rewritten}
-use Rattle.pipe_opt.proofs.Steps.{filter-input, filter-typed, filter-room, input-below, inputs-typed, inputs-room, push-room, next-room, bare, filtered}
+use Rattle.pipe_opt.proofs.Steps.{filter-input, filter-typed, filter-room, input-below, inputs-typed, inputs-room, push-room, next-room, put-over}
 use Rattle.pipe_opt.proofs.pushdown.+rewrite.Goals as goal
 
 pub rewrite-bounds-as_slice-n : goal.rewrite-bounds-as_slice-n
@@ -105,8 +107,8 @@ rewrite_node-rewrite_inputs-requires t c =
     let room = inputs-room plan root good n under most_nodes (length c.args.nodes.now) x c.as_slice-read.result.now c.requires.at read c.requires.room in
     (omega arith, (good, (c.requires.frames, (under, (c.requires.at, (read, (typed, room)))))))
 
-pub rewrite_node-push_node-requires : goal.rewrite_node-push_node-requires
-rewrite_node-push_node-requires t c =
+pub rewrite_node-push_over-requires : goal.rewrite_node-push_over-requires
+rewrite_node-push_over-requires t c =
     let plan = plan_of c.args.plan.now.arena in
     let x = node_of c.args.node.now in
     let read = c.as_slice-read.ensures.value ∙ c.in_ok-inputs.ensures in
@@ -116,33 +118,14 @@ rewrite_node-push_node-requires t c =
     let own : length (map node_of c.args.nodes.now) + 2 * size_of plan.nodes c.args.n ≤ most_nodes = omega arith in
     let room = push-room plan c.args.plan.now.root c.requires.good c.args.n c.requires.under most_nodes (map node_of c.args.nodes.now) (map node_of c.rewrite_inputs.new.nodes) x (parts_in c.in_ok-parts.parts) c.as_slice-read.result.now c.in_ok-numbers.numbers c.requires.at read own c.in_ok-numbers.ensures.rewritten in
     omega arith
-
-pub rewrite_node-push_node-requires-in-Some : goal.rewrite_node-push_node-requires-in-Some
-rewrite_node-push_node-requires-in-Some t c =
-    let plan = plan_of c.args.plan.now.arena in
-    let x = node_of c.args.node.now in
-    let read = c.as_slice-read.ensures.value ∙ c.in_ok-inputs.ensures in
-    let old_long = map-long node_of c.args.nodes.now in
-    let new_long = map-long node_of c.rewrite_inputs.new.nodes in
-    let made_long = map-long node_of c.push_node.new.nodes in
-    let had = c.requires.room in
-    let own : length (map node_of c.args.nodes.now) + 2 * size_of plan.nodes c.args.n ≤ most_nodes = omega arith in
-    let room = push-room plan c.args.plan.now.root c.requires.good c.args.n c.requires.under most_nodes (map node_of c.args.nodes.now) (map node_of c.rewrite_inputs.new.nodes) x (parts_in c.in_ok-parts.parts) c.as_slice-read.result.now c.in_ok-numbers.numbers c.requires.at read own c.in_ok-numbers.ensures.rewritten in
-    let one = Rattle.pipe_opt.proofs.Readings.one-longer (map node_of c.rewrite_inputs.new.nodes) (node_of c.in_ok-copy.copy) (map node_of c.push_node.new.nodes) c.in_ok-number.ensures.added in
-    omega arith
-
-pub rewrite_node-returns-in-None-clause-rewritten : goal.rewrite_node-returns-in-None-clause-rewritten
-rewrite_node-returns-in-None-clause-rewritten t c =
-    let x = node_of c.args.node.now in
-    let read = c.as_slice-read.ensures.value ∙ c.in_ok-inputs.ensures in
-    let copied = c.in_ok-copy.ensures ∙ ap (Rattle.pipe_opt.specs.Renumbered.with_inputs x) c.as_slice.ensures in
-    let none = ap (map formula_of) (sym c.as_slice-2.ensures ∙ Rattle.pipe_opt.proofs.Readings.none-left c.in_ok-conjunction.field-0 _ c.in-None.is c.in_ok-conjunction.ensures.none) in
-    bare (plan_of c.args.plan.now.arena) c.args.plan.now.root c.requires.good c.args.n c.requires.under c.requires.frames (map node_of c.args.nodes.now) (map node_of c.rewrite_inputs.new.nodes) (map node_of c.push_node.new.nodes) x (node_of c.in_ok-copy.copy) (parts_in c.in_ok-parts.parts) (map formula_of c.args.conjuncts) c.as_slice-read.result.now c.in_ok-numbers.numbers c.in_ok-number.number c.requires.typed c.requires.plain c.requires.at read c.in_ok-parts.ensures.parts c.in_ok-numbers.ensures.rewritten copied c.in_ok-number.ensures.added c.in_ok-number.ensures.number none
 
 pub rewrite_node-returns-clause-rewritten : goal.rewrite_node-returns-clause-rewritten
 rewrite_node-returns-clause-rewritten t c =
     let x = node_of c.args.node.now in
     let read = c.as_slice-read.ensures.value ∙ c.in_ok-inputs.ensures in
-    let copied = c.in_ok-copy.ensures ∙ ap (Rattle.pipe_opt.specs.Renumbered.with_inputs x) c.as_slice.ensures in
-    let above = Rattle.pipe_opt.proofs.Readings.some-left c.in_ok-conjunction.field-0 c.in-Some.predicate _ c.in-Some.is c.in_ok-conjunction.ensures.some ∙ ap (λ l. Rattle.pipe_rules.specs.Conjuncts.all_conjuncts (map formula_of l)) c.as_slice-2.ensures in
-    filtered (plan_of c.args.plan.now.arena) c.args.plan.now.root c.requires.good c.args.n c.requires.under c.requires.frames (map node_of c.args.nodes.now) (map node_of c.rewrite_inputs.new.nodes) (map node_of c.push_node.new.nodes) (map node_of c.push_node-in-Some.new.nodes) x (node_of c.in_ok-copy.copy) (parts_in c.in_ok-parts.parts) (map formula_of c.args.conjuncts) c.as_slice-read.result.now c.in_ok-numbers.numbers c.in_ok-number.number c.in_ok-push_node-in-Some.field-0 (formula_of c.in-Some.predicate) c.requires.typed c.requires.plain c.requires.at read c.in_ok-parts.ensures.parts c.in_ok-numbers.ensures.rewritten copied c.in_ok-number.ensures.added c.in_ok-number.ensures.number c.in_ok-push_node-in-Some.ensures.added c.in_ok-push_node-in-Some.ensures.number above
+    let new = map node_of c.rewrite_inputs.new.nodes in
+    let made = map node_of c.push_over.new.nodes in
+    let k = c.in_ok-push_over.field-0 in
+    let own = subst (λ l. IsPut new made (with_inputs x l) (map formula_of c.as_slice-2.result.now) k) c.as_slice.ensures c.in_ok-push_over.ensures.put in
+    let put = subst (λ l. IsPut new made (with_inputs x c.in_ok-numbers.numbers) (map formula_of l) k) c.as_slice-2.ensures own in
+    put-over (plan_of c.args.plan.now.arena) c.args.plan.now.root c.requires.good c.args.n c.requires.under c.requires.frames (map node_of c.args.nodes.now) new made x (parts_in c.in_ok-parts.parts) (map formula_of c.args.conjuncts) c.as_slice-read.result.now c.in_ok-numbers.numbers k c.requires.typed c.requires.plain c.requires.at read c.in_ok-parts.ensures.parts c.in_ok-numbers.ensures.rewritten put
