@@ -1,0 +1,2 @@
+-- the line of a plan
+pub mod PartsLines
