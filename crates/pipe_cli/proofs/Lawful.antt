@@ -1,8 +1,9 @@
 -- The contract of each command is a sound one, and holds the statuses of reading and writing.
 use Rattle.std.proofs.Common.{◌≡◌, ℕ, false, List, [], ◌∷◌, Option, Some, None, refl}
-use Rattle.pipe_cli.specs.Commands.{Request, Run, Check, Explain, Optimize, SelfTest, Reconcile, ReplayEdits, Help, Version, Stream, Why, contract_of, source_of}
+use Rattle.pipe_cli.specs.Commands.{Request, Run, Check, Explain, Optimize, Parts, SelfTest, Reconcile, ReplayEdits, Help, Version, Stream, Why, contract_of, source_of}
 use Rattle.pipe_cli.specs.Commands.CheckCommand.{ok_text}
 use Rattle.pipe_cli.specs.Commands.HelpCommand.{help_text}
+use Rattle.pipe_cli.specs.Commands.PartsCommand.{IsPartsText}
 use Rattle.pipe_cli.specs.Commands.VersionCommand.{version_text}
 use Rattle.pipe_cli.specs.Commands.WhyCommand.{IsGoodText}
 use Rattle.pipe_cli.specs.Contract.{IsLawful}
@@ -20,6 +21,7 @@ lawful (Run name) = run_lawful
 lawful Check = looks_lawful (λ job text. text ≡ ok_text)
 lawful Explain = looks_lawful (λ job text. text ≡ branch_lines job)
 lawful Optimize = optimize_lawful
+lawful Parts = looks_lawful IsPartsText
 lawful (SelfTest start rows) = selftest_lawful start rows
 lawful Reconcile = reconcile_lawful
 lawful ReplayEdits = replay_lawful

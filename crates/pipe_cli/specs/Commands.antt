@@ -3,6 +3,7 @@ pub mod RunCommand
 pub mod CheckCommand
 pub mod ExplainCommand
 pub mod OptimizeCommand
+pub mod PartsCommand
 pub mod SelfTestCommand
 pub mod ReconcileCommand
 pub mod ReplayEditsCommand
@@ -20,6 +21,7 @@ use Rattle.pipe_cli.specs.Commands.RunCommand.{run}
 use Rattle.pipe_cli.specs.Commands.CheckCommand.{check}
 use Rattle.pipe_cli.specs.Commands.ExplainCommand.{explain}
 use Rattle.pipe_cli.specs.Commands.OptimizeCommand.{optimize}
+use Rattle.pipe_cli.specs.Commands.PartsCommand.{parts}
 use Rattle.pipe_cli.specs.Commands.SelfTestCommand.{selftest}
 use Rattle.pipe_cli.specs.Commands.ReconcileCommand.{reconcile}
 use Rattle.pipe_cli.specs.Commands.ReplayEditsCommand.{replay_edits}
@@ -36,6 +38,7 @@ pub data Request : Type 0 where
   Check : Request
   Explain : Request
   Optimize : Request
+  Parts : Request
   SelfTest : (start rows : ℕ) → Request
   Reconcile : Request
   ReplayEdits : Request
@@ -50,6 +53,7 @@ contract_of (Run name) = run
 contract_of Check = check
 contract_of Explain = explain
 contract_of Optimize = optimize
+contract_of Parts = parts
 contract_of (SelfTest start rows) = selftest start rows
 contract_of Reconcile = reconcile
 contract_of ReplayEdits = replay_edits
@@ -64,6 +68,7 @@ source_of (Run name) = standard_or name
 source_of Check = Standard
 source_of Explain = Standard
 source_of Optimize = Standard
+source_of Parts = Standard
 source_of (SelfTest start rows) = Nowhere
 source_of Reconcile = Standard
 source_of ReplayEdits = Standard
@@ -79,6 +84,7 @@ word_request word =
     else if bytes_eq word (codes "check") then Some Check
     else if bytes_eq word (codes "explain") then Some Explain
     else if bytes_eq word (codes "optimize") then Some Optimize
+    else if bytes_eq word (codes "parts") then Some Parts
     else if bytes_eq word (codes "reconcile") then Some Reconcile
     else if bytes_eq word (codes "replay-edits") then Some ReplayEdits
     else if bytes_eq word (codes "--help") then Some Help
@@ -114,6 +120,7 @@ request_of (command.Run name) = Run (option_copied name)
 request_of command.Check = Check
 request_of command.Explain = Explain
 request_of command.Optimize = Optimize
+request_of command.Parts = Parts
 request_of (command.SelfTest start rows) = SelfTest start rows
 request_of command.Reconcile = Reconcile
 request_of command.ReplayEdits = ReplayEdits
@@ -126,6 +133,7 @@ HasGoodRows (command.Run name) = ⊤
 HasGoodRows command.Check = ⊤
 HasGoodRows command.Explain = ⊤
 HasGoodRows command.Optimize = ⊤
+HasGoodRows command.Parts = ⊤
 HasGoodRows (command.SelfTest start rows) = (1 ≤ rows) × (rows ≤ 1000000)
 HasGoodRows command.Reconcile = ⊤
 HasGoodRows command.ReplayEdits = ⊤

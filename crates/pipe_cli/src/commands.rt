@@ -16,6 +16,7 @@ mod check;
 mod explain;
 mod help;
 mod optimize;
+mod parts;
 mod reconcile;
 mod replay_edits;
 mod run;
@@ -26,6 +27,7 @@ use self::check::check;
 use self::explain::explain;
 use self::help::help_text;
 use self::optimize::optimize;
+use self::parts::parts;
 use self::reconcile::reconcile;
 use self::replay_edits::replay_edits;
 pub(crate) use self::run::frame_of;
@@ -52,6 +54,8 @@ pub enum Command<'a> {
     Explain,
     /// `optimize`: the job on standard input is written with its filters low and without needless columns.
     Optimize,
+    /// `parts`: how the tables of the job on standard input may be cut is told.
+    Parts,
     /// `selftest START ROWS`: two frames of so many rows are drawn from a state on and joined.
     SelfTest(u64, u32),
     /// `reconcile`: the two tables on standard input are reconciled.
@@ -84,6 +88,7 @@ pub fn command_of(words: &[Text]) -> Option<Command<'_>>
             "check" => Some(Command::Check),
             "explain" => Some(Command::Explain),
             "optimize" => Some(Command::Optimize),
+            "parts" => Some(Command::Parts),
             "reconcile" => Some(Command::Reconcile),
             "replay-edits" => Some(Command::ReplayEdits),
             "--help" => Some(Command::Help),
@@ -125,6 +130,7 @@ pub(crate) fn input_of<R: JobReader>(
         Command::Check
         | Command::Explain
         | Command::Optimize
+        | Command::Parts
         | Command::Reconcile
         | Command::ReplayEdits => bytes_left(alloc, input),
         Command::SelfTest(..) | Command::Help | Command::Version => Ok(Vec::new(alloc)),
@@ -159,6 +165,7 @@ pub(crate) fn answer_of<T: Threads + Sync, C: StopCheck, G: Gate + Sync>(
         Command::Check => check(alloc, bytes),
         Command::Explain => explain(alloc, bytes),
         Command::Optimize => optimize(alloc, bytes),
+        Command::Parts => parts(alloc, bytes),
         Command::SelfTest(start, rows) => selftest(rt, alloc, start, rows, stop, gate),
         Command::Reconcile => reconcile(rt, alloc, bytes, stop, gate),
         Command::ReplayEdits => replay_edits(alloc, bytes),

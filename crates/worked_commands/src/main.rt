@@ -5,6 +5,7 @@ mod commands;
 mod explained;
 mod faulty;
 mod looked_at;
+mod parted;
 mod table;
 mod tested;
 

@@ -1,7 +1,7 @@
 //! The cases, in the order in which they are told.
 
 use crate::commands::words;
-use crate::{commands, explained, faulty, looked_at, tested};
+use crate::{commands, explained, faulty, looked_at, parted, tested};
 use std::alloc::{AllocError, Global};
 use std::thread::Threads;
 use worked_runs::{SORTED_JOIN, tell_length, tell_run, tell_text};
@@ -123,5 +123,6 @@ pub(crate) fn answers<T: Threads + Sync>(rt: &T, alloc: Global) -> Result<String
     tested::tell_twice(rt, alloc, &mut answers)?;
     tell_looked_at(rt, alloc, &mut answers)?;
     explained::tell_explained(rt, alloc, &mut answers)?;
+    parted::tell_parted(rt, alloc, &mut answers)?;
     Ok(answers)
 }
