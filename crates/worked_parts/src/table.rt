@@ -1,6 +1,6 @@
 //! The worked cases, in the order in which they are told.
 
-use crate::{chains, joins, plain};
+use crate::{barred, chains, joins, lines, plain};
 use std::alloc::{AllocError, Global};
 
 /// What each case shows, and its choice.
@@ -9,5 +9,7 @@ pub(crate) fn answers(alloc: Global) -> Result<String, AllocError> {
     plain::tell_all(alloc, &mut answers)?;
     joins::tell_all(alloc, &mut answers)?;
     chains::tell_all(alloc, &mut answers)?;
+    barred::tell_all(alloc, &mut answers)?;
+    lines::tell_all(alloc, &mut answers)?;
     Ok(answers)
 }
