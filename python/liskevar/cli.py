@@ -5,6 +5,7 @@
 """
 
 import argparse
+import contextlib
 import os
 import re
 import sys
@@ -12,16 +13,17 @@ import warnings
 from collections.abc import Callable, Iterable, Sequence
 from typing import Any
 
-from .csv_files import blocks, csv_lines, delimiter_of, read_csv
+from .csv_files import Source, blocks, csv_lines, delimiter_of, read_csv
 from .drawing import picture
 from .dtypes import TYPES
 from .errors import LiskevarError, Refused
 from .frame import frame_of
 from .job import ROW_LIMIT, Plan, Settings, job_text, plan_of
 from .nodes import HOWS, Key, known
+from .pieces import PARQUET_ENDS, parquet_names
 from .places import told_as
 from .plan_json import plan_of_job, plan_under, read_json
-from .program import ask
+from .program import ask, want
 from .recon import reconciliation_text
 from .rows import json_rows, names_of, rows_of_lines
 from .sql import sql
@@ -31,7 +33,9 @@ from .tables import Table
 DIRECTION = r"(?:asc|desc|nulls_last|nulls_first)"
 
 
-def _tables(given: Any, paths: Sequence[str], read: Iterable[str] | None = None) -> list[Table]:
+def _tables(
+    given: Any, paths: Sequence[str], read: Iterable[str] | None = None, reader: Callable[..., Table] = read_csv
+) -> list[Table]:  # fmt: skip
     """The tables of files, with the types and names that flags tell; Refused where one doesn't apply.
 
     `read` are the columns that are asked for, or None where that isn't known before they are read.
@@ -44,7 +48,7 @@ def _tables(given: Any, paths: Sequence[str], read: Iterable[str] | None = None)
         found |= set(own)
         told: dict[str, Any] = {} if read is None else {"read": {*read, *own}, "jobs": 1}
         told |= {"names": names, "types": own, "empty_is_text": given.empty_is_text}
-        tables.append(read_csv(path, delimiter=delimiter_of(path, given.tabs), **told))
+        tables.append(reader(path, delimiter=delimiter_of(path, given.tabs), **told))
     for name in types:
         if name not in found:
             raise Refused(f"--types names {name!r}, which is no column of any file")
@@ -52,8 +56,10 @@ def _tables(given: Any, paths: Sequence[str], read: Iterable[str] | None = None)
 
 
 def _header(path: str, given: Any) -> list[str]:
-    """The names in the first line of a file."""
-    return next(blocks(path, delimiter_of(path, given.tabs)))[0]
+    """The names in the first line of a file, or in a Parquet file."""
+    if path.endswith(PARQUET_ENDS):
+        return parquet_names(path)
+    return next(blocks(Source(path, delimiter_of(path, given.tabs))))[0]
 
 
 def _type_of(text: str) -> tuple[str, str]:
@@ -137,11 +143,16 @@ def do_join(given: Any) -> None:
     _answer(given, plan_of(made._ended()), made.columns)
 
 
+def _plan_of_json(given: Any, reader: Callable[..., Table] = read_csv) -> tuple[Plan, list[str]]:
+    """A plan that is written as JSON, and the columns that it gives."""
+    values = read_json(given.plan, _text(given.plan))
+    plan = plan_under(values, len(values) - 1 if isinstance(values, list) else 0, _tables(given, given.files, None, reader))
+    return plan, list(plan.nodes[-1].schema)
+
+
 def do_plan(given: Any) -> None:
     """Runs a plan that is written as JSON."""
-    values = read_json(given.plan, _text(given.plan))
-    plan = plan_under(values, len(values) - 1 if isinstance(values, list) else 0, _tables(given, given.files))
-    _answer(given, plan, list(plan.nodes[-1].schema))
+    _answer(given, *_plan_of_json(given))
 
 
 def do_reconcile(given: Any) -> None:
@@ -152,9 +163,9 @@ def do_reconcile(given: Any) -> None:
     _put(text if given.job else ask("reconcile", text, [frame_of(it)._node for it in tables], given.row_limit))
 
 
-def do_sql(given: Any) -> None:
-    """Runs a query over files."""
-    text = Text(given.query)
+def _plan_of_query(given: Any, query: str, reader: Callable[..., Table] = read_csv) -> tuple[Plan, list[str]]:
+    """The plan of a query, and the columns that it gives."""
+    text = Text(query)
     named = {}
     for it in given.files:
         name, path = it.split("=", 1) if "=" in it else (os.path.splitext(os.path.basename(it))[0], it)
@@ -165,9 +176,42 @@ def do_sql(given: Any) -> None:
     read = None
     if not (given.names or words & {"*", "natural"}):
         read = [it for path in named.values() for it in _header(path, given) if it.lower() in words]
-    tables = _tables(given, list(named.values()), read)
-    made = sql(given.query, {name: frame_of(it) for name, it in zip(named, tables)})
-    _answer(given, plan_of(made._ended()), made.columns)
+    tables = _tables(given, list(named.values()), read, reader)
+    made = sql(query, {name: frame_of(it) for name, it in zip(named, tables)})
+    return plan_of(made._ended()), made.columns
+
+
+def do_sql(given: Any) -> None:
+    """Runs a query over files."""
+    _answer(given, *_plan_of_query(given, given.query))
+
+
+def do_distribute(given: Any) -> None:
+    """Runs a plan over files larger than memory, in parts on the workers of Dask, and writes CSV."""
+    from .cluster import Limits, Run, cluster
+    from .distribute import read_table, write_csv
+
+    want("parts")
+    settings = _settings(given)
+    with cluster(given.scheduler, given.local) as client:
+        run = Run(client, Limits(parts=given.parts), not given.quiet)
+
+        def read(path: str, **told: Any) -> Table:
+            told.pop("jobs", None)
+            return read_table(run, path, told.pop("read", None), **told)
+
+        plan, names = _plan_of_query(given, given.plan, read) if given.sql else _plan_of_json(given, read)
+        types = plan.nodes[-1].types()
+        told = {"types": {it: types[it] for it in names}, "null": given.null}
+        try:
+            with contextlib.ExitStack() as closing:
+                file = sys.stdout
+                if given.output:
+                    file = closing.enter_context(open(given.output, "w", encoding="utf-8", newline=""))
+                done = write_csv(run, plan, settings, file=file, **told)
+        except OSError as error:
+            raise Refused(f"{given.output}: {error.strerror}") from error
+    print(done, file=sys.stderr)
 
 
 def do_csv(given: Any) -> None:
@@ -190,7 +234,7 @@ TABS: dict[str, Any] = {"action": "store_true", "help": "fields are separated by
 TWO_FILES: dict[str, Any] = {"nargs": 2, "metavar": "FILE", "help": "a CSV file, or a TSV file (by its ending .tsv)"}
 
 
-def _common(parser: argparse.ArgumentParser, outputs: bool) -> None:
+def _common(parser: argparse.ArgumentParser, work: Callable[[Any], None]) -> None:
     add = parser.add_argument
     add("--types", action="extend", default=[], type=names_of, metavar="NAME:TYPE,..",
         help=f"types of columns: {TYPES}, or the form of dates, as %%d.%%m.%%Y")  # fmt: skip
@@ -201,9 +245,11 @@ def _common(parser: argparse.ArgumentParser, outputs: bool) -> None:
     add("--workers", type=int, default=4)
     add("--chunk-rows", type=int, default=65_536)
     add("--row-limit", type=int, default=ROW_LIMIT, help=f"the rows a node may have; {ROW_LIMIT:,} if not told")
+    if work is do_distribute:
+        return
     add = parser.add_mutually_exclusive_group().add_argument
     add("--job", action="store_true", help="print what the program reads, and don't run it")
-    if outputs:
+    if work is not do_reconcile:
         add("--csv", action="store_true", help="print the rows as CSV")
         add("--explain", action="store_true", help="print the pipelines of the plan")
         add("--svg", action="store_true", help="print a picture of the plan")
@@ -224,6 +270,20 @@ def _join_flags(add: Callable[..., Any]) -> None:
         help="a key of the answer's order; given again for the next key")  # fmt: skip
 
 
+def _distribute_flags(parser: argparse.ArgumentParser) -> None:
+    parser.set_defaults(workers=1)
+    add = parser.add_argument
+    add("plan", metavar="PLAN", help="a JSON array of nodes, the last the root; a query with --sql")
+    add("files", nargs="+", metavar="FILE", help="the files that are frame 0, 1, ..; with --sql NAME=FILE")
+    add("--sql", action="store_true", help="PLAN is a query")
+    add("--scheduler", metavar="ADDRESS", help="the address of Dask's scheduler, as tcp://host:8786")
+    add("--local", type=int, metavar="N", help="worker processes here, where no scheduler is told; as many as processors")
+    add("--parts", type=int, default=0, metavar="N", help="the least number of parts; as many as workers if not told")
+    add("--output", metavar="FILE", help="the CSV file that is written; standard output if not told")
+    add("--null", **NULL)
+    add("--quiet", action="store_true", help="no bars on standard error")
+
+
 def _parser() -> argparse.ArgumentParser:
     """All commands and their flags."""
     raw = argparse.RawDescriptionHelpFormatter
@@ -234,7 +294,7 @@ def _parser() -> argparse.ArgumentParser:
         made = commands.add_parser(work.__name__.removeprefix("do_"), help=work.__doc__, description=work.__doc__)
         made.set_defaults(work=work)
         if work not in (do_csv, do_draw):
-            _common(made, outputs=work is not do_reconcile)
+            _common(made, work)
         return made
 
     _join_flags(command(do_join).add_argument)
@@ -244,6 +304,7 @@ def _parser() -> argparse.ArgumentParser:
     add = command(do_sql).add_argument
     add("query", help="the query")
     add("files", nargs="+", metavar="NAME=FILE", help="a table's name and its file; or a file alone")
+    _distribute_flags(command(do_distribute))
     add = command(do_reconcile).add_argument
     add("files", **TWO_FILES)
     add("--on", required=True, **NAMES, help="the key's columns")

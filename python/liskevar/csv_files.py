@@ -5,6 +5,7 @@ empty field is null, and `""` is the empty text.
 """
 
 import csv
+import io
 import itertools
 import os
 import re
@@ -12,7 +13,7 @@ import warnings
 from collections.abc import Iterable, Iterator, Sequence
 from datetime import datetime
 from decimal import Decimal
-from typing import Any
+from typing import Any, NamedTuple, TextIO
 
 from .dtypes import RANGES, STRING, Cell, DType, Guess
 from .errors import Refused
@@ -38,20 +39,48 @@ def delimiter_of(path: str, tabs: bool = False) -> str:
     return "\t" if tabs or path.endswith(".tsv") else ","
 
 
-def _lines(path: str, delimiter: str) -> Iterator[str]:
-    """The lines of a file without its mark of byte order, with each `""` that is a whole field marked."""
-    other, inside = f"[^{re.escape(delimiter)}]*", False
-    fields = re.compile(rf'("(?:[^"]|"")*("?){other}|{other})({re.escape(delimiter)}|\Z)')
+class Source(NamedTuple):
+    """A file, what separates its fields, and the bytes of it that are read; all of them where no end is told.
+
+    A piece has the header's bytes (`head`) before its own. Its lines are counted from `line` on.
+    """
+
+    path: str
+    delimiter: str
+    head: bytes = b""
+    start: int = 0
+    end: int | None = None
+    line: int = 0
+
+    def open(self) -> TextIO:
+        """The text, without a mark of byte order."""
+        if self.end is None:
+            return open(self.path, encoding="utf-8-sig", newline="")
+        with open(self.path, "rb") as file:
+            file.seek(self.start)
+            found = self.head + file.read(self.end - self.start)
+        return io.TextIOWrapper(io.BytesIO(found), encoding="utf-8-sig", newline="")
+
+
+def fields_pattern(delimiter: str) -> re.Pattern[str]:
+    """The pattern of a field of a line in which a quote stands."""
+    other = f"[^{re.escape(delimiter)}]*"
+    return re.compile(rf'("(?:[^"]|"")*("?){other}|{other})({re.escape(delimiter)}|\Z)')
+
+
+def _lines(source: Source) -> Iterator[str]:
+    """The lines of a source, with each `""` that is a whole field marked."""
+    fields, inside = fields_pattern(source.delimiter), False
     try:
-        with open(path, encoding="utf-8-sig", newline="") as file:
+        with source.open() as file:
             for line in file:
                 if inside or '"' in line:
-                    line, inside = _marked(fields.findall('"' + line if inside else line), inside)
+                    line, inside = marked(fields.findall('"' + line if inside else line), inside)
                 yield line
     except UnicodeDecodeError:
-        raise _no_text(path) from None
+        raise _no_text(source.path) from None
     except OSError as error:
-        raise Refused(f"{path}: {error.strerror}") from error
+        raise Refused(f"{source.path}: {error.strerror}") from error
 
 
 def _no_text(path: str) -> Refused:
@@ -65,7 +94,7 @@ def _no_text(path: str) -> Refused:
     return Refused(f"{path}: not UTF-8")
 
 
-def _marked(fields: list[tuple[str, str, str]], inside: bool) -> tuple[str, bool]:
+def marked(fields: list[tuple[str, str, str]], inside: bool) -> tuple[str, bool]:
     """A line with its empty quoted fields marked, and whether a quoted field goes on behind it.
 
     Of each field there is its text, the quote that ends it, if one began it, and what separates it from the next. As
@@ -77,7 +106,7 @@ def _marked(fields: list[tuple[str, str, str]], inside: bool) -> tuple[str, bool
     return "".join([it + end for it, (_, _, end) in zip(shown, fields)]), goes_on
 
 
-def _header(path: str, header: list[str], names: Sequence[str] | None) -> list[str]:
+def header_of(path: str, header: list[str], names: Sequence[str] | None) -> list[str]:
     found = ["" if it == EMPTY else it for it in header] if names is None else list(names)
     if len(found) != len(header):
         raise Refused(f"{path}, line 1: {len(header)} columns, and {len(found)} names are given")
@@ -89,10 +118,14 @@ def _header(path: str, header: list[str], names: Sequence[str] | None) -> list[s
     return found
 
 
-def blocks(path: str, delimiter: str) -> Iterator[list[list[str]]]:
-    """The records of a file, some at a time; the first block is the header alone."""
+def _reader(source: Source) -> Any:
     csv.field_size_limit(2**31 - 1)
-    reader = csv.reader(_lines(path, delimiter), delimiter=delimiter, strict=True)
+    return csv.reader(_lines(source), delimiter=source.delimiter, strict=True)
+
+
+def blocks(source: Source) -> Iterator[list[list[str]]]:
+    """The records of a source, some at a time; the first block is the header alone."""
+    reader, path = _reader(source), source.path
     try:
         header = next(reader, None)
         if not header:
@@ -105,38 +138,38 @@ def blocks(path: str, delimiter: str) -> Iterator[list[list[str]]]:
             if set(map(len, block)) != {width}:
                 place, row = next((k, row) for k, row in enumerate(block) if len(row) != width)
                 found = f"{len(row)} fields, where the header has {width}" if row else "an empty line"
-                raise Refused(f"{path}, line {line_of(path, delimiter, count + place)}: {found}")
+                raise Refused(f"{path}, line {line_of(source, count + place)}: {found}")
             count += len(block)
             yield block
     except csv.Error as error:
-        raise Refused(f"{path}, line {reader.line_num}: {error}") from error
+        raise Refused(f"{path}, line {source.line + reader.line_num}: {error}") from error
 
 
-def line_of(path: str, delimiter: str, number: int) -> int:
+def line_of(source: Source, number: int) -> int:
     """The line on which a record ends; the header is record 0."""
-    reader = csv.reader(_lines(path, delimiter), delimiter=delimiter, strict=True)
+    reader = _reader(source)
     next(itertools.islice(reader, number, None))
-    return reader.line_num
+    return int(source.line + reader.line_num)
 
 
 class Fields:
     """The fields of a column, empty for null and EMPTY for two quotes, and the types that all of them spell."""
 
-    def __init__(self, source: tuple[str, str], name: str, place: int, values: list[str], empty_is_text: bool) -> None:
-        (self.path, self.delimiter), self.name, self.place, self.values = source, name, place, values
+    def __init__(self, source: Source, name: str, place: int, values: list[str], empty_is_text: bool) -> None:
+        self.source, self.name, self.place, self.values = source, name, place, values
         self.empty = "" if empty_is_text else None
         self.distinct = set(values) - {"", EMPTY}
-        self.looks = next((it for it in LOOKS if self.distinct and self._spell(LOOKS[it])), "")
+        self.looks = next((it for it in LOOKS if self.distinct and self.spell(LOOKS[it])), "")
         self._ends: dict[int, tuple[int, int] | None] = {}
 
-    def _spell(self, pattern: str) -> bool:
+    def spell(self, pattern: str) -> bool:
         return all(map(re.compile(pattern).fullmatch, self.distinct))
 
-    def _number_ends(self, scale: int) -> tuple[int, int] | None:
+    def number_ends(self, scale: int) -> tuple[int, int] | None:
         """The least and the greatest number, where all fields spell numbers of so many digits, in their one way."""
         if scale not in self._ends:
             decimals = rf"-?(?:0|[1-9][0-9]{{0,39}})(?:\.[0-9]{{1,{scale}}}0*)?"
-            are_numbers = self._spell(decimals if scale else WHOLE)
+            are_numbers = self.spell(decimals if scale else WHOLE)
             numbers = [_number(it, scale) for it in self.distinct] if are_numbers else []
             self._ends[scale] = (min(numbers, default=0), max(numbers, default=0)) if are_numbers else None
         return self._ends[scale]
@@ -144,11 +177,11 @@ class Fields:
     def fits(self, dtype: DType) -> bool:
         """Whether all fields spell values of the type."""
         if dtype.kind == "number":
-            ends, (least, greatest) = self._number_ends(dtype.scale), RANGES[dtype.base]
+            ends, (least, greatest) = self.number_ends(dtype.scale), RANGES[dtype.base]
             return ends is not None and least <= ends[0] and ends[1] <= greatest
         if dtype.base == "Boolean":
             return self.distinct <= {"true", "false"}
-        return dtype == STRING or self._spell("(?:[0-9a-f]{2})*")
+        return dtype == STRING or self.spell("(?:[0-9a-f]{2})*")
 
     def column(self, told: DType | str | None) -> Column:
         """The column, of the type that is told or of the form of its dates, which become texts in the order of ISO.
@@ -158,12 +191,12 @@ class Fields:
         """
         if isinstance(told, str):
             dates = [it if not it or it == EMPTY else self._iso(row, it, told) for row, it in enumerate(self.values)]
-            texts = Fields((self.path, self.delimiter), self.name, self.place, dates, self.empty is not None)
+            texts = Fields(self.source, self.name, self.place, dates, self.empty is not None)
             return Column(self.name, STRING, texts.cells)
         if told:
             self._check(told)
             return Column(self.name, told, self.cells)
-        path, name, looks = self.path, self.name, self.looks
+        path, name, looks = self.source.path, self.name, self.looks
         hint = f"; --types {name}:String (types=) reads {name!r} of {path} as texts" if looks else ""
         if looks in WAYS:
             form, what = WAYS[looks]
@@ -171,8 +204,12 @@ class Fields:
             how = f"types={{{name!r}: {form!r}}} (--types {name}:{form}) reads them {what}"
             words = f"{path}: {name!r} looks like {looks}, and is read as texts, which sort and join as texts"
             warnings.warn(f"{words}; {how}", TypeWarning, stacklevel=2)
-        is_empty = not self.distinct and EMPTY not in self.values
-        return Column(name, Guess(self.fits, is_empty=is_empty, hint=hint), self.cells)
+        return Column(name, Guess(self.fits, is_empty=self.is_empty, hint=hint), self.cells)
+
+    @property
+    def is_empty(self) -> bool:
+        """Whether no field has a value."""
+        return not self.distinct and EMPTY not in self.values
 
     def _iso(self, row: int, field: str, form: str) -> str:
         try:
@@ -183,13 +220,13 @@ class Fields:
         return found.isoformat() if has_time else found.date().isoformat()
 
     def _refused(self, row: int, words: str) -> Refused:
-        line = line_of(self.path, self.delimiter, row + 1)
-        return Refused(f"{self.path}, line {line}, column {self.place + 1} ({self.name}): {words}")
+        line = line_of(self.source, row + 1)
+        return Refused(f"{self.source.path}, line {line}, column {self.place + 1} ({self.name}): {words}")
 
     def _check(self, dtype: DType) -> None:
         """Refused with the place of the first field that is none of the type."""
         for row, it in enumerate(() if self.fits(dtype) else self.values):
-            if not Fields((self.path, self.delimiter), self.name, self.place, [it], False).fits(dtype):
+            if not Fields(self.source, self.name, self.place, [it], False).fits(dtype):
                 raise self._refused(row, f"{it!r} is no {dtype}")
 
     def cells(self, dtype: DType) -> list[Cell]:
@@ -221,9 +258,24 @@ def read_csv(
 
     Those of `read` alone have values, where it is told: no other column is asked for them.
     """
-    delimiter = delimiter or delimiter_of(path)
-    rows = blocks(path, delimiter)
-    header = _header(path, next(rows)[0], names)
+    source = Source(path, delimiter or delimiter_of(path))
+    made, height = fields_of(source, names, read, empty_is_text, jobs)
+    forms, told = told_forms(path, types, [it.name for it in made])
+    return Table(os.path.basename(path), [it.column(forms.get(it.name) or told.get(it.name)) for it in made], height)
+
+
+def told_forms(path: str, types: Types | None, names: Sequence[str]) -> tuple[dict[str, str], dict[str, DType]]:
+    """The forms of dates and the types that a caller tells."""
+    forms = {name: text for name, text in (types or {}).items() if "%" in text}
+    return forms, told_types({**(types or {}), **dict.fromkeys(forms, "String")}, names, path)
+
+
+def fields_of(
+    source: Source, names: Sequence[str] | None, read: Iterable[str] | None, empty_is_text: bool, jobs: int
+) -> tuple[list[Fields], int]:
+    """The fields of each column of a source, and the number of its rows."""
+    rows = blocks(source)
+    header = header_of(source.path, next(rows)[0], names)
     fields: list[list[str]] = [[] for _ in header]
     valued = [place for place, name in enumerate(header) if read is None or name in set(read)]
     height = size = 0
@@ -233,11 +285,8 @@ def read_csv(
         for place in valued:
             fields[place].extend(turned[place])
             size += sum(map(len, turned[place])) + len(block)
-        check_size(f"{path}, by row {height}, in {len(valued)} columns", size, jobs)
-    forms = {name: text for name, text in (types or {}).items() if "%" in text}
-    told = told_types({**(types or {}), **dict.fromkeys(forms, "String")}, header, path)
-    made = [Fields((path, delimiter), it, place, fields[place], empty_is_text) for place, it in enumerate(header)]
-    return Table(os.path.basename(path), [it.column(forms.get(it.name) or told.get(it.name)) for it in made], height)
+        check_size(f"{source.path}, by row {height}, in {len(valued)} columns", size, jobs)
+    return [Fields(source, it, place, fields[place], empty_is_text) for place, it in enumerate(header)], height
 
 
 def text_of(value: Any) -> str:

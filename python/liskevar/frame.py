@@ -227,11 +227,15 @@ class LazyFrame:
         return Picture(picture(plan_of(self._ended()), self.explain().splitlines() if pipelines else ()))
 
     def distribute(self, **told: Any) -> Rows:
-        """Has the plan run in parts by Dask, where the program has the command `parts`."""
-        want("parts")
-        from . import distributed  # type: ignore[attr-defined]
+        """Has the plan run in parts by Dask, where the program has the command `parts`.
 
-        return distributed.distribute(self, **told)  # type: ignore[no-any-return]
+        `scheduler` is the address of Dask's scheduler, `local` the number of worker processes where there is none;
+        `parts`, `workers`, `chunk_rows` and `row_limit` may be told.
+        """
+        from .distribute import distribute
+
+        want("parts")
+        return distribute(plan_of(self._ended()), self.types, **told)
 
 
 def frame_of(table: Table) -> LazyFrame:

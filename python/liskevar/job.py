@@ -105,12 +105,13 @@ def encoded(text: str, what: str) -> bytes:
     return found
 
 
-def frames_text(frames: Iterable[tuple[Table, Iterable[str]]], resolve: Resolve) -> str:
-    """Some columns of tables as the job spells frames; JobTooLong as soon as they are."""
+def frames_text(frames: Iterable[tuple[Table, Iterable[str]]], resolve: Resolve, is_empty: bool = False) -> str:
+    """Some columns of tables as the job spells frames, or without cells; JobTooLong as soon as they are."""
     texts, size = [], 0
     for table, names in frames:
         types = [(it, resolve(it.type)) for it in table.columns if it.name in names]
-        columns = [compact({"name": it.name, "type": dtype.base, "values": it.spell(dtype)}) for it, dtype in types]
+        cells = [[] if is_empty else it.spell(dtype) for it, dtype in types]
+        columns = [compact({"name": it.name, "type": dtype.base, "values": these}) for (it, dtype), these in zip(types, cells)]
         texts.append(f'{{"columns":[{",".join(columns)}]}}')
         what = f"{table.name}, columns {', '.join(it.name for it, _ in types)}"
         size += len(encoded(texts[-1], what))
@@ -130,13 +131,19 @@ def _node_text(node: Node, inputs: list[int], root: Node) -> dict[str, Any]:
     return {"node": node.kind, **({"inputs": inputs} if node.kind == "Union" else named), **said_by(node.said, root)}
 
 
-def job_text(plan: Plan, settings: Settings) -> bytes:
-    """The job of a plan; JobTooLong where it would be past the limit."""
-    root, scans = plan.nodes[-1], _columns_of_scans(plan)
+def frames_of(plan: Plan) -> dict[Table, set[str]]:
+    """The tables that the plan reads, in the order of the job's frames, and the columns of each."""
     read: dict[Table, set[str]] = {}
-    for n, node in enumerate(plan.nodes):
-        if node.table is not None:
-            read.setdefault(node.table, set()).update(scans[n])
+    for n, names in sorted(_columns_of_scans(plan).items()):
+        table = plan.nodes[n].table
+        assert table is not None, "scans have tables"
+        read.setdefault(table, set()).update(names)
+    return read
+
+
+def job_text(plan: Plan, settings: Settings, is_empty: bool = False) -> bytes:
+    """The job of a plan, or the same without its rows; JobTooLong where it would be past the limit."""
+    root, scans, read = plan.nodes[-1], _columns_of_scans(plan), frames_of(plan)
     said = []
     for n, node in enumerate(plan.nodes):
         if node.table is None:
@@ -146,6 +153,6 @@ def job_text(plan: Plan, settings: Settings) -> bytes:
             columns = None if is_whole else scans[n]
             said.append({"node": node.kind, "frame": list(read).index(node.table), "columns": columns})
     numbers = f'"workers":{settings.workers},"chunk_rows":{settings.chunk_rows},"row_limit":{settings.row_limit}'
-    frames = frames_text(read.items(), root.typing.resolve)
+    frames = frames_text(read.items(), root.typing.resolve, is_empty)
     text = f'{numbers},"frames":{frames},"plan":{compact(said)},"root":{len(said) - 1}'
     return with_version(text, "the job")

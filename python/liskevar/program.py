@@ -1,6 +1,7 @@
 """Finding the proved program, building it where that is needed, and calling it."""
 
 import functools
+import hashlib
 import json
 import os
 import re
@@ -42,6 +43,19 @@ def find_program() -> str:
     return found
 
 
+@functools.lru_cache(maxsize=8)
+def digest() -> str:
+    """The SHA-256 of the program that is found; of the repository's script that of what it has built."""
+    found, above = find_program(), os.path.dirname(os.path.dirname(PACKAGE))
+    if os.path.dirname(os.path.abspath(found)) == above:
+        found = os.path.join(above, "crates", "liskevar", "out", "liskevar")
+    try:
+        with open(found, "rb") as file:
+            return hashlib.file_digest(file, "sha256").hexdigest()
+    except OSError as error:
+        raise NotOffered(f"{found}: {error.strerror}") from error
+
+
 def _called(words: Sequence[str], text: bytes = b"") -> subprocess.CompletedProcess[bytes]:
     """What the program does, told words and a text."""
     program, environment = find_program(), {"MALLOC_ARENA_MAX": "1", **os.environ}
@@ -51,9 +65,11 @@ def _called(words: Sequence[str], text: bytes = b"") -> subprocess.CompletedProc
         raise NotOffered(f"{program}: {error.strerror}") from error
 
 
-def ask(command: str, text: bytes, nodes: Sequence[Node] = (), row_limit: int = 0) -> bytes:
-    """What a command prints; an exception for each status but 0, with the place of the node that it names."""
-    done = _called([command], text)
+def ask(
+    command: str, text: bytes, nodes: Sequence[Node] = (), row_limit: int = 0, more: Sequence[str] = ()
+) -> bytes:  # fmt: skip
+    """What a command prints, told `more` words; an exception for each status but 0, with the place of the node that it names."""
+    done = _called([command, *more], text)
     if done.returncode == 0:
         return done.stdout
     told, why = done.stderr.decode(errors="replace"), ""

@@ -1,0 +1,125 @@
+"""Dask's scheduler and workers, as a run in parts uses them."""
+
+import contextlib
+import functools
+import logging
+import os
+import sys
+import time
+import uuid
+from collections.abc import Callable, Iterator, Sequence
+from typing import Any, NamedTuple
+
+from .errors import LiskevarError, Refused
+from .job import BYTES_OF_A_JOB
+from .pieces import BYTES_OF_A_PIECE
+from .running import attempt
+
+try:
+    import dask
+    import dask.bag
+    import distributed
+except ImportError:
+    distributed = None
+
+# How often what failed is tried again; a task whose worker died is tried again by Dask's own rule.
+RETRIES = 2
+BAR = 30
+
+
+class Limits(NamedTuple):
+    """The bytes of a piece, of what a part is aimed to have and of a job; and the least number of parts, 0 for that of
+    the workers' threads."""
+
+    piece: int = BYTES_OF_A_PIECE
+    aim: int = 8_388_608
+    job: int = BYTES_OF_A_JOB
+    parts: int = 0
+
+
+@contextlib.contextmanager
+def cluster(scheduler: str | None = None, local: int | None = None) -> Iterator[Any]:
+    """A client of the scheduler at an address, or of a local one with so many worker processes."""
+    if distributed is None:
+        raise Refused("distribute wants Dask, which isn't there (Debian: python3-dask and python3-distributed)")
+    if scheduler is not None:
+        try:
+            client = distributed.Client(scheduler, timeout=20)
+        except (OSError, ValueError) as error:
+            raise Refused(f"no scheduler answers at {scheduler}: {error}") from error
+        with client:
+            yield client
+        return
+    told = {"threads_per_worker": 1, "dashboard_address": None, "silence_logs": logging.CRITICAL}
+    count = local or os.cpu_count() or 1
+    with distributed.LocalCluster(n_workers=count, **told) as made, distributed.Client(made) as client:
+        yield client
+
+
+class Run:
+    """What all steps of a run share: Dask's client, the limits, and how far it is, which is told on standard error."""
+
+    def __init__(self, client: Any, limits: Limits = Limits(), is_shown: bool = False) -> None:
+        self.client, self.limits, self.is_shown = client, limits, is_shown
+        # under this word parts tell the scheduler that they start
+        self.topic, self.start = f"liskevar-{uuid.uuid4().hex}", time.monotonic()
+        try:
+            client.wait_for_workers(1, timeout=60)
+        except (OSError, TimeoutError) as error:
+            raise Refused("the scheduler has no worker") from error
+        self.threads = sum(client.nthreads().values()) or 1
+
+    def _show(self, stage: str, done: int, count: int) -> None:
+        if self.is_shown:
+            filled = BAR * done // max(count, 1)
+            end = "\n" if done == count else ""
+            print(f"\r{stage:8} [{'#' * filled:{BAR}}] {done} of {count}", end=end, file=sys.stderr, flush=True)
+
+    def map(self, work: Callable[..., Any], *given: Sequence[Any], **told: Any) -> list[Any]:
+        """A future of each call."""
+        return list(self.client.map(functools.partial(attempt, work, **told), *given, pure=False, retries=RETRIES))
+
+    def share(self, value: Any) -> Any:
+        """A value on the workers."""
+        return self.client.scatter([value])[0]
+
+    def finish(self, stage: str, futures: Sequence[Any]) -> list[Any]:
+        """What futures give, in their order; the first that is refused or fails ends the run."""
+        found: dict[str, Any] = {}
+        self._show(stage, 0, len(futures))
+        for future, value in distributed.as_completed(futures, with_results=True, raise_errors=False):
+            if future.status != "finished" or isinstance(value, LiskevarError):
+                # the line of the bar ends here
+                print(end="\n" if self.is_shown else "", file=sys.stderr)
+                self.client.cancel(futures)
+                raise value if isinstance(value, LiskevarError) else _refused(stage, future.exception())
+            found[future.key] = value
+            self._show(stage, len(found), len(futures))
+        return [found[it.key] for it in futures]
+
+    def grouped(self, blocks: Sequence[Any], groups: int) -> list[Any]:
+        """What lists of pairs of a number and a block hold of each number below `groups`: Dask's shuffle of a bag."""
+        empty = [dask.delayed(list)() for _ in range(groups - len(blocks))]
+        bag = dask.bag.from_delayed([*blocks, *empty])
+        return list(bag.groupby(_first, shuffle="tasks").to_delayed()[:groups])
+
+    def compute(self, work: Callable[..., Any], calls: Sequence[Sequence[Any]]) -> list[Any]:
+        """A future of each call, of which Dask may have to make the arguments first."""
+        made = [dask.delayed(attempt, pure=False)(work, *it) for it in calls]
+        return list(self.client.compute(made, retries=RETRIES))
+
+    def retried(self) -> int:
+        """How many starts of parts were not the first."""
+        starts = [tuple(told) for _, told in self.client.get_events(self.topic)]
+        return len(starts) - len(set(starts))
+
+
+def _first(pair: Sequence[Any]) -> Any:
+    return pair[0]
+
+
+def _refused(stage: str, error: BaseException | None) -> Refused:
+    """The error of a task that failed, as people read it."""
+    if type(error).__name__ == "KilledWorker":
+        return Refused(f"{stage}: each worker that tried it ended; was there too little memory? {error}")
+    return Refused(f"{stage}: {type(error).__name__}: {error}")
