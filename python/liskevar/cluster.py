@@ -99,7 +99,7 @@ class Run:
 
     def grouped(self, blocks: Sequence[Any], groups: int) -> list[Any]:
         """What lists of pairs of a number and a block hold of each number below `groups`: Dask's shuffle of a bag."""
-        empty = [dask.delayed(list)() for _ in range(groups - len(blocks))]
+        empty = [dask.delayed(_nothing)() for _ in range(groups - len(blocks))]
         bag = dask.bag.from_delayed([*blocks, *empty])
         return list(bag.groupby(_first, shuffle="tasks").to_delayed()[:groups])
 
@@ -112,6 +112,10 @@ class Run:
         """How many starts of parts were not the first."""
         starts = [tuple(told) for _, told in self.client.get_events(self.topic)]
         return len(starts) - len(set(starts))
+
+
+def _nothing() -> list[Any]:
+    return []
 
 
 def _first(pair: Sequence[Any]) -> Any:

@@ -31,7 +31,7 @@ from .tables import Table
 
 # So many blocks make a part, about.
 FINE = 16
-MOST_HASHES = 2**28
+LEAST_HASHES, MOST_HASHES = 64, 2**28
 # So many rows of each part tell where the ranges of an order end.
 SAMPLES = 500
 
@@ -166,23 +166,24 @@ class Distribution:
 
     def _room(self, cut: Cut) -> int:
         """The bytes that a job has for what isn't in each part; Refused where there are none."""
-        whole = cut.of("whole")
-        room = self.run.limits.job - len(self.form.text([])) - sum(whole.values())
+        whole, limit = cut.of("whole"), self.run.limits.job
+        alone = len(self.form.text([]))
+        room = limit - alone - sum(whole.values())
         if room > 0 or (room == 0 and not cut.movable()):
             return max(room, 1)
-        why = ""
-        if not self.told.said["parts"]:
-            refused = self.told.said["refused"]
+        why, refused = "", self.told.said["refused"]
+        if refused:
             why = f" (the plan can't be cut: node {refused['node']}, {refused['why']})"
         names = {it.number: self.told.tables[it.frame].name for it in self.scans}
-        sizes = ", ".join(f"{names[it[1]]} {size:,} bytes" for it, size in whole.items())
-        raise Refused(f"each part needs all of {sizes}{why}, and a job has at most {self.run.limits.job:,}")
+        sizes = [f"all of {names[it[1]]}, {size:,} bytes" for it, size in whole.items()]
+        needs = ", and ".join([f"a plan of {alone:,} bytes", *sizes])
+        raise Refused(f"each part needs {needs}{why}; a job has at most {limit:,} bytes")
 
     def cut(self) -> tuple[Cut, int]:
         """All pieces cut as finely as it takes, and the room for what isn't in each part."""
         limits, pieces = self.run.limits, sum(map(len, self.pieces))
-        least = max(self.run.threads, limits.parts, pieces)
-        fineness = Fineness(64 << (FINE * least // 64).bit_length(), max(limits.aim // FINE, 1))
+        hashes = FINE * max(self.run.threads, limits.parts, pieces) if LEAST_HASHES > 1 else 1
+        fineness = Fineness(max(hashes, LEAST_HASHES), max(limits.aim // FINE, 1))
         while True:
             cut = self._cut(fineness)
             room = self._room(cut)

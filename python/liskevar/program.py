@@ -44,9 +44,8 @@ def find_program() -> str:
 
 
 @functools.lru_cache(maxsize=8)
-def digest() -> str:
-    """The SHA-256 of the program that is found; of the repository's script that of what it has built."""
-    found, above = find_program(), os.path.dirname(os.path.dirname(PACKAGE))
+def _digest(found: str) -> str:
+    above = os.path.dirname(os.path.dirname(PACKAGE))
     if os.path.dirname(os.path.abspath(found)) == above:
         found = os.path.join(above, "crates", "liskevar", "out", "liskevar")
     try:
@@ -54,6 +53,11 @@ def digest() -> str:
             return hashlib.file_digest(file, "sha256").hexdigest()
     except OSError as error:
         raise NotOffered(f"{found}: {error.strerror}") from error
+
+
+def digest() -> str:
+    """The SHA-256 of the program that is found; of the repository's script that of what it has built."""
+    return _digest(find_program())
 
 
 def _called(words: Sequence[str], text: bytes = b"") -> subprocess.CompletedProcess[bytes]:

@@ -1,0 +1,323 @@
+"""Plans in parts: pieces of files, blocks, places and jobs of parts; then whole runs on Dask's workers.
+
+The program is a stand-in that evaluates jobs by plain loops (tools/plain_jobs.py), since none may be built.
+"""
+
+import collections
+import io
+import json
+import os
+import random
+import signal
+import stat
+import subprocess
+import sys
+
+import liskevar as lk
+import pytest
+from conftest import TOP
+from liskevar import cli, cutting, pieces
+from liskevar.csv_files import Source, blocks, read_csv
+from liskevar.dtypes import DType
+from liskevar.job import Settings, plan_of
+from test_random_plans import Plans
+
+sys.path.append(os.path.join(TOP, "tools"))
+import plain_jobs  # noqa: E402
+
+distributed = pytest.importorskip("distributed", reason="Dask isn't there (Debian: python3-dask, python3-distributed)")
+from liskevar import distribute  # noqa: E402
+from liskevar.cluster import Limits, Run  # noqa: E402
+
+STAND_IN = os.path.join(TOP, "tools", "plain_jobs.py")
+INT = DType("Int64")
+SMALL = Limits(piece=40, aim=60)
+
+
+def called(words, text=b""):
+    """What the plain program does, in this process."""
+    if words[0] == "--help":
+        return subprocess.CompletedProcess(words, 0, b"liskevar run\nliskevar parts\n", b"")
+    job = json.loads(text)
+    try:
+        if words[0] == "run":
+            lines = plain_jobs.lines_of(job)
+        else:
+            lines = [json.dumps(plain_jobs.parts_of(job, list(map(int, words[2].split(",")))))]
+    except plain_jobs.Fault as fault:
+        return subprocess.CompletedProcess(words, fault.status, b"", f"{fault}\n".encode())
+    return subprocess.CompletedProcess(words, 0, "".join(f"{it}\n" for it in lines).encode(), b"")
+
+
+@pytest.fixture(scope="module")
+def client():
+    """Two workers on threads of this process, which ask the plain program in the place of the proved one."""
+    patch = pytest.MonkeyPatch()
+    patch.setenv("LISKEVAR_PROGRAM", STAND_IN)
+    patch.setattr("liskevar.program._called", called)
+    told = {"processes": False, "n_workers": 2, "threads_per_worker": 1, "dashboard_address": None}
+    with distributed.Client(**told) as made:
+        yield made
+    patch.undo()
+
+
+# ---- pieces
+
+
+def records(source):
+    return [row for it in list(blocks(source))[1:] for row in it]
+
+
+@pytest.mark.parametrize("end", ["\n", "\r\n"])
+def test_pieces_hold_the_records_of_the_file(write, end):
+    chance = random.Random(end)
+    texts = ["", "a", 'x"y', '"q"', '""', '"two\nlines"', '"a,b"', '"said ""no"""', "é", '"\r\n"', "\u2028"]
+    for number in range(60):
+        rows = [",".join(chance.choice(texts) for _ in range(2)) for _ in range(chance.randint(0, 12))]
+        head = chance.choice(["a,b", '"a\n1",b', "\ufeffa,b"])
+        path = write(f"{number}.csv", end.join([head, *rows]) + chance.choice(["", end] if rows else [end]))
+        whole = list(blocks(Source(path, ",")))
+        parts = pieces.sources_of(path, ",", chance.choice([1, 7, 30]))
+        assert all(next(blocks(it)) == whole[0] for it in parts)
+        assert [row for it in parts for row in records(it)] == records(Source(path, ","))
+
+
+def test_what_pieces_tell_of_types_is_what_the_file_tells(write):
+    chance = random.Random(5)
+    kinds = [["1", "-2", ""], ["1.5", "2", ""], ["1.5", "-0", ".5"], ["true", "false", ""], ["ff00", "00"], ["", ""], ["x", '""'],
+             ["18446744073709551615", "1"], ["18446744073709551616", "-1"], ["9" * 50, "1"]]  # fmt: skip
+    wanted = [DType(base, scale) for base in ("Int32", "Int64", "UInt64", "Int128") for scale in (0, 1, 2, 18)]
+    for number in range(80):
+        kind = chance.choice(kinds)
+        path = write(f"{number}.csv", "a,b\n" + "".join(f"{chance.choice(kind)},1\n" for _ in range(6)))
+        (fields,) = (it for it in pieces.fields_of(Source(path, ","), None, None, False, 1)[0] if it.name == "a")
+        parts = pieces.csv_pieces(path, {}, 4)
+        looks = {"a": [it.looks(["a"])[0][0] for it in parts]}
+        (made,) = pieces.csv_columns(path, None, ["a"], looks)
+        for dtype in [*wanted, DType("Boolean"), DType("Binary"), DType("String")]:
+            assert made.type.fits(dtype) == fields.fits(dtype), (path, dtype)
+        assert made.type.is_empty == fields.is_empty
+
+
+def test_a_mistake_in_a_piece_is_told_at_its_line_of_the_file(write):
+    path = write("a.csv", 'k,a\n1,"x\ny"\n2,3\n4,5\n6\n')
+    parts = pieces.sources_of(path, ",", 8)
+    with pytest.raises(lk.Refused, match="a.csv, line 6: 1 fields, where the header has 2"):
+        [records(it) for it in parts]
+    *_, last = pieces.csv_pieces(write("b.csv", "k\n1\n2\nx\n"), {}, 2)
+    with pytest.raises(lk.Refused, match=r"b.csv, line 4, column 1 \(k\): 'x' is no Int64"):
+        last.cells({"k": INT})
+
+
+# ---- blocks, places, orders
+
+
+def scan_of(number, cut, key=-1, columns=(), types=None):
+    return cutting.Scan(number, number, 0, cut, key, tuple(columns), types or {"k": INT, "a": INT})
+
+
+def test_blocks_hold_each_row_as_it_is_told():
+    held = pieces.HeldPiece({"k": [1, None, 1, 2, None, 3], "a": [1, 2, 3, 4, 5, 6]})
+    scans = [scan_of(0, "split"), scan_of(1, "key", 7, ["k"]), scan_of(2, "whole")]
+    found = cutting.cut_piece(held, 3, scans, cutting.Fineness(1 << 20, 6))
+    rows = collections.defaultdict(list)
+    for it in found:
+        cells = list(zip(*(json.loads(f"[{text}]") for text in it.texts)))
+        assert len(cells) == it.rows and it.size == sum(len(text.encode()) + 1 for text in it.texts)
+        rows[it.scan].append(cells)
+    every = sorted(zip(*held.columns.values()), key=str)
+    assert all(sorted((row for part in it for row in part), key=str) == every for it in rows.values())
+    assert len(rows[0]) > 2 and len(rows[2]) == 1
+    assert sorted([row[0] for row in part] for part in rows[1] if part[0][0] is not None) == [[1, 1], [2], [3]]
+    assert [(None, 2), (None, 5)] in rows[1], "null keys lie together"
+
+
+def test_keys_of_two_columns_lie_together():
+    types = {"k": INT, "d": DType("String")}
+    held = pieces.HeldPiece({"k": [1, 1, 12, 1], "d": ["2", None, "", "2"]})
+    scan = scan_of(0, "key", 7, ["d", "k"], types)
+    texts = cutting.key_texts(scan, held.cells(types))
+    assert texts[0] == texts[3] and len(set(texts)) == 3
+
+
+def test_no_part_has_more_than_there_is_room_for():
+    chance = random.Random(3)
+    for _ in range(200):
+        room = chance.randint(1, 50)
+        sizes = {("rows", it): chance.randint(0, room) for it in range(chance.randint(0, 30))}
+        places, parts = cutting.placed(sizes, room, chance.randint(1, 5))
+        held = collections.Counter()
+        for it, part in places.items():
+            held[part] += sizes[it]
+        assert set(places) == set(sizes) and all(0 <= it < parts for it in places.values())
+        assert max(held.values(), default=0) <= room
+
+
+def test_rows_compare_as_the_plain_program_sorts_them():
+    chance = random.Random(4)
+    types = {"n": INT, "w": DType("Int128"), "t": DType("String"), "b": DType("Boolean"), "x": DType("Binary")}
+    cells = {"n": [-1, 2, 10, None], "w": ["-1", "2", "10", None], "t": ["", "é", "a", "\U0001f600", "\uffff", None],
+             "b": [True, False, None], "x": ["", "00", "0a", "ff", None]}  # fmt: skip
+    for _ in range(100):
+        by = chance.sample(list(types), chance.randint(1, 2))
+        flags = [chance.random() < 0.5 for _ in range(4)]
+        sort = {"node": "Sort", "input": 0, "by": by, "descending": flags[: len(by)], "nulls_last": flags[2 : 2 + len(by)], "slice": None}
+        rows = [[chance.choice(it) for it in cells.values()] for _ in range(12)]
+        frame = [{"name": name, "type": it.base, "values": list(column)} for (name, it), column in zip(types.items(), zip(*rows))]
+        scan = {"node": "DataFrameScan", "frame": 0, "columns": None}
+        lines = plain_jobs.lines_of({"frames": [{"columns": frame}], "plan": [scan, sort], "root": 1, "row_limit": 99})
+        order = cutting.order_of(sort, types)
+        assert sorted(rows, key=order.key) == [json.loads(it) for it in lines[1:]]
+
+
+# ---- whole runs
+
+
+def in_parts(client, frame, limits=SMALL, **numbers):
+    run = Run(client, limits)
+    return distribute.collect(run, plan_of(frame._ended()), Settings(**numbers), frame.types)
+
+
+def test_random_plans_in_parts(client):
+    tried = 0
+    for seed in range(400, 440):
+        made = Plans(seed)
+        frame, model, *_ = made.plan(3)
+        if frame._node.kind == "DataFrameScan" or len(model.rows) > 60:
+            continue
+        tried += 1
+        rows, done = in_parts(client, frame)
+        assert collections.Counter(rows) == collections.Counter(model.rows), seed
+        assert done.rows == len(rows) and done.retried == 0
+        if tried == 8:
+            break
+
+
+def write_star(write, height=40):
+    chance = random.Random(1)
+    key = lambda: chance.choice(["", *map(str, range(12))])
+    sales = write("sales.csv", "k,p,n\n" + "".join(f"{key()},{chance.randrange(4)},{it}\n" for it in range(height)))
+    stock = write("stock.csv", "k,s\n" + "".join(f'{key()},"{it}\nx"\n' for it in range(height // 2)))
+    names = write("names.csv", 'p,name\n0,\n1,""\n2,"a,b"\n')
+    return sales, stock, names
+
+
+QUERY = "select sales.k, n, s, name from sales full join stock on sales.k = stock.k left join names on sales.p = names.p"
+
+
+def outputs(capsys, words):
+    assert cli.main(words) == 0
+    return capsys.readouterr()
+
+
+def test_csv_files_in_parts_by_the_command_line(client, write, capsys, tmp_path, monkeypatch):
+    monkeypatch.setattr("liskevar.cluster.Limits.__new__.__defaults__", (150, 300, 33_554_432, 0))
+    files = [f"{name}={path}" for name, path in zip(("sales", "stock", "names"), write_star(write))]
+    wanted = outputs(capsys, ["sql", QUERY, *files, "--csv", "--types", "name:String"]).out
+    words = ["distribute", "--sql", QUERY, *files, "--types", "name:String", "--scheduler", client.scheduler.address]
+    out, told = outputs(capsys, [*words, "--parts", "5"])
+    assert out.splitlines()[0] == wanted.splitlines()[0]
+    same = lambda text: collections.Counter(map(tuple, records_of(text)))
+    assert same(out) == same(wanted)
+    assert told.splitlines()[-1].startswith("parts ") and f"rows {len(records_of(out))}," in told and "retried 0" in told
+    assert "running" in told and "[####" in told
+    path = tmp_path / "out.csv"
+    quiet = outputs(capsys, [*words, "--quiet", "--output", str(path)])
+    assert same(path.read_text()) == same(wanted) and quiet.out == "" and quiet.err.count("\n") == 1
+
+
+def records_of(text):
+    import csv
+
+    return list(csv.reader(io.StringIO(text, newline="")))[1:]
+
+
+@pytest.mark.parametrize("end", ["order by n desc", "order by k, n limit 7 offset 3", "order by name desc, n"])
+def test_a_sort_of_more_rows_than_a_job_holds(client, write, end):
+    paths = write_star(write, 60)
+    run = Run(client, Limits(piece=200, aim=200, job=2600))
+    names = ("sales", "stock", "names")
+    frames = {name: lk.frame.frame_of(distribute.read_table(run, path)) for name, path in zip(names, paths)}
+    whole = {name: lk.scan_csv(path) for name, path in zip(names, paths)}
+    query = f"select sales.k, n, name from sales left join names on sales.p = names.p {end}"
+    made = lk.sql(query, frames)
+    rows, _ = distribute.collect(run, plan_of(made._ended()), Settings(), made.types)
+    assert rows == lk.sql(query, whole).collect()
+
+
+def test_a_plan_that_cannot_be_cut_is_run_in_one_part(client):
+    rows = lk.from_rows([(it % 5, it) for it in range(20)], ["k", "a"])
+    frame = rows.sort("a").slice(2, 9).filter(lk.col("k") > 0)
+    found, done = in_parts(client, frame)
+    assert found == frame.collect() and done.parts == 1
+    with pytest.raises(lk.Refused, match=r"all of rows, .* bytes \(the plan can't be cut: node \d, .*\); a job has"):
+        in_parts(client, frame, Limits(job=600))
+
+
+def test_what_is_too_large_is_refused_with_what_it_is(client):
+    many = lk.from_rows([("é" if it % 3 else "x", it) for it in range(600)], ["k", "a"], name="many")
+    few = lk.from_rows([("x", 1), (None, 2)], ["k", "b"], name="few")
+    full = many.join(few, on="k", how="full")
+    with pytest.raises(lk.Refused, match=r'the key k "é" is too frequent: its 400 rows have [0-9,]+ bytes, go into one part'):
+        in_parts(client, full, Limits(job=3000))
+    with pytest.raises(lk.Refused, match="each part needs a plan of .* bytes, and all of many, .* bytes; a job has at most 3,000"):
+        in_parts(client, many.join(many, how="cross"), Limits(job=3000))
+    with pytest.raises(lk.Refused, match="a row has more than"):
+        in_parts(client, lk.from_rows([("x" * 900,), ("y",)], ["k"]).filter(lk.col("k") != "y"), Limits(job=700))
+    with pytest.raises(lk.TooMany, match="a part: error 7: TooMany at node 2") as told:
+        three = lk.from_rows([(1,), (2,), (3,)], ["k"])
+        in_parts(client, three.join(three, how="cross").filter(lk.col("k") == 1), row_limit=3)
+    assert told.value.place is not None
+
+
+def test_keys_that_share_a_hash_are_cut_finer(client, monkeypatch):
+    monkeypatch.setattr("liskevar.distribute.LEAST_HASHES", 1)
+    sides = [lk.from_rows([(it, it) for it in range(200)], ["k", name]) for name in "ab"]
+    frame = sides[0].join(sides[1], on="k", how="full", coalesce=True)
+    rows, done = in_parts(client, frame, Limits(job=1000, aim=10_000))
+    assert sorted(rows) == [(it, it, it) for it in range(200)] and 5 < done.parts < 30
+
+
+def test_a_frame_says_it_itself(client):
+    left = lk.from_rows([(1, "a"), (2, "b"), (None, "c")], ["k", "a"])
+    rows = left.join(left, on="k", how="left").distribute(scheduler=client.scheduler.address)
+    assert sorted(rows, key=str) == [(1, "a", "a"), (2, "b", "b"), (None, "c", None)]
+    assert rows.types == left.join(left, on="k", how="left").types
+
+
+def test_a_worker_that_is_killed_in_the_middle(write, tmp_path, monkeypatch):
+    """Two worker processes; the first job that a program runs kills the worker above it."""
+    done = tmp_path / "killed"
+    text = f"""#!{sys.executable}
+import os, signal, subprocess, sys
+if sys.argv[1:] == ["run"]:
+    try:
+        os.close(os.open({str(done)!r}, os.O_CREAT | os.O_EXCL))
+        os.kill(os.getppid(), {int(signal.SIGKILL)})
+    except FileExistsError:
+        pass
+sys.exit(subprocess.run([sys.executable, {STAND_IN!r}, *sys.argv[1:]]).returncode)
+"""
+    path = tmp_path / "program"
+    path.write_text(text)
+    path.chmod(path.stat().st_mode | stat.S_IXUSR)
+    monkeypatch.setenv("LISKEVAR_PROGRAM", str(path))
+    monkeypatch.setenv("PYTHONDONTWRITEBYTECODE", "1")
+    paths = write_star(write)
+    with distribute.cluster(local=2) as made:
+        run = Run(made, Limits(piece=150, aim=300))
+        frames = {it: lk.frame.frame_of(distribute.read_table(run, file)) for it, file in zip(("sales", "stock", "names"), paths)}
+        frame = lk.sql(QUERY, frames)
+        rows, told = distribute.collect(run, plan_of(frame._ended()), Settings(), frame.types)
+    assert done.exists() and told.retried >= 1 and told.parts >= 2
+    whole = lk.sql(QUERY, {it: lk.frame.frame_of(read_csv(file)) for it, file in zip(("sales", "stock", "names"), paths)})
+    assert collections.Counter(rows) == collections.Counter(whole.collect())
+
+
+def test_what_is_missing_is_told(client, monkeypatch, write, capsys):
+    monkeypatch.setattr("liskevar.cluster.distributed", None)
+    assert cli.main(["distribute", "--sql", "select k from a", write("a.csv", "k\n1\n")]) == 1
+    assert "Dask, which isn't there" in capsys.readouterr().err
+    monkeypatch.undo()
+    with pytest.raises(lk.Refused, match="want pyarrow, which isn't there|No such file"):
+        distribute.read_table(Run(client), "a.parquet")
