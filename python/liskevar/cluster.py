@@ -50,7 +50,7 @@ def cluster(scheduler: str | None = None, local: int | None = None) -> Iterator[
         with client:
             yield client
         return
-    told = {"threads_per_worker": 1, "dashboard_address": None, "silence_logs": logging.CRITICAL}
+    told = {"threads_per_worker": 1, "dashboard_address": "127.0.0.1:0", "silence_logs": logging.CRITICAL}
     count = local or os.cpu_count() or 1
     with distributed.LocalCluster(n_workers=count, **told) as made, distributed.Client(made) as client:
         yield client

@@ -5,12 +5,13 @@ empty field is null, and `""` is the empty text.
 """
 
 import csv
+import functools
 import io
 import itertools
 import os
 import re
 import warnings
-from collections.abc import Iterable, Iterator, Sequence
+from collections.abc import Callable, Iterable, Iterator, Sequence
 from datetime import datetime
 from decimal import Decimal
 from typing import Any, NamedTuple, TextIO
@@ -73,7 +74,14 @@ def _lines(source: Source) -> Iterator[str]:
     fields, inside = fields_pattern(source.delimiter), False
     try:
         with source.open() as file:
-            for line in file:
+            lines: Iterable[str] = file
+            if source.end is not None:
+                text = file.read()
+                lines = io.StringIO(text, newline="")
+                if '"' not in text:
+                    yield from lines
+                    return
+            for line in lines:
                 if inside or '"' in line:
                     line, inside = marked(fields.findall('"' + line if inside else line), inside)
                 yield line
@@ -158,21 +166,38 @@ class Fields:
     def __init__(self, source: Source, name: str, place: int, values: list[str], empty_is_text: bool) -> None:
         self.source, self.name, self.place, self.values = source, name, place, values
         self.empty = "" if empty_is_text else None
-        self.distinct = set(values) - {"", EMPTY}
-        self.looks = next((it for it in LOOKS if self.distinct and self.spell(LOOKS[it])), "")
-        self._ends: dict[int, tuple[int, int] | None] = {}
+        self.distinct = set(values)
+        self.has_blanks = not self.distinct.isdisjoint({"", EMPTY})
+        self.distinct -= {"", EMPTY}
+        self._numbers: dict[int, dict[str, int] | None] = {}
+
+    @functools.cached_property
+    def looks(self) -> str:
+        """What all fields look like, or nothing."""
+        return next((it for it in LOOKS if self.distinct and self.look_like(it)), "")
+
+    def look_like(self, what: str) -> bool:
+        """Whether all fields look like numbers, decimals or dates."""
+        return self.numbers(0) is not None if what == "numbers" else self.spell(LOOKS[what])
 
     def spell(self, pattern: str) -> bool:
+        """Whether all fields are of a pattern."""
         return all(map(re.compile(pattern).fullmatch, self.distinct))
 
-    def number_ends(self, scale: int) -> tuple[int, int] | None:
-        """The least and the greatest number, where all fields spell numbers of so many digits, in their one way."""
-        if scale not in self._ends:
+    def numbers(self, scale: int) -> dict[str, int] | None:
+        """The number of each field, where all fields spell numbers of so many digits, in their one way."""
+        if scale not in self._numbers:
             decimals = rf"-?(?:0|[1-9][0-9]{{0,39}})(?:\.[0-9]{{1,{scale}}}0*)?"
-            are_numbers = self.spell(decimals if scale else WHOLE)
-            numbers = [_number(it, scale) for it in self.distinct] if are_numbers else []
-            self._ends[scale] = (min(numbers, default=0), max(numbers, default=0)) if are_numbers else None
-        return self._ends[scale]
+            if scale == 0:
+                self._numbers[0] = _whole_numbers(list(self.distinct))
+            else:
+                self._numbers[scale] = {it: _number(it, scale) for it in self.distinct} if self.spell(decimals) else None
+        return self._numbers[scale]
+
+    def number_ends(self, scale: int) -> tuple[int, int] | None:
+        """The least and the greatest number, where all fields spell numbers of so many digits."""
+        numbers = self.numbers(scale)
+        return None if numbers is None else (min(numbers.values(), default=0), max(numbers.values(), default=0))
 
     def fits(self, dtype: DType) -> bool:
         """Whether all fields spell values of the type."""
@@ -196,15 +221,7 @@ class Fields:
         if told:
             self._check(told)
             return Column(self.name, told, self.cells)
-        path, name, looks = self.source.path, self.name, self.looks
-        hint = f"; --types {name}:String (types=) reads {name!r} of {path} as texts" if looks else ""
-        if looks in WAYS:
-            form, what = WAYS[looks]
-            hint = f"; {path} gives texts that look like {looks}: tell {form} by types= or --types"
-            how = f"types={{{name!r}: {form!r}}} (--types {name}:{form}) reads them {what}"
-            words = f"{path}: {name!r} looks like {looks}, and is read as texts, which sort and join as texts"
-            warnings.warn(f"{words}; {how}", TypeWarning, stacklevel=2)
-        return Column(name, Guess(self.fits, is_empty=self.is_empty, hint=hint), self.cells)
+        return Column(self.name, guess_of(self.source.path, self.name, self.looks, self.fits, self.is_empty), self.cells)
 
     @property
     def is_empty(self) -> bool:
@@ -234,18 +251,41 @@ class Fields:
         self._check(dtype)
         cells: dict[str, Cell] = {"": None, EMPTY: None}
         if dtype.kind in ("text", "bytes"):
+            if not self.has_blanks:
+                return list(self.values)
             cells = {**dict(zip(self.distinct, self.distinct)), "": self.empty, EMPTY: ""}
         elif dtype.kind == "truth":
             cells |= {"true": True, "false": False}
         else:
-            numbers = ((it, _number(it, dtype.scale)) for it in self.distinct)
-            cells.update((it, str(number) if dtype.base == "Int128" else number) for it, number in numbers)
+            numbers, is_wide = self.numbers(dtype.scale) or {}, dtype.base == "Int128"
+            cells.update((it, str(number) if is_wide else number) for it, number in numbers.items())
         return list(map(cells.__getitem__, self.values))
 
 
+def guess_of(path: str, name: str, looks: str, fits: Callable[[DType], bool], is_empty: bool) -> Guess:
+    """The guess of a column's type; a warning says where texts look like something else."""
+    hint = f"; --types {name}:String (types=) reads {name!r} of {path} as texts" if looks else ""
+    if looks in WAYS:
+        form, what = WAYS[looks]
+        hint = f"; {path} gives texts that look like {looks}: tell {form} by types= or --types"
+        how = f"types={{{name!r}: {form!r}}} (--types {name}:{form}) reads them {what}"
+        words = f"{path}: {name!r} looks like {looks}, and is read as texts, which sort and join as texts"
+        warnings.warn(f"{words}; {how}", TypeWarning, stacklevel=3)
+    return Guess(fits, is_empty=is_empty, hint=hint)
+
+
+def _whole_numbers(texts: list[str]) -> dict[str, int] | None:
+    """The number of each text, where all are whole numbers of 40 digits at most in their one way."""
+    try:
+        numbers = list(map(int, texts))
+    except ValueError:
+        return None
+    are_short = -(10**40) < min(numbers, default=0) and max(numbers, default=0) < 10**40
+    are_plain = are_short and list(map(str, numbers)) == texts
+    return dict(zip(texts, numbers)) if are_plain else None
+
+
 def _number(field: str, scale: int) -> int:
-    if scale == 0:
-        return int(field)
     whole, _, digits = field.partition(".")
     return int(whole + digits[:scale].ljust(scale, "0"))
 

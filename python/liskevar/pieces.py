@@ -11,7 +11,8 @@ from collections.abc import Iterable, Mapping, Sequence
 from dataclasses import dataclass
 from typing import Any, NamedTuple, Protocol
 
-from .csv_files import Fields, Source, blocks, delimiter_of, fields_of, fields_pattern, header_of, marked, told_forms
+from .csv_files import LOOKS, Fields, Source, blocks, delimiter_of, fields_of, fields_pattern, guess_of, header_of, marked
+from .csv_files import told_forms
 from .dtypes import BINARY, BOOLEAN, RANGES, STRING, Cell, DType, Guess, Type, dtype_of
 from .errors import Refused
 from .tables import Column, Table, Types, told_types
@@ -39,10 +40,12 @@ class Piece(Protocol):
 class Look(NamedTuple):
     """What the fields of a column spell in one piece.
 
-    `number` has the digits after the point, the least and the greatest value, as whole numbers of so many digits.
+    `number` has the digits after the point, the least and the greatest value, as whole numbers of so many digits; `looks`
+    has what all of them look like, or is None where all are blank.
     """
 
     is_empty: bool
+    looks: frozenset[str] | None
     number: tuple[int, int, int] | None
     is_truth: bool
     is_bytes: bool
@@ -68,7 +71,8 @@ def look_at(fields: Fields) -> Look:
         digits = max([1, *(len((it[1] or "").rstrip("0")) for it in found if it)]) if all(found) else 99
         ends = fields.number_ends(digits) if digits <= 18 else None
         number = None if ends is None else (digits, *ends)
-    return Look(fields.is_empty, number, fields.fits(BOOLEAN), fields.fits(BINARY))
+    looks = frozenset(filter(fields.look_like, LOOKS)) if fields.distinct else None
+    return Look(fields.is_empty, looks, number, fields.fits(BOOLEAN), fields.fits(BINARY))
 
 
 @dataclass(frozen=True)
@@ -191,13 +195,18 @@ def csv_columns(path: str, types: Types | None, names: Sequence[str], looks: Map
         if name in forms or name in told:
             dtype = STRING if name in forms else told[name]
         else:
-            dtype = _guess(looks.get(name, ()))
+            dtype = _guess(path, name, looks.get(name, ()))
         columns.append(Column(name, dtype, _nothing))
     return columns
 
 
-def _guess(looks: Sequence[Look]) -> Guess:
-    return Guess(lambda dtype: all(it.fits(dtype) for it in looks), is_empty=all(it.is_empty for it in looks))
+def _guess(path: str, name: str, looks: Sequence[Look]) -> Guess:
+    """The guess of a column's type, from all pieces."""
+    filled = [it.looks for it in looks if it.looks is not None]
+    common = frozenset(LOOKS).intersection(*filled) if filled else frozenset()
+    what = next((it for it in LOOKS if it in common), "")
+    fits = lambda dtype: all(it.fits(dtype) for it in looks)
+    return guess_of(path, name, what, fits, all(it.is_empty for it in looks))
 
 
 def _parquet_file(path: str) -> Any:

@@ -12,6 +12,7 @@ import signal
 import stat
 import subprocess
 import sys
+import warnings
 
 import liskevar as lk
 import pytest
@@ -55,7 +56,7 @@ def client():
     patch = pytest.MonkeyPatch()
     patch.setenv("LISKEVAR_PROGRAM", STAND_IN)
     patch.setattr("liskevar.program._called", called)
-    told = {"processes": False, "n_workers": 2, "threads_per_worker": 1, "dashboard_address": None}
+    told = {"processes": False, "n_workers": 2, "threads_per_worker": 1, "dashboard_address": "127.0.0.1:0"}
     with distributed.Client(**told) as made:
         yield made
     patch.undo()
@@ -84,7 +85,7 @@ def test_pieces_hold_the_records_of_the_file(write, end):
 
 def test_what_pieces_tell_of_types_is_what_the_file_tells(write):
     chance = random.Random(5)
-    kinds = [["1", "-2", ""], ["1.5", "2", ""], ["1.5", "-0", ".5"], ["true", "false", ""], ["ff00", "00"], ["", ""], ["x", '""'],
+    kinds = [["1", "-2", ""], ["1.5", "2", ""], ["1.5", "-0", ".5"], ["true", "false", ""], ["ff00", "00"], ["", ""], ["x", '""'], ["1.2.2026", ""], ["1.5", "x"],
              ["18446744073709551615", "1"], ["18446744073709551616", "-1"], ["9" * 50, "1"]]  # fmt: skip
     wanted = [DType(base, scale) for base in ("Int32", "Int64", "UInt64", "Int128") for scale in (0, 1, 2, 18)]
     for number in range(80):
@@ -93,7 +94,11 @@ def test_what_pieces_tell_of_types_is_what_the_file_tells(write):
         (fields,) = (it for it in pieces.fields_of(Source(path, ","), None, None, False, 1)[0] if it.name == "a")
         parts = pieces.csv_pieces(path, {}, 4)
         looks = {"a": [it.looks(["a"])[0][0] for it in parts]}
-        (made,) = pieces.csv_columns(path, None, ["a"], looks)
+        with warnings.catch_warnings(record=True) as told:
+            warnings.simplefilter("always")
+            (made,) = pieces.csv_columns(path, None, ["a"], looks)
+            assert len(told) == (fields.looks in ("decimals", "dates"))
+            assert fields.column(None).type.hint == made.type.hint
         for dtype in [*wanted, DType("Boolean"), DType("Binary"), DType("String")]:
             assert made.type.fits(dtype) == fields.fits(dtype), (path, dtype)
         assert made.type.is_empty == fields.is_empty
