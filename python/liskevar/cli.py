@@ -146,7 +146,8 @@ def do_join(given: Any) -> None:
 def _plan_of_json(given: Any, reader: Callable[..., Table] = read_csv) -> tuple[Plan, list[str]]:
     """A plan that is written as JSON, and the columns that it gives."""
     values = read_json(given.plan, _text(given.plan))
-    plan = plan_under(values, len(values) - 1 if isinstance(values, list) else 0, _tables(given, given.files, None, reader))
+    root = len(values) - 1 if isinstance(values, list) else 0
+    plan = plan_under(values, root, _tables(given, given.files, None, reader))
     return plan, list(plan.nodes[-1].schema)
 
 
@@ -189,7 +190,7 @@ def do_sql(given: Any) -> None:
 def do_distribute(given: Any) -> None:
     """Runs a plan over files larger than memory, in parts on the workers of Dask, and writes CSV."""
     from .cluster import Limits, Run, cluster
-    from .distribute import read_table, write_csv
+    from .distribute import Distribution, read_table, write_csv
 
     want("parts")
     settings = _settings(given)
@@ -201,6 +202,9 @@ def do_distribute(given: Any) -> None:
             return read_table(run, path, told.pop("read", None), **told)
 
         plan, names = _plan_of_query(given, given.plan, read) if given.sql else _plan_of_json(given, read)
+        if given.svg:
+            _put(Distribution(run, plan, settings).picture())
+            return
         types = plan.nodes[-1].types()
         told = {"types": {it: types[it] for it in names}, "null": given.null}
         try:
@@ -277,10 +281,11 @@ def _distribute_flags(parser: argparse.ArgumentParser) -> None:
     add("files", nargs="+", metavar="FILE", help="the files that are frame 0, 1, ..; with --sql NAME=FILE")
     add("--sql", action="store_true", help="PLAN is a query")
     add("--scheduler", metavar="ADDRESS", help="the address of Dask's scheduler, as tcp://host:8786")
-    add("--local", type=int, metavar="N", help="worker processes here, where no scheduler is told; as many as processors")
-    add("--parts", type=int, default=0, metavar="N", help="the least number of parts; as many as workers if not told")
+    add("--local", type=int, metavar="N", help="worker processes here, where no scheduler is told")
+    add("--parts", type=int, default=0, metavar="N", help="the least number of parts; the workers' if not told")
     add("--output", metavar="FILE", help="the CSV file that is written; standard output if not told")
     add("--null", **NULL)
+    add("--svg", action="store_true", help="print a picture of how the plan is cut, and run no part")
     add("--quiet", action="store_true", help="no bars on standard error")
 
 

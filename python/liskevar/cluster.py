@@ -80,22 +80,34 @@ class Run:
         return list(self.client.map(functools.partial(attempt, work, **told), *given, pure=False, retries=RETRIES))
 
     def share(self, value: Any) -> Any:
-        """A value on the workers."""
-        return self.client.scatter([value])[0]
+        """A value as a task, which is made again where the worker that has it dies; what is scattered would be lost."""
+        return self.client.submit(_same, value, pure=False)
 
     def finish(self, stage: str, futures: Sequence[Any]) -> list[Any]:
         """What futures give, in their order; the first that is refused or fails ends the run."""
         found: dict[str, Any] = {}
         self._show(stage, 0, len(futures))
         for future, value in distributed.as_completed(futures, with_results=True, raise_errors=False):
-            if future.status != "finished" or isinstance(value, LiskevarError):
-                # the line of the bar ends here
-                print(end="\n" if self.is_shown else "", file=sys.stderr)
-                self.client.cancel(futures)
-                raise value if isinstance(value, LiskevarError) else _refused(stage, future.exception())
-            found[future.key] = value
+            found[future.key] = self._checked(stage, future, value, futures)
             self._show(stage, len(found), len(futures))
         return [found[it.key] for it in futures]
+
+    def in_order(self, stage: str, futures: Sequence[Any]) -> Iterator[Any]:
+        """What futures give, one after the other as they come."""
+        for done, future in enumerate(futures):
+            self._show(stage, done, len(futures))
+            value = self.client.gather([future], errors="skip")
+            yield self._checked(stage, future, value[0] if value else None, futures)
+        self._show(stage, len(futures), len(futures))
+
+    def _checked(self, stage: str, future: Any, value: Any, futures: Sequence[Any]) -> Any:
+        """The value of a future; where it has none, or was refused, the others are given up."""
+        if future.status == "finished" and not isinstance(value, LiskevarError):
+            return value
+        # the line of the bar ends here
+        print(end="\n" if self.is_shown else "", file=sys.stderr)
+        self.client.cancel(futures)
+        raise value if isinstance(value, LiskevarError) else _refused(stage, future)
 
     def grouped(self, blocks: Sequence[Any], groups: int) -> list[Any]:
         """What lists of pairs of a number and a block hold of each number below `groups`: Dask's shuffle of a bag."""
@@ -114,6 +126,10 @@ class Run:
         return len(starts) - len(set(starts))
 
 
+def _same(value: Any) -> Any:
+    return value
+
+
 def _nothing() -> list[Any]:
     return []
 
@@ -122,8 +138,9 @@ def _first(pair: Sequence[Any]) -> Any:
     return pair[0]
 
 
-def _refused(stage: str, error: BaseException | None) -> Refused:
+def _refused(stage: str, future: Any) -> Refused:
     """The error of a task that failed, as people read it."""
+    error = future.exception() if future.status == "error" else None
     if type(error).__name__ == "KilledWorker":
         return Refused(f"{stage}: each worker that tried it ended; was there too little memory? {error}")
-    return Refused(f"{stage}: {type(error).__name__}: {error}")
+    return Refused(f"{stage}: {type(error).__name__}: {error}" if error else f"{stage}: a task was {future.status}")

@@ -187,11 +187,12 @@ class Fields:
     def numbers(self, scale: int) -> dict[str, int] | None:
         """The number of each field, where all fields spell numbers of so many digits, in their one way."""
         if scale not in self._numbers:
-            decimals = rf"-?(?:0|[1-9][0-9]{{0,39}})(?:\.[0-9]{{1,{scale}}}0*)?"
+            decimals, found = rf"-?(?:0|[1-9][0-9]{{0,39}})(?:\.[0-9]{{1,{scale}}}0*)?", None
             if scale == 0:
-                self._numbers[0] = _whole_numbers(list(self.distinct))
-            else:
-                self._numbers[scale] = {it: _number(it, scale) for it in self.distinct} if self.spell(decimals) else None
+                found = _whole_numbers(list(self.distinct))
+            elif self.spell(decimals):
+                found = {it: _number(it, scale) for it in self.distinct}
+            self._numbers[scale] = found
         return self._numbers[scale]
 
     def number_ends(self, scale: int) -> tuple[int, int] | None:
@@ -221,7 +222,8 @@ class Fields:
         if told:
             self._check(told)
             return Column(self.name, told, self.cells)
-        return Column(self.name, guess_of(self.source.path, self.name, self.looks, self.fits, self.is_empty), self.cells)
+        guess = guess_of(self.source.path, self.name, self.looks, self.fits, self.is_empty)
+        return Column(self.name, guess, self.cells)
 
     @property
     def is_empty(self) -> bool:

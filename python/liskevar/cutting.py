@@ -21,7 +21,7 @@ Item = tuple[Any, ...]
 
 
 class Scan(NamedTuple):
-    """A scan as `parts` tells it to be cut: split, key or whole (first where there is one part); and what its frame has."""
+    """A scan as `parts` tells it to be cut (split, key, whole; first where there is one part), and its frame's columns."""
 
     number: int
     node: int
@@ -38,7 +38,7 @@ class Scan(NamedTuple):
 
 
 class Block(NamedTuple):
-    """Rows of a scan: what they go with, how many they are, how many bytes they have in a job, and each column's cells."""
+    """Rows of a scan: what they go with, how many they are, their bytes in a job, and the text of each column's cells."""
 
     scan: int
     item: Item
@@ -97,7 +97,8 @@ def _ranges(scan: Scan, number: int, columns: Sequence[list[Cell]], height: int,
     found, waiting = [], [(0, height)] if height else []
     while waiting:
         start, end = waiting.pop()
-        block = block_of(scan.number, ("rows", scan.number, number, start), [it[start:end] for it in columns], end - start)
+        item = ("rows", scan.number, number, start)
+        block = block_of(scan.number, item, [it[start:end] for it in columns], end - start)
         if block.size <= size or block.rows == 1:
             found.append(block)
         else:
@@ -115,7 +116,9 @@ def sizes_of(blocks: Sequence[Block]) -> dict[Item, int]:
     return dict(found)
 
 
-def rows_of_keys(piece: Piece, scans: Sequence[Scan], hashes: int, wanted: Iterable[Item]) -> dict[tuple[Any, ...], list[int]]:
+def rows_of_keys(
+    piece: Piece, scans: Sequence[Scan], hashes: int, wanted: Iterable[Item]
+) -> dict[tuple[Any, ...], list[int]]:
     """The bytes and the rows of each key whose hash is wanted, by the key's number and its cells."""
     items, columns = set(wanted), piece.cells(scans[0].types)
     found: dict[tuple[Any, ...], list[int]] = collections.defaultdict(lambda: [0, 0])
@@ -154,6 +157,15 @@ def moved(blocks: Sequence[Block], places: Mapping[Item, int]) -> list[tuple[int
     return [(places[it.item], it) for it in blocks if it.item in places]
 
 
+def sizes_in_parts(blocks: Sequence[Block], places: Mapping[Item, int]) -> dict[tuple[int, int], int]:
+    """How many bytes of each scan lie in each part."""
+    found: dict[tuple[int, int], int] = collections.defaultdict(int)
+    for it in blocks:
+        if it.item in places:
+            found[places[it.item], it.scan] += it.size
+    return dict(found)
+
+
 class Form(NamedTuple):
     """What the jobs of all parts share: the numbers, the columns of each scan's frame, the plan and its root."""
 
@@ -178,7 +190,9 @@ class Form(NamedTuple):
         return f'{{{self.numbers},"frames":[{",".join(frames)}],"plan":{self.plan},"root":{self.root}}}\n'.encode()
 
 
-def form_of(job: Mapping[str, Any], root: int, plan: Sequence[Mapping[str, Any]], frames: Iterable[Mapping[str, str]]) -> Form:
+def form_of(
+    job: Mapping[str, Any], root: int, plan: Sequence[Mapping[str, Any]], frames: Iterable[Mapping[str, str]]
+) -> Form:  # fmt: skip
     """The form of parts of a job, with another root, another plan, and frames of these columns."""
     numbers = ",".join(f"{compact(it)}:{job[it]}" for it in ("version", "workers", "chunk_rows", "row_limit"))
     return Form(numbers, tuple(tuple(it.items()) for it in frames), compact(plan), root)

@@ -2,8 +2,8 @@
 
 The program's command `parts` tells how each scan may be cut. Tables are read in pieces on Dask's workers and cut as it
 told, a shuffle of Dask's brings what goes together to one part, the program runs each part's job, and the rows are
-written as CSV. Where the plan ends in a sort, the program sorts the parts' rows; more of them than a job holds are first
-brought into ranges of the order.
+written as CSV. Where the plan ends in a sort, the program sorts the parts' rows; more of them than a job holds are
+first brought into ranges of the order.
 """
 
 import collections
@@ -18,8 +18,9 @@ from .cluster import Limits, Run, cluster
 from .csv_files import csv_lines
 from .cutting import (
     Fineness, Form, Item, Order, Scan, cut_piece, form_of, moved, order_of, placed, plan_of_parts, rows_of_keys,
-    scans_told, sizes_of,
+    scans_told, sizes_in_parts, sizes_of,
 )  # fmt: skip
+from .drawing import picture
 from .dtypes import DType
 from .errors import LiskevarError, Refused
 from .job import Plan, Settings, compact, frames_of, job_text
@@ -34,6 +35,13 @@ FINE = 16
 LEAST_HASHES, MOST_HASHES = 64, 2**28
 # So many rows of each part tell where the ranges of an order end.
 SAMPLES = 500
+
+
+# How a scan is cut, as a picture tells it.
+CUTS = {
+    "split": "cut as rows come", "key": "cut by {}", "whole": "all of it in each part",
+    "first": "all of it in the only part",
+}  # fmt: skip
 
 
 class Done(NamedTuple):
@@ -212,14 +220,17 @@ class Distribution:
             words = f"the key {key} is too frequent: its {rows:,} rows have {size:,} bytes"
             raise Refused(f"{words}, go into one part, and a job has room for {room:,} of them")
 
+    def placed(self) -> tuple[Cut, dict[Item, int], int]:
+        """All pieces cut, the part of each item, and the number of parts."""
+        limits, (cut, room) = self.run.limits, self.cut()
+        movable = cut.movable()
+        least = limits.parts or max(self.run.threads, -(-sum(movable.values()) // limits.aim))
+        return cut, *placed(movable, room, least)
+
     def answers(self) -> Answers:
         """Runs all parts, and what gathers their rows."""
-        run, (cut, room) = self.run, self.cut()
-        movable = cut.movable()
-        least = run.limits.parts or max(run.threads, -(-sum(movable.values()) // run.limits.aim))
-        places, parts = placed(movable, room, least)
-        shared = run.share(places)
-        pairs = run.map(moved, cut.every(), [shared] * len(cut.every()))
+        run, (cut, places, parts) = self.run, self.placed()
+        pairs = run.map(moved, cut.every(), [run.share(places)] * len(cut.every()))
         whole = [it for frame, some in cut.blocks.items() if any(it.is_whole for it in self._of(frame)) for it in some]
         blocks = run.map(running.whole_blocks, whole)
         task = Task("part", self.form, digest(), run.topic)
@@ -229,6 +240,23 @@ class Distribution:
         if self.told.said["gather"] is not None:
             return self._gathered(futures, counts)._replace(parts=parts)
         return Answers(futures, [(0, rows) for rows, _ in counts], parts)
+
+    def picture(self) -> str:
+        """The plan with how each scan is cut, and the bytes of each part below it; no part is run."""
+        cut, places, parts = self.placed()
+        sizes: dict[tuple[int, int], int] = collections.Counter()
+        for found in self.run.finish("placing", self.run.map(sizes_in_parts, cut.every(), places=places)):
+            sizes.update(found)
+        whole, names = cut.of("whole"), [self.told.tables[it.frame].name for it in self.scans]
+        lines = []
+        for part in range(parts):
+            held = [(it, whole.get(("whole", it.number), sizes.get((part, it.number), 0))) for it in self.scans]
+            told = [f"{names[it.number]} {size:,}{' (all)' if it.is_whole else ''}" for it, size in held]
+            lines.append(", ".join(told))
+        notes = {it.node: CUTS[it.cut].format(", ".join(it.columns)) for it in self.scans}
+        if self.told.said["gather"] is not None:
+            notes[len(self.plan.nodes) - 1] = "over the rows of all parts"
+        return picture(self.plan, lines, notes, "bytes of part")
 
     def _finished(self, stage: str, futures: Sequence[Any]) -> list[tuple[int, int]]:
         """The rows and bytes of each answer; where a part is refused, at the user's call that made the node."""
@@ -272,8 +300,8 @@ class Distribution:
         for found in run.finish("ranging", run.map(running.sizes_of_ranges, pairs)):
             sizes.update(found)
         if max(sizes.values()) > limit:
-            words = "rows that are alike in the order don't fit one job"
-            raise Refused(f"a range of the order has {max(sizes.values()):,} bytes, and a job has at most {limit:,}: {words}")
+            words = f"a range of the order has {max(sizes.values()):,} bytes, and a job has at most {limit:,}"
+            raise Refused(f"{words}: rows that are alike in the order don't fit one job")
         return run.grouped(pairs, ranges), ranges
 
 
@@ -293,11 +321,7 @@ def _slices(rows: Sequence[int], cut: Sequence[int] | None) -> list[tuple[int, i
 def _in_order(run: Run, answers: Answers, work: Any, **told: Any) -> Iterator[Any]:
     """What the work makes of each answer, as it comes and in order."""
     skips, takes = zip(*answers.slices)
-    for it in run.map(work, answers.futures, skips, takes, **told):
-        (value,) = run.client.gather([it])
-        if isinstance(value, LiskevarError):
-            raise value
-        yield value
+    return run.in_order("writing", run.map(work, answers.futures, skips, takes, **told))
 
 
 def collect(run: Run, plan: Plan, settings: Settings, types: Mapping[str, DType]) -> tuple[Rows, Done]:
@@ -310,7 +334,8 @@ def collect(run: Run, plan: Plan, settings: Settings, types: Mapping[str, DType]
 
 
 def write_csv(
-    run: Run, plan: Plan, settings: Settings, types: Mapping[str, DType], file: Any, delimiter: str = ",", null: str = ""
+    run: Run, plan: Plan, settings: Settings, types: Mapping[str, DType], file: Any, delimiter: str = ",",
+    null: str = "",
 ) -> Done:  # fmt: skip
     """Writes the rows of a plan to a file of text."""
     made = Distribution(run, plan, settings).answers()

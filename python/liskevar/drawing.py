@@ -3,7 +3,7 @@
 import html
 import itertools
 import textwrap
-from collections.abc import Callable, Sequence
+from collections.abc import Callable, Mapping, Sequence
 from typing import Any
 
 from .expr import written
@@ -69,12 +69,12 @@ WORDS: dict[str, Callable[[dict[str, Any]], str]] = {
 }
 
 
-def _lines(n: int, node: Node) -> list[str]:
-    """The lines of a node's box; what would be the seventh of a part isn't told."""
+def _lines(n: int, node: Node, note: str) -> list[str]:
+    """The lines of a node's box, the note last; what would be the seventh of a part isn't told."""
     words = WORDS[node.kind](node.said) if node.kind in WORDS else ""
     words = f"{node.table.name}, {node.rows:,} rows" if node.table else words
     columns = ", ".join(f"{name} {dtype}" for name, dtype in node.types().items())
-    shown = ("".join(map(_printable, it)) for it in (f"{n}  {node.kind}", words, columns))
+    shown = ("".join(map(_printable, it)) for it in (f"{n}  {node.kind}", words, columns, note))
     told = {"subsequent_indent": "  ", "max_lines": 6, "placeholder": " …"}
     return [line for it in shown for line in textwrap.wrap(it, WIDEST, **told)]  # type: ignore[arg-type]
 
@@ -104,9 +104,10 @@ def _lengths(at: Sequence[int], sizes: Sequence[int], gap: int) -> tuple[list[in
     return lengths, list(itertools.accumulate(lengths, lambda start, length: start + length + gap, initial=20))
 
 
-def picture(plan: Plan, told: Sequence[str] = ()) -> str:
-    """The picture of a plan; below it the lines of the program's `explain`, where these are `told`."""
-    texts, at = [_lines(n, it) for n, it in enumerate(plan.nodes)], _places(plan)
+def picture(plan: Plan, told: Sequence[str] = (), notes: Mapping[int, str] = {}, word: str = "pipeline") -> str:
+    """The picture of a plan, with notes in the boxes of some nodes; below it the lines that are `told`, each behind the
+    word and its number: the program's `explain` tells pipelines."""
+    texts, at = [_lines(n, it, notes.get(n, "")) for n, it in enumerate(plan.nodes)], _places(plan)
     columns, rows = zip(*at)
     boxes = [14 + LINE * len(it) for it in texts]
     widths, lefts = _lengths(columns, [20 + round(GLYPH * max(map(len, it))) for it in texts], 45)
@@ -121,7 +122,7 @@ def picture(plan: Plan, told: Sequence[str] = ()) -> str:
         parts.append(f'<rect x="{x}" y="{y}" {size} rx="4" fill="{fill}" stroke="#555"/>')
         parts += [_text_at(x + 9, y + 19 + LINE * k, line) for k, line in enumerate(texts[n])]
     below = tops[-1] + 10
-    lines = ["".join(map(_printable, f"pipeline {k}: {line}")) for k, line in enumerate(told, start=1)]
+    lines = ["".join(map(_printable, f"{word} {k}: {line}")) for k, line in enumerate(told, start=1)]
     parts += [_text_at(20, below + 20 * k, line) for k, line in enumerate(lines)]
     right = max(lefts[-1] - 25, 40 + 8 * max(map(len, lines), default=0))
     size = f'width="{right}" height="{below + 20 * len(lines) - 14}"'

@@ -110,8 +110,8 @@ def frames_text(frames: Iterable[tuple[Table, Iterable[str]]], resolve: Resolve,
     texts, size = [], 0
     for table, names in frames:
         types = [(it, resolve(it.type)) for it in table.columns if it.name in names]
-        cells = [[] if is_empty else it.spell(dtype) for it, dtype in types]
-        columns = [compact({"name": it.name, "type": dtype.base, "values": these}) for (it, dtype), these in zip(types, cells)]
+        told = [(it.name, dtype.base, [] if is_empty else it.spell(dtype)) for it, dtype in types]
+        columns = [compact({"name": name, "type": base, "values": cells}) for name, base, cells in told]
         texts.append(f'{{"columns":[{",".join(columns)}]}}')
         what = f"{table.name}, columns {', '.join(it.name for it, _ in types)}"
         size += len(encoded(texts[-1], what))

@@ -11,8 +11,8 @@ from collections.abc import Iterable, Mapping, Sequence
 from dataclasses import dataclass
 from typing import Any, NamedTuple, Protocol
 
-from .csv_files import LOOKS, Fields, Source, blocks, delimiter_of, fields_of, fields_pattern, guess_of, header_of, marked
-from .csv_files import told_forms
+from .csv_files import LOOKS, Fields, Source, blocks, delimiter_of, fields_of, fields_pattern, guess_of, header_of
+from .csv_files import marked, told_forms
 from .dtypes import BINARY, BOOLEAN, RANGES, STRING, Cell, DType, Guess, Type, dtype_of
 from .errors import Refused
 from .tables import Column, Table, Types, told_types
@@ -40,8 +40,8 @@ class Piece(Protocol):
 class Look(NamedTuple):
     """What the fields of a column spell in one piece.
 
-    `number` has the digits after the point, the least and the greatest value, as whole numbers of so many digits; `looks`
-    has what all of them look like, or is None where all are blank.
+    `number` has the digits after the point, the least and the greatest value, as whole numbers of so many digits;
+    `looks` has what all of them look like, or is None where all are blank.
     """
 
     is_empty: bool
@@ -186,7 +186,9 @@ def csv_pieces(path: str, told: Mapping[str, Any], size: int = BYTES_OF_A_PIECE)
     return [CsvPiece(it, tuple(names), forms, bool(told.get("empty_is_text"))) for it in sources]
 
 
-def csv_columns(path: str, types: Types | None, names: Sequence[str], looks: Mapping[str, Sequence[Look]]) -> list[Column]:
+def csv_columns(
+    path: str, types: Types | None, names: Sequence[str], looks: Mapping[str, Sequence[Look]]
+) -> list[Column]:  # fmt: skip
     """The columns of a file in pieces: of the types that are told, or else of what all pieces spell."""
     forms, told = told_forms(path, types, names)
     columns = []

@@ -72,7 +72,7 @@ def _called(words: Sequence[str], text: bytes = b"") -> subprocess.CompletedProc
 def ask(
     command: str, text: bytes, nodes: Sequence[Node] = (), row_limit: int = 0, more: Sequence[str] = ()
 ) -> bytes:  # fmt: skip
-    """What a command prints, told `more` words; an exception for each status but 0, with the place of the node that it names."""
+    """What a command that is told `more` words prints; an exception for each status but 0, with the node's place."""
     done = _called([command, *more], text)
     if done.returncode == 0:
         return done.stdout
