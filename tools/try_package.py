@@ -3,8 +3,8 @@
 
     tools/try_package.py [--install] [WORDS FOR PYTEST]
 
-With --install what is missing is installed first, where apt-get is there and may do so. The interpreter is the one of python3 on PATH, this one and the distribution's that has most of pytest, sqlglot and
-pandas; what it lacks is told, since tests that want it are left out. The program has to be built already; tests that
+With --install what is missing is installed first, where apt-get is there and may do so. The interpreter is the one of python3 on PATH, this one and the distribution's that has most of pytest, sqlglot, pandas,
+dask and distributed; what it lacks is told, since tests that want it are left out. The program has to be built already; tests that
 want it are left out too where it isn't.
 """
 
@@ -14,7 +14,7 @@ import subprocess
 import sys
 
 TOP = os.path.dirname(os.path.dirname(os.path.abspath(__file__)))
-WANTED = ("pytest", "sqlglot", "pandas")
+WANTED = ("pytest", "sqlglot", "pandas", "dask", "distributed")
 SECONDS = 900
 
 

@@ -7,6 +7,7 @@ import os
 import sys
 import time
 import uuid
+import warnings
 from collections.abc import Callable, Iterator, Sequence
 from typing import Any, NamedTuple
 
@@ -42,6 +43,8 @@ def cluster(scheduler: str | None = None, local: int | None = None) -> Iterator[
     """A client of the scheduler at an address, or of a local one with so many worker processes."""
     if distributed is None:
         raise Refused("distribute wants Dask, which isn't there (Debian: python3-dask and python3-distributed)")
+    if local is not None and local < 1:
+        raise Refused(f"{local} worker processes are told, and one is needed")
     if scheduler is not None:
         try:
             client = distributed.Client(scheduler, timeout=20)
@@ -81,7 +84,10 @@ class Run:
 
     def share(self, value: Any) -> Any:
         """A value as a task, which is made again where the worker that has it dies; what is scattered would be lost."""
-        return self.client.submit(_same, value, pure=False)
+        with warnings.catch_warnings():
+            # Dask warns of large values in tasks
+            warnings.simplefilter("ignore")
+            return self.client.submit(_same, value, pure=False)
 
     def finish(self, stage: str, futures: Sequence[Any]) -> list[Any]:
         """What futures give, in their order; the first that is refused or fails ends the run."""

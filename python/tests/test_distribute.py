@@ -1,9 +1,10 @@
-"""Plans in parts: pieces of files, blocks, places and jobs of parts; then whole runs on Dask's workers.
+"""Plans in parts, run on Dask's workers.
 
 The program is a stand-in that evaluates jobs by plain loops (tools/plain_jobs.py), since none may be built.
 """
 
 import collections
+import csv
 import io
 import json
 import os
@@ -12,14 +13,13 @@ import signal
 import stat
 import subprocess
 import sys
-import warnings
+import xml.dom.minidom
 
 import liskevar as lk
 import pytest
 from conftest import TOP
-from liskevar import cli, cutting, pieces
-from liskevar.csv_files import Source, blocks, read_csv
-from liskevar.dtypes import DType
+from liskevar import cli
+from liskevar.csv_files import read_csv
 from liskevar.job import Settings, plan_of
 from test_random_plans import Plans
 
@@ -30,8 +30,9 @@ distributed = pytest.importorskip("distributed", reason="Dask isn't there (Debia
 from liskevar import distribute  # noqa: E402
 from liskevar.cluster import Limits, Run  # noqa: E402
 
+# How many random plans, and from which seed on.
+PLANS, SEED = int(os.environ.get("LISKEVAR_PLANS_IN_PARTS", "8")), int(os.environ.get("LISKEVAR_SEED", "400"))
 STAND_IN = os.path.join(TOP, "tools", "plain_jobs.py")
-INT = DType("Int64")
 SMALL = Limits(piece=40, aim=60)
 
 
@@ -62,119 +63,6 @@ def client():
     patch.undo()
 
 
-# ---- pieces
-
-
-def records(source):
-    return [row for it in list(blocks(source))[1:] for row in it]
-
-
-@pytest.mark.parametrize("end", ["\n", "\r\n"])
-def test_pieces_hold_the_records_of_the_file(write, end):
-    chance = random.Random(end)
-    texts = ["", "a", 'x"y', '"q"', '""', '"two\nlines"', '"a,b"', '"said ""no"""', "é", '"\r\n"', "\u2028"]
-    for number in range(60):
-        rows = [",".join(chance.choice(texts) for _ in range(2)) for _ in range(chance.randint(0, 12))]
-        head = chance.choice(["a,b", '"a\n1",b', "\ufeffa,b"])
-        path = write(f"{number}.csv", end.join([head, *rows]) + chance.choice(["", end] if rows else [end]))
-        whole = list(blocks(Source(path, ",")))
-        parts = pieces.sources_of(path, ",", chance.choice([1, 7, 30]))
-        assert all(next(blocks(it)) == whole[0] for it in parts)
-        assert [row for it in parts for row in records(it)] == records(Source(path, ","))
-
-
-def test_what_pieces_tell_of_types_is_what_the_file_tells(write):
-    chance = random.Random(5)
-    kinds = [["1", "-2", ""], ["1.5", "2", ""], ["1.5", "-0", ".5"], ["true", "false", ""], ["ff00", "00"], ["", ""], ["x", '""'], ["1.2.2026", ""], ["1.5", "x"],
-             ["18446744073709551615", "1"], ["18446744073709551616", "-1"], ["9" * 50, "1"]]  # fmt: skip
-    wanted = [DType(base, scale) for base in ("Int32", "Int64", "UInt64", "Int128") for scale in (0, 1, 2, 18)]
-    for number in range(80):
-        kind = chance.choice(kinds)
-        path = write(f"{number}.csv", "a,b\n" + "".join(f"{chance.choice(kind)},1\n" for _ in range(6)))
-        (fields,) = (it for it in pieces.fields_of(Source(path, ","), None, None, False, 1)[0] if it.name == "a")
-        parts = pieces.csv_pieces(path, {}, 4)
-        looks = {"a": [it.looks(["a"])[0][0] for it in parts]}
-        with warnings.catch_warnings(record=True) as told:
-            warnings.simplefilter("always")
-            (made,) = pieces.csv_columns(path, None, ["a"], looks)
-            assert len(told) == (fields.looks in ("decimals", "dates"))
-            assert fields.column(None).type.hint == made.type.hint
-        for dtype in [*wanted, DType("Boolean"), DType("Binary"), DType("String")]:
-            assert made.type.fits(dtype) == fields.fits(dtype), (path, dtype)
-        assert made.type.is_empty == fields.is_empty
-
-
-def test_a_mistake_in_a_piece_is_told_at_its_line_of_the_file(write):
-    path = write("a.csv", 'k,a\n1,"x\ny"\n2,3\n4,5\n6\n')
-    parts = pieces.sources_of(path, ",", 8)
-    with pytest.raises(lk.Refused, match="a.csv, line 6: 1 fields, where the header has 2"):
-        [records(it) for it in parts]
-    *_, last = pieces.csv_pieces(write("b.csv", "k\n1\n2\nx\n"), {}, 2)
-    with pytest.raises(lk.Refused, match=r"b.csv, line 4, column 1 \(k\): 'x' is no Int64"):
-        last.cells({"k": INT})
-
-
-# ---- blocks, places, orders
-
-
-def scan_of(number, cut, key=-1, columns=(), types=None):
-    return cutting.Scan(number, number, 0, cut, key, tuple(columns), types or {"k": INT, "a": INT})
-
-
-def test_blocks_hold_each_row_as_it_is_told():
-    held = pieces.HeldPiece({"k": [1, None, 1, 2, None, 3], "a": [1, 2, 3, 4, 5, 6]})
-    scans = [scan_of(0, "split"), scan_of(1, "key", 7, ["k"]), scan_of(2, "whole")]
-    found = cutting.cut_piece(held, 3, scans, cutting.Fineness(1 << 20, 6))
-    rows = collections.defaultdict(list)
-    for it in found:
-        cells = list(zip(*(json.loads(f"[{text}]") for text in it.texts)))
-        assert len(cells) == it.rows and it.size == sum(len(text.encode()) + 1 for text in it.texts)
-        rows[it.scan].append(cells)
-    every = sorted(zip(*held.columns.values()), key=str)
-    assert all(sorted((row for part in it for row in part), key=str) == every for it in rows.values())
-    assert len(rows[0]) > 2 and len(rows[2]) == 1
-    assert sorted([row[0] for row in part] for part in rows[1] if part[0][0] is not None) == [[1, 1], [2], [3]]
-    assert [(None, 2), (None, 5)] in rows[1], "null keys lie together"
-
-
-def test_keys_of_two_columns_lie_together():
-    types = {"k": INT, "d": DType("String")}
-    held = pieces.HeldPiece({"k": [1, 1, 12, 1], "d": ["2", None, "", "2"]})
-    scan = scan_of(0, "key", 7, ["d", "k"], types)
-    texts = cutting.key_texts(scan, held.cells(types))
-    assert texts[0] == texts[3] and len(set(texts)) == 3
-
-
-def test_no_part_has_more_than_there_is_room_for():
-    chance = random.Random(3)
-    for _ in range(200):
-        room = chance.randint(1, 50)
-        sizes = {("rows", it): chance.randint(0, room) for it in range(chance.randint(0, 30))}
-        places, parts = cutting.placed(sizes, room, chance.randint(1, 5))
-        held = collections.Counter()
-        for it, part in places.items():
-            held[part] += sizes[it]
-        assert set(places) == set(sizes) and all(0 <= it < parts for it in places.values())
-        assert max(held.values(), default=0) <= room
-
-
-def test_rows_compare_as_the_plain_program_sorts_them():
-    chance = random.Random(4)
-    types = {"n": INT, "w": DType("Int128"), "t": DType("String"), "b": DType("Boolean"), "x": DType("Binary")}
-    cells = {"n": [-1, 2, 10, None], "w": ["-1", "2", "10", None], "t": ["", "é", "a", "\U0001f600", "\uffff", None],
-             "b": [True, False, None], "x": ["", "00", "0a", "ff", None]}  # fmt: skip
-    for _ in range(100):
-        by = chance.sample(list(types), chance.randint(1, 2))
-        flags = [chance.random() < 0.5 for _ in range(4)]
-        sort = {"node": "Sort", "input": 0, "by": by, "descending": flags[: len(by)], "nulls_last": flags[2 : 2 + len(by)], "slice": None}
-        rows = [[chance.choice(it) for it in cells.values()] for _ in range(12)]
-        frame = [{"name": name, "type": it.base, "values": list(column)} for (name, it), column in zip(types.items(), zip(*rows))]
-        scan = {"node": "DataFrameScan", "frame": 0, "columns": None}
-        lines = plain_jobs.lines_of({"frames": [{"columns": frame}], "plan": [scan, sort], "root": 1, "row_limit": 99})
-        order = cutting.order_of(sort, types)
-        assert sorted(rows, key=order.key) == [json.loads(it) for it in lines[1:]]
-
-
 # ---- whole runs
 
 
@@ -185,7 +73,7 @@ def in_parts(client, frame, limits=SMALL, **numbers):
 
 def test_random_plans_in_parts(client):
     tried = 0
-    for seed in range(400, 440):
+    for seed in range(SEED, SEED + 100 * PLANS):
         made = Plans(seed)
         frame, model, *_ = made.plan(3)
         if frame._node.kind == "DataFrameScan" or len(model.rows) > 60:
@@ -194,7 +82,7 @@ def test_random_plans_in_parts(client):
         rows, done = in_parts(client, frame)
         assert collections.Counter(rows) == collections.Counter(model.rows), seed
         assert done.rows == len(rows) and done.retried == 0
-        if tried == 8:
+        if tried == PLANS:
             break
 
 
@@ -232,8 +120,6 @@ def test_csv_files_in_parts_by_the_command_line(client, write, capsys, tmp_path,
 
 
 def records_of(text):
-    import csv
-
     return list(csv.reader(io.StringIO(text, newline="")))[1:]
 
 
@@ -317,6 +203,17 @@ sys.exit(subprocess.run([sys.executable, {STAND_IN!r}, *sys.argv[1:]]).returncod
     assert done.exists() and told.retried >= 1 and told.parts >= 2
     whole = lk.sql(QUERY, {it: lk.frame.frame_of(read_csv(file)) for it, file in zip(("sales", "stock", "names"), paths)})
     assert collections.Counter(rows) == collections.Counter(whole.collect())
+
+
+def test_a_picture_of_parts(client, write, capsys, monkeypatch):
+    monkeypatch.setattr("liskevar.cluster.Limits.__new__.__defaults__", (150, 300, 33_554_432, 0))
+    files = [f"{name}={path}" for name, path in zip(("sales", "stock", "names"), write_star(write))]
+    words = ["distribute", "--sql", f"{QUERY} order by n", *files, "--types", "name:String", "--scheduler", client.scheduler.address]
+    text = outputs(capsys, [*words, "--svg", "--parts", "5"]).out
+    shown = [it.firstChild.data for it in xml.dom.minidom.parseString(text).getElementsByTagName("text")]
+    assert shown.count("cut by k") == 2 and "all of it in each part" in shown and "over the rows of all parts" in shown
+    told = [it for it in shown if it.startswith("bytes of part ")]
+    assert len(told) == 5 and all("sales.csv " in it and "names.csv " in it and "(all)" in it for it in told)
 
 
 def test_what_is_missing_is_told(client, monkeypatch, write, capsys):
