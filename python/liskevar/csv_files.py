@@ -169,7 +169,7 @@ class Fields:
         self.distinct = set(values)
         self.has_blanks = not self.distinct.isdisjoint({"", EMPTY})
         self.distinct -= {"", EMPTY}
-        self._numbers: dict[int, dict[str, int] | None] = {}
+        self._ends: dict[int, tuple[int, int] | None] = {}
 
     @functools.cached_property
     def looks(self) -> str:
@@ -178,27 +178,29 @@ class Fields:
 
     def look_like(self, what: str) -> bool:
         """Whether all fields look like numbers, decimals or dates."""
-        return self.numbers(0) is not None if what == "numbers" else self.spell(LOOKS[what])
+        return self.number_ends(0) is not None if what == "numbers" else self.spell(LOOKS[what])
 
     def spell(self, pattern: str) -> bool:
         """Whether all fields are of a pattern."""
         return all(map(re.compile(pattern).fullmatch, self.distinct))
 
-    def numbers(self, scale: int) -> dict[str, int] | None:
+    def numbers(self, scale: int) -> dict[str, Any] | None:
         """The number of each field, where all fields spell numbers of so many digits, in their one way."""
-        if scale not in self._numbers:
-            decimals, found = rf"-?(?:0|[1-9][0-9]{{0,39}})(?:\.[0-9]{{1,{scale}}}0*)?", None
-            if scale == 0:
-                found = _whole_numbers(list(self.distinct))
-            elif self.spell(decimals):
-                found = {it: _number(it, scale) for it in self.distinct}
-            self._numbers[scale] = found
-        return self._numbers[scale]
+        decimals = rf"-?(?:0|[1-9][0-9]{{0,39}})(?:\.[0-9]{{1,{scale}}}0*)?"
+        found: dict[str, Any] | None = None
+        if scale == 0:
+            found = _whole_numbers(list(self.distinct))
+        elif self.spell(decimals):
+            found = {it: _number(it, scale) for it in self.distinct}
+        values = [] if found is None else found.values()
+        self._ends[scale] = None if found is None else (min(values, default=0), max(values, default=0))
+        return found
 
     def number_ends(self, scale: int) -> tuple[int, int] | None:
         """The least and the greatest number, where all fields spell numbers of so many digits."""
-        numbers = self.numbers(scale)
-        return None if numbers is None else (min(numbers.values(), default=0), max(numbers.values(), default=0))
+        if scale not in self._ends:
+            self.numbers(scale)
+        return self._ends[scale]
 
     def fits(self, dtype: DType) -> bool:
         """Whether all fields spell values of the type."""
@@ -250,17 +252,18 @@ class Fields:
 
     def cells(self, dtype: DType) -> list[Cell]:
         """The cells of a type; two quotes are the empty text in columns of texts, and else null."""
+        # the ends are known then, so that the check takes no second look
+        numbers = self.numbers(dtype.scale) or {} if dtype.kind == "number" else {}
         self._check(dtype)
-        cells: dict[str, Cell] = {"": None, EMPTY: None}
         if dtype.kind in ("text", "bytes"):
             if not self.has_blanks:
                 return list(self.values)
-            cells = {**dict(zip(self.distinct, self.distinct)), "": self.empty, EMPTY: ""}
+            cells: dict[str, Cell] = {**dict(zip(self.distinct, self.distinct)), "": self.empty, EMPTY: ""}
         elif dtype.kind == "truth":
-            cells |= {"true": True, "false": False}
+            cells = {"true": True, "false": False, "": None, EMPTY: None}
         else:
-            numbers, is_wide = self.numbers(dtype.scale) or {}, dtype.base == "Int128"
-            cells.update((it, str(number) if is_wide else number) for it, number in numbers.items())
+            cells = {it: str(number) for it, number in numbers.items()} if dtype.base == "Int128" else numbers
+            cells |= {"": None, EMPTY: None}
         return list(map(cells.__getitem__, self.values))
 
 
@@ -276,7 +279,7 @@ def guess_of(path: str, name: str, looks: str, fits: Callable[[DType], bool], is
     return Guess(fits, is_empty=is_empty, hint=hint)
 
 
-def _whole_numbers(texts: list[str]) -> dict[str, int] | None:
+def _whole_numbers(texts: list[str]) -> dict[str, Any] | None:
     """The number of each text, where all are whole numbers of 40 digits at most in their one way."""
     try:
         numbers = list(map(int, texts))

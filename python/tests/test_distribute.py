@@ -169,6 +169,18 @@ def test_keys_that_share_a_hash_are_cut_finer(client, monkeypatch):
     assert sorted(rows) == [(it, it, it) for it in range(200)] and 5 < done.parts < 30
 
 
+def test_many_parts_and_more_parts_than_rows(client):
+    """More than 32 parts make Dask's shuffle one of two stages."""
+    left = lk.from_rows([(it % 40, it) for it in range(80)], ["k", "a"])
+    right = lk.from_rows([(it, it) for it in range(20, 60)], ["k", "b"])
+    frame = left.join(right, on="k", how="full", coalesce=True)
+    rows, done = in_parts(client, frame, Limits(aim=10, parts=45))
+    assert done.parts == 45 and collections.Counter(rows) == collections.Counter(frame.collect())
+    one = lk.from_rows([(1, 2)], ["k", "c"]).join(lk.from_rows([], ["k"]), on="k", how="left")
+    rows, done = in_parts(client, one, Limits(aim=1, parts=5))
+    assert rows == [(1, 2)] and done.parts == 1
+
+
 def test_a_frame_says_it_itself(client):
     left = lk.from_rows([(1, "a"), (2, "b"), (None, "c")], ["k", "a"])
     rows = left.join(left, on="k", how="left").distribute(scheduler=client.scheduler.address)
