@@ -1,13 +1,14 @@
 #!/usr/bin/env python3
-"""Judges the rules by which a plan's scans may be cut, and the command `parts`, by random plans and the plainest Python.
+"""Judges the rules by which a plan's scans may be cut, and the command `parts`, by random plans and plain Python.
 
-    tools/against_plain_parts.py [--program PROGRAM] [--seed N] [--plans N]
+    tools/against_plain_parts.py [--program PROGRAM] [--plain PLAIN_PROGRAM] [--seed N] [--plans N]
 
-For random plans without a fault, choices by the rules of tools/plain_jobs.py and random cuts that keep to them: the rows
-of all parts together are the plan's rows, each as often, and the gather plan over them is the plan's list. With --program
-what its command `parts` writes is held beside the rules: it is one of their choices, the one that leaves the fewest rows
-to be had whole, or is refused where they have none. Then plans that are cut as they mustn't be, at least one for each
-kind of node (tools/wrong_cuts.py): there some cut gives other rows, and no choice by the rules is that cut.
+For random plans without a fault, choices by the rules of tools/plain_jobs.py and random cuts that keep to them: the
+rows of all parts together are the plan's rows, each as often, and the gather plan over them is the plan's list. Jobs
+are run by tools/plain_jobs.py, or with --plain by the plain program. With --program what its command `parts` writes is
+held beside the rules: it is one of their choices, the one that leaves the fewest rows to be had whole, or is refused
+where they have none. Then plans that are cut as they mustn't be, at least one for each kind of node
+(tools/wrong_cuts.py): there some cut gives other rows, and no choice by the rules is that cut.
 """
 
 import argparse
@@ -17,12 +18,13 @@ import random
 import subprocess
 import sys
 
-from against_plain_program import Jobs
-from plain_jobs import Fault, cell_of, choices, inputs_of, parts_of, root_of, rows_of, schemas, told_of
+from against_plain_program import Jobs, plain_answers
+from plain_jobs import Fault, choices, inputs_of, lines_of, parts_of, root_of, rows_of, schemas, told_of
 from wrong_cuts import WRONG
 
 NAMES = ["a", "b", "c", "d", "k"]
 CELLS = {"Int64": [0, 1, 2, None], "String": ["", "a", "1", None], "Int128": ["0", "-1", "7", None]}
+MOST = 10**9
 HOWS = ["inner", "left", "full", "cross", "semi", "anti"]
 UNARY = ["Filter", "SimpleProjection", "Select", "HStack", "Rename", "Unpivot", "Sort"]
 
@@ -49,7 +51,8 @@ class Plans:
         height, columns = self.chance.choice([0, 1, 3, 5]), []
         for name in self.chance.sample(NAMES, self.chance.randint(1, 4)):
             dtype = self.chance.choice(["Int64"] * 6 + ["String", "Int128"])
-            columns.append({"name": name, "type": dtype, "values": [self.chance.choice(CELLS[dtype]) for _ in range(height)]})
+            values = [self.chance.choice(CELLS[dtype]) for _ in range(height)]
+            columns.append({"name": name, "type": dtype, "values": values})
         return {"columns": columns}
 
     def put(self, node, otherwise=None):
@@ -78,7 +81,8 @@ class Plans:
     def scan(self):
         frame = self.chance.randrange(3)
         names = [it["name"] for it in self.job["frames"][frame]["columns"]]
-        return self.put({"node": "DataFrameScan", "frame": frame, "columns": None if self.rare(0.6) else self.some(names, 4)})
+        columns = None if self.rare(0.6) else self.some(names, 4)
+        return self.put({"node": "DataFrameScan", "frame": frame, "columns": columns})
 
     def union(self, depth):
         left, right = self.plan(depth - 1), self.plan(depth - 1)
@@ -98,10 +102,10 @@ class Plans:
         if how != "cross" and self.rare(0.1):
             keys[0][0] = {"add": [keys[0][0], {"lit": {"type": "Int64", "value": 0}}]}
         hint = lambda: [self.chance.choice([None, 1, 3]), self.chance.randrange(6)]
+        coalesce = self.chance.choice(["JoinSpecific", "CoalesceColumns", "KeepColumns"])
         node = {
             "node": "Join", "left": sides[0], "right": sides[1], "left_on": keys[0], "right_on": keys[1], "how": how,
-            "join_nulls": self.rare(0.4), "coalesce": self.chance.choice(["JoinSpecific", "CoalesceColumns", "KeepColumns"]),
-            "suffix": "_r", "rows_left": hint(), "rows_right": hint(),
+            "join_nulls": self.rare(0.4), "coalesce": coalesce, "suffix": "_r", "rows_left": hint(), "rows_right": hint(),
         }  # fmt: skip
         return self.put(node, sides[0])
 
@@ -168,36 +172,62 @@ def part_job(job, root, scans, frames):
     plan = [dict(it) for it in job["plan"]]
     for number, scan in enumerate(scans):
         plan[scan["node"]]["frame"] = number
-    return {**job, "plan": plan, "root": root, "frames": frames, "row_limit": 10**9}
+    return {**job, "plan": plan, "root": root, "frames": frames, "row_limit": MOST}
 
 
-def rows_in_parts(chance, job, root, scans, count):
-    """The rows of all parts together, each part by the plain program."""
-    return [row for it in cut(chance, job, scans, count) for row in rows_of(part_job(job, root, scans, it))]
+def by_python(jobs):
+    """The rows of some jobs by the plain evaluator, as lines, the first with the names."""
+    return [lines_of(it) for it in jobs]
 
 
-def gathered(job, root, gather, rows):
-    """What the gather plan makes of the parts' rows."""
-    types = schemas(job)[root]
-    columns = list(zip(*rows)) or [()] * len(types)
-    frame = [{"name": name, "type": it, "values": [cell_of(value, it) for value in column]} for (name, it), column in zip(types.items(), columns)]
-    return rows_of({**job, "frames": [{"columns": frame}], "plan": gather, "root": 1, "row_limit": 10**9})
+def by_program(program):
+    """What runs some jobs by the plain program."""
+
+    def work(jobs):
+        answers = plain_answers(program, [json.dumps(it).encode() for it in jobs])
+        if [status for status, _ in answers] != [0] * len(jobs):
+            sys.exit(f"the plain program ended {answers} of {json.dumps(jobs)}")
+        return [text.decode().splitlines() for _, text in answers]
+
+    return work
 
 
-def differs(chance, job, root, gather, scans, count):
+def gathering(job, root, gather, lines):
+    """The job that gathers the parts' rows."""
+    rows, frame = list(map(json.loads, lines)), []
+    for place, (name, dtype) in enumerate(schemas(job)[root].items()):
+        frame.append({"name": name, "type": dtype, "values": [row[place] for row in rows]})
+    return {**job, "frames": [{"columns": frame}], "plan": gather, "root": 1, "row_limit": MOST}
+
+
+def differs(chance, job, root, gather, scans, count, run):
     """Whether a random cut as it is told gives other rows."""
-    rows = rows_in_parts(chance, job, root, scans, count)
-    if collections.Counter(rows) != collections.Counter(rows_of({**job, "root": root, "row_limit": 10**9})):
+    parts = [part_job(job, root, scans, it) for it in cut(chance, job, scans, count)]
+    wanted, *found = run([{**job, "root": root, "row_limit": MOST}, *parts])
+    lines = [it for part in found for it in part[1:]]
+    if any(it[0] != wanted[0] for it in found) or collections.Counter(lines) != collections.Counter(wanted[1:]):
         return True
-    return gather is not None and gathered(job, root, gather, rows) != rows_of({**job, "row_limit": 10**9})
+    if gather is None:
+        return False
+    gathered, whole = run([gathering(job, root, gather, lines), {**job, "row_limit": MOST}])
+    return gathered != whole
 
 
 def told_by(program, job, heights):
     """What the program's `parts` writes of a job without rows."""
     empty = [{"columns": [{**it, "values": []} for it in frame["columns"]]} for frame in job["frames"]]
-    words, text = [program, "parts", "--rows", ",".join(map(str, heights))], json.dumps({**job, "frames": empty}).encode()
-    ran = subprocess.run(words, input=text, capture_output=True)
+    words = [program, "parts", "--rows", ",".join(map(str, heights))]
+    ran = subprocess.run(words, input=json.dumps({**job, "frames": empty}).encode(), capture_output=True)
     return json.loads(ran.stdout) if ran.returncode == 0 else {"status": ran.returncode, "line": ran.stderr.decode()}
+
+
+def flags_for_each(gather):
+    """A gather plan with a flag for each key of its sort; one flag may stand for all."""
+    if gather is None:
+        return None
+    scan, sort = gather
+    each = {it: sort[it] * len(sort["by"]) if len(sort[it]) == 1 else sort[it] for it in ("descending", "nulls_last")}
+    return [scan, {**sort, **each}]
 
 
 def beside_rules(told, job, heights, made):
@@ -209,8 +239,9 @@ def beside_rules(told, job, heights, made):
         same = not told["parts"] and told["gather"] is None and told["root"] == job["root"] and told["refused"]
         return None if same else "the rules have no choice"
     for member in ("parts", "root", "gather", "whole_rows", "refused"):
-        if told[member] != wanted[member]:
-            return f"{member} is {told[member]}, by the rules {wanted[member]}"
+        found, by_rules = (flags_for_each(it[member]) if member == "gather" else it[member] for it in (told, wanted))
+        if found != by_rules:
+            return f"{member} is {found}, by the rules {by_rules}"
     return None if told["scans"] in made else "the rules haven't that choice"
 
 
@@ -231,7 +262,7 @@ def random_jobs(seed, count):
         yield job
 
 
-def judged(chance, job, program, counts):
+def judged(chance, job, program, run, counts):
     """Tries some choices of a plan's; gives what differs, as words."""
     found, (root, gather) = schemas(job), root_of(job)
     heights = [len(it["columns"][0]["values"]) for it in job["frames"]]
@@ -240,19 +271,19 @@ def judged(chance, job, program, counts):
     for scans in chance.sample(made, min(6, len(made))):
         counts["cuts"] += 1
         counts.update(f"scans {it['cut']}" for it in scans)
-        if differs(chance, job, root, gather, scans, chance.choice([1, 2, 3, 8])):
+        if differs(chance, job, root, gather, scans, chance.choice([1, 2, 3, 8]), run):
             return f"other rows: {scans}"
     wrong = beside_rules(told_by(program, job, heights), job, heights, made) if program else None
     return wrong and f"parts: {wrong}"
 
 
-def wrong_cuts(chance):
+def wrong_cuts(chance, run):
     """Cuts the named plans as they mustn't be; gives the names of those where no cut gave other rows."""
     kept = []
     for name, (job, root, gather, scans) in WRONG.items():
         own = choices(job, schemas(job), root, "split")
         is_allowed = scans in [told_of(job, it, [0] * len(job["frames"]))[0] for it in own]
-        if is_allowed or not any(differs(chance, job, root, gather, scans, 2) for _ in range(60)):
+        if is_allowed or not any(differs(chance, job, root, gather, scans, 2, run) for _ in range(60)):
             kept.append(name)
     return kept
 
@@ -267,9 +298,11 @@ def kinds_in(job):
 def main():
     parser = argparse.ArgumentParser(description=__doc__, formatter_class=argparse.RawDescriptionHelpFormatter)
     parser.add_argument("--program")
+    parser.add_argument("--plain")
     parser.add_argument("--seed", type=int, default=1)
     parser.add_argument("--plans", type=int, default=3000)
     given = parser.parse_args()
+    run = by_program(given.plain) if given.plain else by_python
     chance, counts, kinds, differ = random.Random(given.seed), collections.Counter(), collections.Counter(), 0
     for job in random_jobs(given.seed, given.plans):
         try:
@@ -279,13 +312,13 @@ def main():
             continue
         counts["plans"] += 1
         kinds.update(kinds_in(job))
-        wrong = judged(chance, job, given.program, counts)
+        wrong = judged(chance, job, given.program, run, counts)
         if wrong:
             differ += 1
             print(f"{wrong}\n  {json.dumps(job)}")
-    kept = wrong_cuts(chance)
+    kept = wrong_cuts(chance, run)
     print(f"{dict(counts)}, {differ} differ\nnodes: {dict(kinds)}")
-    print(f"{len(WRONG)} plans cut as they mustn't be, {len(kept)} of them without other rows{': ' if kept else ''}{', '.join(kept)}")
+    print(f"{len(WRONG)} plans cut as they mustn't be, {len(kept)} of them without other rows {', '.join(kept)}")
     return 1 if differ or kept else 0
 
 

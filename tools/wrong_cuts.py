@@ -25,8 +25,8 @@ def scan(number):
 def join(how, left=0, right=1, on=("k",), right_on=None, **told):
     keys = {"left_on": list(map(column, on)), "right_on": list(map(column, right_on or on))}
     node = {
-        "node": "Join", "left": left, "right": right, **keys, "how": how, "join_nulls": False, "coalesce": "KeepColumns",
-        "suffix": f"_{right}", "rows_left": [None, 0], "rows_right": [None, 0],
+        "node": "Join", "left": left, "right": right, **keys, "how": how, "join_nulls": False,
+        "coalesce": "KeepColumns", "suffix": f"_{right}", "rows_left": [None, 0], "rows_right": [None, 0],
     }  # fmt: skip
     return {**node, **told}
 
@@ -37,11 +37,13 @@ def sort(below, cut):
 
 def case(plan, cuts, root=None, gather=None, frames=(LEFT, RIGHT, THIRD)):
     """A job over three frames, cut as the words say: split, whole, or the columns of a key, which all scans share."""
-    job = {"version": 1, "workers": 1, "chunk_rows": 2, "row_limit": 1000, "frames": list(frames), "plan": plan, "root": len(plan) - 1}
+    numbers = {"version": 1, "workers": 1, "chunk_rows": 2, "row_limit": 1000}
+    job = {**numbers, "frames": list(frames), "plan": plan, "root": len(plan) - 1}
     scans = []
     for (n, node), word in zip(((n, it) for n, it in enumerate(plan) if "frame" in it), cuts):
         is_key = word not in ("split", "whole")
-        key = {"cut": "nulls anywhere" if word.endswith("?") else "key", "key": 9, "columns": word.rstrip("?").split(",")}
+        kind = "nulls anywhere" if word.endswith("?") else "key"
+        key = {"cut": kind, "key": 9, "columns": word.rstrip("?").split(",")}
         scans.append({"node": n, "frame": node["frame"], **(key if is_key else {"cut": word})})
     return job, job["root"] if root is None else root, gather, scans
 
@@ -62,7 +64,11 @@ def named(name, expr):
 
 ONE = {"lit": {"type": "Int64", "value": 1}}
 GATHER = [scan(0), sort(0, [1, 2])]
-UNION = [scan(0), {"node": "Rename", "input": 0, "pairs": [{"existing": "a", "new": "b"}]}, scan(1), {"node": "Union", "inputs": [1, 2]}]
+A_AS_B = {"node": "Rename", "input": 0, "pairs": [{"existing": "a", "new": "b"}]}
+UNION = [scan(0), A_AS_B, scan(1), {"node": "Union", "inputs": [1, 2]}]
+VALUES = {"node": "Unpivot", "input": 0, "on": ["k", "a"], "index": [], "variable": "n", "value": "v"}
+RENAMED = {"node": "Rename", "input": 1, "pairs": []}
+SWAPPED = [{"existing": "k", "new": "a"}, {"existing": "a", "new": "k"}]
 FULL = [scan(0), scan(1), join("full"), scan(2)]
 
 WRONG = {
@@ -76,19 +82,19 @@ WRONG = {
     "HStack that replaces the key": keyed("HStack", "k", exprs=[named("k", {"add": [column("k"), ONE]})]),
     "HStack that puts another column in the key's place": keyed("HStack", "k", exprs=[named("k", column("a"))]),
     "Select that swaps names": keyed("Select", "k", exprs=[named("k", column("a")), named("a", column("k"))]),
-    "Rename that swaps names": keyed("Rename", "k", pairs=[{"existing": "k", "new": "a"}, {"existing": "a", "new": "k"}]),
+    "Rename that swaps names": keyed("Rename", "k", pairs=SWAPPED),
     "Unpivot whose values are the key": case(
-        [scan(0), {"node": "Unpivot", "input": 0, "on": ["k", "a"], "index": [], "variable": "n", "value": "v"}, scan(1),
-         join("inner", 1, 2, on=["v"], right_on=["k"])], ["k", "k"]),  # fmt: skip
+        [scan(0), VALUES, scan(1), join("inner", 1, 2, on=["v"], right_on=["k"])], ["k", "k"]
+    ),
     "Filter below a join, its other side's key": keyed("Filter", "a", predicate={"is_not_null": column("a")}),
     "SimpleProjection below a join, by another column": keyed("SimpleProjection", "a", columns=["a", "k"]),
     "a union's first input whole": case(UNION, ["whole", "split"]),
     "a union's second input whole": case(UNION, ["split", "whole"]),
     "a union's inputs by two keys": case([*UNION, scan(2), join("inner", 3, 4)], ["k", "b", "k"]),
     "a union's input by rows under a join by key": case([*UNION, scan(2), join("inner", 3, 4)], ["k", "split", "k"]),
-    "a sort with a slice below, split": case([scan(0), sort(0, [1, 2]), {"node": "Rename", "input": 1, "pairs": []}], ["split"]),
-    "a sort with a slice below, whole": case([scan(0), sort(0, [1, 2]), {"node": "Rename", "input": 1, "pairs": []}], ["whole"]),
-    "a sort below, whole": case([scan(0), sort(0, None), {"node": "Rename", "input": 1, "pairs": []}], ["whole"]),
+    "a sort with a slice below, split": case([scan(0), sort(0, [1, 2]), RENAMED], ["split"]),
+    "a sort with a slice below, whole": case([scan(0), sort(0, [1, 2]), RENAMED], ["whole"]),
+    "a sort below, whole": case([scan(0), sort(0, None), RENAMED], ["whole"]),
     "a slice in each part with the offset": case([scan(0), sort(0, [1, 2])], ["split"], gather=GATHER),
     "a sort with a slice at the root, whole": case([scan(0), sort(0, [1, 2])], ["whole"], root=0, gather=GATHER),
     "an inner join, both sides by rows": case([scan(0), scan(1), join("inner")], ["split", "split"]),
@@ -106,7 +112,9 @@ WRONG = {
     "a full join, both sides by rows": case([scan(0), scan(1), join("full")], ["split", "split"]),
     "null keys parted where nulls meet": case([scan(0), scan(1), join("inner", join_nulls=True)], ["k?", "k?"]),
     "a key below a full join": case([*FULL, join("inner", 2, 3, join_nulls=True)], ["k", "k", "k"]),
-    "a key of two columns in two orders": case([scan(0), scan(1), join("inner", on=("k", "a"), right_on=("k", "b"))], ["k,a", "b,k"]),
+    "a key of two columns in two orders": case(
+        [scan(0), scan(1), join("inner", on=("k", "a"), right_on=("k", "b"))], ["k,a", "b,k"]
+    ),
     "a frame that two scans read, cut once for both": case(
         [scan(0), scan(0), join("inner", on=("k",), right_on=("a",))], ["k", "k"]
     ),

@@ -40,15 +40,8 @@ def called(words, text=b""):
     """What the plain program does, in this process."""
     if words[0] == "--help":
         return subprocess.CompletedProcess(words, 0, b"liskevar run\nliskevar parts\n", b"")
-    job = json.loads(text)
-    try:
-        if words[0] == "run":
-            lines = plain_jobs.lines_of(job)
-        else:
-            lines = [json.dumps(plain_jobs.parts_of(job, list(map(int, words[2].split(",")))))]
-    except plain_jobs.Fault as fault:
-        return subprocess.CompletedProcess(words, fault.status, b"", f"{fault}\n".encode())
-    return subprocess.CompletedProcess(words, 0, "".join(f"{it}\n" for it in lines).encode(), b"")
+    status, told = plain_jobs.answered(list(words), text)
+    return subprocess.CompletedProcess(words, status, b"" if status else told, told if status else b"")
 
 
 @pytest.fixture(scope="module")
