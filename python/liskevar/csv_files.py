@@ -166,10 +166,12 @@ class Fields:
     def __init__(self, source: Source, name: str, place: int, values: list[str], empty_is_text: bool) -> None:
         self.source, self.name, self.place, self.values = source, name, place, values
         self.empty = "" if empty_is_text else None
-        self.distinct = set(values)
-        self.has_blanks = not self.distinct.isdisjoint({"", EMPTY})
-        self.distinct -= {"", EMPTY}
         self._ends: dict[int, tuple[int, int] | None] = {}
+
+    @functools.cached_property
+    def distinct(self) -> set[str]:
+        """The fields that have a value, each once."""
+        return set(self.values) - {"", EMPTY}
 
     @functools.cached_property
     def looks(self) -> str:
@@ -256,7 +258,7 @@ class Fields:
         numbers = self.numbers(dtype.scale) or {} if dtype.kind == "number" else {}
         self._check(dtype)
         if dtype.kind in ("text", "bytes"):
-            if not self.has_blanks:
+            if "" not in self.values and EMPTY not in self.values:
                 return list(self.values)
             cells: dict[str, Cell] = {**dict(zip(self.distinct, self.distinct)), "": self.empty, EMPTY: ""}
         elif dtype.kind == "truth":

@@ -91,7 +91,8 @@ def read_csv(run: Run, path: str, columns: Sequence[str] | None = None, **told: 
     """The table of a CSV file in pieces, told as `scan_csv` is. Where `columns` are told no other one is asked for."""
     (pieces,) = run.finish("finding", run.map(csv_pieces, [path], told=told, size=run.limits.piece))
     names = pieces[0].names
-    read = [it for it in names if columns is None or it in columns]
+    # what a column is whose type is told isn't asked
+    read = [it for it in names if (columns is None or it in columns) and it not in (told.get("types") or {})]
     looks = run.finish("reading", run.map(_looks, pieces, read=read))
     of = {name: [found[place] for found, _ in looks] for place, name in enumerate(read)}
     made = csv_columns(path, told.get("types"), names, of)
@@ -222,10 +223,12 @@ class Distribution:
 
     def placed(self) -> tuple[Cut, dict[Item, int], int]:
         """All pieces cut, the part of each item, and the number of parts."""
-        limits, (cut, room) = self.run.limits, self.cut()
+        run, (cut, room) = self.run, self.cut()
         movable = cut.movable()
-        least = limits.parts or max(self.run.threads, -(-sum(movable.values()) // limits.aim))
-        return cut, *placed(movable, room, least)
+        size = sum(movable.values())
+        # many times as many parts as there are workers are only more work for Dask
+        aim = max(run.limits.aim, min(size // (8 * run.threads), room * 3 // 4))
+        return cut, *placed(movable, room, run.limits.parts or max(run.threads, -(-size // aim)))
 
     def answers(self) -> Answers:
         """Runs all parts, and what gathers their rows."""

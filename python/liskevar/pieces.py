@@ -4,6 +4,7 @@ A piece is read where it is wanted, and holds whole records. CSV and TSV files a
 files (where pyarrow is there) are read one group of rows at a time.
 """
 
+import contextlib
 import io
 import os
 import re
@@ -17,7 +18,7 @@ from .dtypes import BINARY, BOOLEAN, RANGES, STRING, Cell, DType, Guess, Type, d
 from .errors import Refused
 from .tables import Column, Table, Types, told_types
 
-BYTES_OF_A_PIECE = 8_388_608
+BYTES_OF_A_PIECE, MOST_PIECES = 8_388_608, 1_024
 DECIMAL = re.compile(r"-?(?:0|[1-9][0-9]{0,39})(?:\.([0-9]+))?")
 # What a type of Parquet is here; whole numbers of fewer than 32 bits are widened.
 PARQUET = {
@@ -179,7 +180,12 @@ def sources_of(path: str, delimiter: str, size: int = BYTES_OF_A_PIECE) -> list[
 
 
 def csv_pieces(path: str, told: Mapping[str, Any], size: int = BYTES_OF_A_PIECE) -> list[CsvPiece]:
-    """The pieces of a CSV file; `told` is what `read_csv` is told."""
+    """The pieces of a CSV file, of `size` bytes and in long files up to eight times as many.
+
+    `told` is what `read_csv` is told.
+    """
+    with contextlib.suppress(OSError):
+        size = max(size, min(os.path.getsize(path) // MOST_PIECES, 8 * size))
     sources = sources_of(path, told.get("delimiter") or delimiter_of(path), size)
     names = header_of(path, next(blocks(sources[0]))[0], told.get("names"))
     forms, _ = told_forms(path, told.get("types"), names)
