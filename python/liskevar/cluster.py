@@ -26,6 +26,8 @@ except ImportError:
 # How often what failed is tried again; a task whose worker died is tried again by Dask's own rule.
 RETRIES = 2
 BAR = 30
+# The seconds between two looks whether anything came, and whether there are workers.
+PAUSE, LOOK = 0.02, 2.0
 
 
 class Limits(NamedTuple):
@@ -64,6 +66,8 @@ class Run:
 
     def __init__(self, client: Any, limits: Limits = Limits(), is_shown: bool = False) -> None:
         self.client, self.limits, self.is_shown = client, limits, is_shown
+        # so many seconds may pass without a worker
+        self.patience = 120
         # under this word parts tell the scheduler that they start
         self.topic, self.start = f"liskevar-{uuid.uuid4().hex}", time.monotonic()
         try:
@@ -93,18 +97,34 @@ class Run:
         """What futures give, in their order; the first that is refused or fails ends the run."""
         found: dict[str, Any] = {}
         self._show(stage, 0, len(futures))
-        for future, value in distributed.as_completed(futures, with_results=True, raise_errors=False):
+        for future, value in self._completed(stage, futures):
             found[future.key] = self._checked(stage, future, value, futures)
             self._show(stage, len(found), len(futures))
         return [found[it.key] for it in futures]
 
     def in_order(self, stage: str, futures: Sequence[Any]) -> Iterator[Any]:
         """What futures give, one after the other as they come."""
-        for done, future in enumerate(futures):
+        for done, it in enumerate(futures):
             self._show(stage, done, len(futures))
-            value = self.client.gather([future], errors="skip")
-            yield self._checked(stage, future, value[0] if value else None, futures)
+            for future, value in self._completed(stage, [it]):
+                yield self._checked(stage, future, value, futures)
         self._show(stage, len(futures), len(futures))
+
+    def _completed(self, stage: str, futures: Sequence[Any]) -> Iterator[tuple[Any, Any]]:
+        """Futures with what they give, as they come; Refused where no worker is left to make them."""
+        waiting = distributed.as_completed(futures, with_results=True, raise_errors=False)
+        looked = seen = time.monotonic()
+        while not waiting.is_empty():
+            if waiting.has_ready():
+                yield from waiting.next_batch(block=False)
+                continue
+            time.sleep(PAUSE)
+            if time.monotonic() - looked > LOOK:
+                looked = time.monotonic()
+                seen = looked if self.client.nthreads() else seen
+                if looked - seen > self.patience:
+                    self.client.cancel(futures)
+                    raise Refused(f"{stage}: no worker is left since {self.patience} seconds")
 
     def _checked(self, stage: str, future: Any, value: Any, futures: Sequence[Any]) -> Any:
         """The value of a future; where it has none, or was refused, the others are given up."""

@@ -221,6 +221,19 @@ def test_a_picture_of_parts(client, write, capsys, monkeypatch):
     assert len(told) == 5 and all("sales.csv " in it and "names.csv " in it and "(all)" in it for it in told)
 
 
+def test_workers_that_are_gone(monkeypatch):
+    """A scheduler whose only worker ends, and none comes in its place."""
+    monkeypatch.setenv("LISKEVAR_PROGRAM", STAND_IN)
+    monkeypatch.setattr("liskevar.program._called", called)
+    told = {"processes": False, "n_workers": 1, "threads_per_worker": 1, "dashboard_address": "127.0.0.1:0"}
+    with distributed.Client(**told) as made:
+        run = Run(made)
+        run.patience = 3
+        made.cluster.scale(0)
+        with pytest.raises(lk.Refused, match="cutting: no worker is left since 3 seconds"):
+            distribute.collect(run, plan_of(lk.from_rows([(1,)], ["k"])._ended()), Settings(), {})
+
+
 def test_what_is_missing_is_told(client, monkeypatch, write, capsys):
     monkeypatch.setattr("liskevar.cluster.distributed", None)
     assert cli.main(["distribute", "--sql", "select k from a", write("a.csv", "k\n1\n")]) == 1
