@@ -19,7 +19,7 @@ import subprocess
 import sys
 
 from against_plain_program import Jobs, plain_answers
-from plain_jobs import Fault, choices, inputs_of, lines_of, parts_of, root_of, rows_of, schemas, told_of
+from plain_jobs import Fault, choices, heights_of, inputs_of, lines_of, parts_of, root_of, rows_of, schemas, told_of
 from wrong_cuts import WRONG
 
 NAMES = ["a", "b", "c", "d", "k"]
@@ -213,11 +213,9 @@ def differs(chance, job, root, gather, scans, count, run):
     return gathered != whole
 
 
-def told_by(program, job, heights):
-    """What the program's `parts` writes of a job without rows."""
-    empty = [{"columns": [{**it, "values": []} for it in frame["columns"]]} for frame in job["frames"]]
-    words = [program, "parts", "--rows", ",".join(map(str, heights))]
-    ran = subprocess.run(words, input=json.dumps({**job, "frames": empty}).encode(), capture_output=True)
+def told_by(program, job):
+    """What the program's `parts` writes of a job."""
+    ran = subprocess.run([program, "parts"], input=json.dumps(job).encode(), capture_output=True)
     return json.loads(ran.stdout) if ran.returncode == 0 else {"status": ran.returncode, "line": ran.stderr.decode()}
 
 
@@ -233,16 +231,16 @@ def flags_for_each(gather):
 def beside_rules(told, job, heights, made):
     """What is wrong with what the program told, or None."""
     wanted = parts_of(job, heights)
-    if "status" in told or list(told) != list(wanted):
+    if "status" in told or list(told) != sorted(wanted):
         return f"it wrote {told}"
+    scans = sorted(told["scans"], key=lambda it: it["node"])
     if not wanted["parts"]:
-        same = not told["parts"] and told["gather"] is None and told["root"] == job["root"] and told["refused"]
-        return None if same else "the rules have no choice"
+        return None if {**told, "scans": scans} == wanted else f"the rules have no choice, by {wanted['refused']}"
     for member in ("parts", "root", "gather", "whole_rows", "refused"):
         found, by_rules = (flags_for_each(it[member]) if member == "gather" else it[member] for it in (told, wanted))
         if found != by_rules:
             return f"{member} is {found}, by the rules {by_rules}"
-    return None if told["scans"] in made else "the rules haven't that choice"
+    return None if scans in made else "the rules haven't that choice"
 
 
 def random_jobs(seed, count):
@@ -265,7 +263,7 @@ def random_jobs(seed, count):
 def judged(chance, job, program, run, counts):
     """Tries some choices of a plan's; gives what differs, as words."""
     found, (root, gather) = schemas(job), root_of(job)
-    heights = [len(it["columns"][0]["values"]) for it in job["frames"]]
+    heights = heights_of(job)
     made = [told_of(job, it, heights)[0] for it in choices(job, found, root, "split")]
     counts["without a choice"] += not made
     for scans in chance.sample(made, min(6, len(made))):
@@ -273,7 +271,7 @@ def judged(chance, job, program, run, counts):
         counts.update(f"scans {it['cut']}" for it in scans)
         if differs(chance, job, root, gather, scans, chance.choice([1, 2, 3, 8]), run):
             return f"other rows: {scans}"
-    wrong = beside_rules(told_by(program, job, heights), job, heights, made) if program else None
+    wrong = beside_rules(told_by(program, job), job, heights, made) if program else None
     return wrong and f"parts: {wrong}"
 
 

@@ -105,12 +105,15 @@ def encoded(text: str, what: str) -> bytes:
     return found
 
 
-def frames_text(frames: Iterable[tuple[Table, Iterable[str]]], resolve: Resolve, is_empty: bool = False) -> str:
-    """Some columns of tables as the job spells frames, or without cells; JobTooLong as soon as they are."""
+def frames_text(
+    frames: Iterable[tuple[Table, Iterable[str]]], resolve: Resolve, heights: Sequence[int] | None = None
+) -> str:
+    """Some columns of tables as the job spells frames, or so many nulls in each; JobTooLong as soon as they are."""
     texts, size = [], 0
-    for table, names in frames:
+    for number, (table, names) in enumerate(frames):
         types = [(it, resolve(it.type)) for it in table.columns if it.name in names]
-        told = [(it.name, dtype.base, [] if is_empty else it.spell(dtype)) for it, dtype in types]
+        nulls = None if heights is None else [None] * heights[number]
+        told = [(it.name, dtype.base, it.spell(dtype) if nulls is None else nulls) for it, dtype in types]
         columns = [compact({"name": name, "type": base, "values": cells}) for name, base, cells in told]
         texts.append(f'{{"columns":[{",".join(columns)}]}}')
         what = f"{table.name}, columns {', '.join(it.name for it, _ in types)}"
@@ -141,8 +144,8 @@ def frames_of(plan: Plan) -> dict[Table, set[str]]:
     return read
 
 
-def job_text(plan: Plan, settings: Settings, is_empty: bool = False) -> bytes:
-    """The job of a plan, or the same without its rows; JobTooLong where it would be past the limit."""
+def job_text(plan: Plan, settings: Settings, heights: Sequence[int] | None = None) -> bytes:
+    """The job of a plan, or the same with so many rows of nulls in its frames; JobTooLong past the limit."""
     root, scans, read = plan.nodes[-1], _columns_of_scans(plan), frames_of(plan)
     said = []
     for n, node in enumerate(plan.nodes):
@@ -153,6 +156,6 @@ def job_text(plan: Plan, settings: Settings, is_empty: bool = False) -> bytes:
             columns = None if is_whole else scans[n]
             said.append({"node": node.kind, "frame": list(read).index(node.table), "columns": columns})
     numbers = f'"workers":{settings.workers},"chunk_rows":{settings.chunk_rows},"row_limit":{settings.row_limit}'
-    frames = frames_text(read.items(), root.typing.resolve, is_empty)
+    frames = frames_text(read.items(), root.typing.resolve, heights)
     text = f'{numbers},"frames":{frames},"plan":{compact(said)},"root":{len(said) - 1}'
     return with_version(text, "the job")
