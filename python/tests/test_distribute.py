@@ -1,6 +1,7 @@
 """Plans in parts, run on Dask's workers.
 
-The program is a stand-in that evaluates jobs by plain loops (tools/plain_jobs.py), since none may be built.
+Where no program is built, and where a worker is killed, it is a stand-in that evaluates jobs by plain loops
+(tools/plain_jobs.py).
 """
 
 import collections
@@ -46,10 +47,11 @@ def called(words, text=b""):
 
 @pytest.fixture(scope="module")
 def client():
-    """Two workers on threads of this process, which ask the plain program in the place of the proved one."""
+    """Two workers on threads of this process, which ask the plain program where no proved one is built."""
     patch = pytest.MonkeyPatch()
-    patch.setenv("LISKEVAR_PROGRAM", STAND_IN)
-    patch.setattr("liskevar.program._called", called)
+    if "LISKEVAR_PROGRAM" not in os.environ:
+        patch.setenv("LISKEVAR_PROGRAM", STAND_IN)
+        patch.setattr("liskevar.program._called", called)
     told = {"processes": False, "n_workers": 2, "threads_per_worker": 1, "dashboard_address": "127.0.0.1:0"}
     with distributed.Client(**told) as made:
         yield made
