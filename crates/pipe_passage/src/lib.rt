@@ -1,0 +1,12 @@
+//! A leg that runs: lanes over the operators of a plan, with seats at the flags of their joins.
+#![tactic(auto)]
+
+mod leaving;
+mod opening;
+mod passage;
+mod settling;
+
+pub use leaving::leave_first;
+pub use opening::open_passage;
+pub use passage::Passage;
+pub use settling::settle_first;

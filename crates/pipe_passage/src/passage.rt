@@ -1,0 +1,15 @@
+//! A leg that runs.
+
+use pipe_frame::List;
+use pipe_index::HashesKeys;
+use pipe_run::Lane;
+use pipe_slots::{PhysOperator, Slot};
+use pipe_words::FlagSeat;
+
+/// A leg that runs: its lanes, with what each stage that it hasn't left reads, and the seats there that no lane holds.
+#[derive(Drop)]
+pub struct Passage<H: HashesKeys, K> {
+    pub lanes: Vec<Lane<PhysOperator<H>, K>>,
+    pub shared: Vec<Slot<H>>,
+    pub seats: Vec<List<FlagSeat>>,
+}

@@ -1,0 +1,51 @@
+//! The last leg leaves its first stage.
+
+ghost use Rattle.std.specs.Prelude.{◌≡◌, ℕ, ◌<◌, List, length, OnOk};
+ghost use Rattle.std.specs.List.{AllByRecursion};
+ghost use Rattle.pipe_frame.specs.declared.field.Field.{Field};
+ghost use Rattle.pipe_run.specs.Flushes.{HasStage};
+ghost use Rattle.pipe_passage.specs.Passages.{IsPassing, IsUnderWay, HasSettled, HasFewParts};
+
+use crate::leaving::leave_stage;
+use crate::passage::Passage;
+use pipe_frame::Gate;
+use pipe_index::HashesKeys;
+use pipe_ops::{PExecutionContext, Sink};
+use pipe_rows::KeyHasher;
+use pipe_run::{Refusal, flush_round};
+use std::alloc::Global;
+use std::thread::Threads;
+
+/// The last leg leaves its first stage: the flags of its join are closed, and each partition of what that kept is
+/// flushed by one lane, through the stages behind into the lanes' sinks. What was read is dropped. The refusals are
+/// those of `flush_round`.
+pub fn settle_first<R: Threads + Sync, H: KeyHasher, K: Sink + Drop, G: Gate + Sync>(
+    rt: &R,
+    alloc: Global,
+    context: &PExecutionContext,
+    passage: &mut Passage<H, K>,
+    gate: &G,
+) -> Result<(), Refusal>
+    requires stages { AllByRecursion HasStage passage.old.lanes.items }
+    requires shared { 0 < length passage.old.shared.items }
+    requires seats { 0 < length passage.old.seats.items }
+    requires parts { HasFewParts passage.old.shared.items }
+    requires way { IsUnderWay H.hash_of K.Sink context.now.row_limit passage.old.lanes.items
+        passage.old.shared.items passage.old.seats.items }
+    ensures { OnOk result ((from : List Field) → IsPassing H.hash_of K.Sink context.now.row_limit
+        from passage.old.lanes.items passage.old.shared.items passage.old.seats.items →
+        HasSettled H.hash_of K.Sink context.now.row_limit from passage.old.lanes.items
+        passage.new.lanes.items passage.old.shared.items passage.new.shared.items
+        passage.old.seats.items passage.new.seats.items) }
+{
+    let Ok((slot, seats)) = leave_stage(passage) else {
+        return Err(Refusal::Memory);
+    };
+    let kept = slot.closed(seats);
+    if kept.part_count() == 0 {
+        return Ok(());
+    }
+    let others = passage.shared.as_slice();
+    let lanes = passage.lanes.as_mut_slice();
+    flush_round(rt, alloc, context, &kept, others, gate, lanes)
+}
