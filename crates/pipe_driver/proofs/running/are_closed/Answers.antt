@@ -1,6 +1,6 @@
 use Rattle.std.proofs.Common.{◌≡◌, ◌+◌, sym, ◌∙◌, arith, get_or}
 use Rattle.pipe_driver.proofs.FrontSteps.{closed_so_far, open_found}
-use Rattle.pipe_driver.proofs.closing.are_closed.Goals as goal
+use Rattle.pipe_driver.proofs.running.are_closed.Goals as goal
 
 pub loop-sink-preserved : goal.loop-sink-preserved
 loop-sink-preserved c =

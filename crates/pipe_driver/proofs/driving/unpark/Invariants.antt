@@ -1,7 +1,7 @@
 use Rattle.std.proofs.Common.{◌≡◌, take}
 use Rattle.std.specs.List.{AllByRecursion}
 use Rattle.pipe_driver.specs.Runs.{StartsElsewhere}
-use Rattle.pipe_driver.proofs.parking.unpark.Given as goal
+use Rattle.pipe_driver.proofs.driving.unpark.Given as goal
 
 abbrev pub invariant-loop-i : goal.invariant-loop-i
 invariant-loop-i g l = record {

@@ -2,7 +2,7 @@ use Rattle.std.proofs.Common.{List, None, refl, sym, subst, ◌∙◌}
 use Rattle.pipe_driver.specs.declared.pipe_line.PipeLine.{PipeLine}
 use Rattle.pipe_driver.specs.Runs.{Parks}
 use Rattle.pipe_driver.proofs.Drives.{parks_one, parks_none, some_items}
-use Rattle.pipe_driver.proofs.parking.park.Goals as goal
+use Rattle.pipe_driver.proofs.driving.park.Goals as goal
 
 pub returns-then-is_empty : goal.returns-then-is_empty
 returns-then-is_empty g c = parks_none c.args.start c.args.legs c.args.parked.now.items (sym c.is_empty.ensures ∙ c.if-is_empty.true)

@@ -2,7 +2,7 @@ use Rattle.std.proofs.Common.{◌+◌, List, sym, ap, subst, ◌∙◌, arith}
 use Rattle.pipe_driver.specs.declared.pipe_line.PipeLine.{PipeLine}
 use Rattle.pipe_driver.specs.Runs.{Unparks, StartsElsewhere}
 use Rattle.pipe_driver.proofs.Drives.{unparks_at, all_take, all_taken, same_get}
-use Rattle.pipe_driver.proofs.parking.unpark.Goals as goal
+use Rattle.pipe_driver.proofs.driving.unpark.Goals as goal
 
 pub returns-then-index-node-clause-some : goal.returns-then-index-node-clause-some
 returns-then-index-node-clause-some g c =
