@@ -1,6 +1,9 @@
 //! Where a part of a value stands: the steps that lead to it.
 
+ghost use Rattle.std.specs.Prelude.{◌≡◌, IfOk};
+
 use crate::words::push_quoted;
+use pipe_frame::Text;
 use std::alloc::{AllocError, Global};
 use std::fmt::Write;
 
@@ -8,23 +11,27 @@ use std::fmt::Write;
 #[derive(Drop)]
 pub enum Step {
     /// To the member of an object.
-    Member(String),
+    Member(Text),
     /// To the item of an array.
     Item(usize),
 }
 
 impl Step {
     /// A copy of the step.
-    pub fn copied(&self, alloc: Global) -> Result<Step, AllocError> {
+    pub fn copied(&self, alloc: Global) -> Result<Step, AllocError>
+        ensures { IfOk result (λ step. step ≡ self.now) }
+    {
         match self {
-            Step::Member(name) => Ok(Step::Member(String::from_str(alloc, name.as_str())?)),
+            Step::Member(name) => Ok(Step::Member(Text::from_str(alloc, name.as_str())?)),
             Step::Item(i) => Ok(Step::Item(*i)),
         }
     }
 }
 
 /// Copies of some steps.
-pub fn copies(alloc: Global, steps: &[Step]) -> Result<Vec<Step>, AllocError> {
+pub fn copies(alloc: Global, steps: &[Step]) -> Result<Vec<Step>, AllocError>
+    ensures { IfOk result (λ copied. copied.items ≡ steps.now) }
+{
     let mut copied = Vec::new(alloc);
     for step in steps {
         copied.push(step.copied(alloc)?)?;

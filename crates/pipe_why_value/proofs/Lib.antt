@@ -1,0 +1,2 @@
+-- parts of a walk one after another
+pub mod Looks

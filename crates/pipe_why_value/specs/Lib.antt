@@ -1,2 +1,4 @@
--- what may stand at a place of a job
-pub mod Wanted
+-- the places of a value, and what may be wrong there
+pub mod Places
+-- what a walk through a value tells
+pub mod Walks

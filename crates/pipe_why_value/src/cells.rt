@@ -1,12 +1,15 @@
 //! The bad cells of a column.
 
-ghost use Rattle.std.specs.Prelude.{◌<◌, ◌≤◌, length};
+ghost use Rattle.std.specs.Prelude.{◌≡◌, ◌<◌, ◌≤◌, false, length, IfOk, IfSome, OnOk, slice_index_or};
+ghost use Rattle.serde_json.specs.Data.{null};
 ghost use Rattle.pipe_value.specs.Items.{elements};
 ghost use Rattle.pipe_value.specs.View.{view};
+ghost use Rattle.pipe_job.specs.Shape.{is_cell};
+ghost use Rattle.pipe_why_value.specs.Places.{IsBadCell};
 
-use crate::spelled::is_cell;
 use pipe_frame::DataType;
 use pipe_value::Value;
+use pipe_why_wants::is_cell;
 use std::alloc::{AllocError, Global};
 
 /// The row of the first bad cell, and how many there are.
@@ -14,16 +17,6 @@ use std::alloc::{AllocError, Global};
 pub(crate) struct BadCells {
     pub(crate) first: Option<usize>,
     pub(crate) count: usize,
-}
-
-impl BadCells {
-    /// Takes note of a bad cell of a row.
-    fn note(&mut self, row: usize) {
-        if self.first.is_none() {
-            self.first = Some(row);
-        }
-        self.count = self.count.saturating_add(1);
-    }
 }
 
 /// Whether the item of an array at a place is a cell of a type.
@@ -34,6 +27,8 @@ fn is_cell_at(
     row: usize,
 ) -> Result<bool, AllocError>
     requires { row < length (elements (view values.now)) }
+    ensures { IfOk result (λ holds. holds ≡ false
+        → is_cell dtype (slice_index_or (elements (view values.now)) row null) ≡ false) }
 {
     match dtype {
         DataType::String => Ok(values.item_as_nullable_str(row).is_some()),
@@ -41,6 +36,28 @@ fn is_cell_at(
             let item = values.item(alloc, row)?;
             is_cell(alloc, dtype, item.value())
         }
+    }
+}
+
+impl BadCells {
+    /// Looks at the item of an array at a place, and takes note of it where it is no cell of a type.
+    fn look_at(
+        &mut self,
+        alloc: Global,
+        dtype: DataType,
+        values: &Value,
+        row: usize,
+    ) -> Result<(), AllocError>
+        requires { row < length (elements (view values.now)) }
+        ensures { OnOk result (IfSome self.old.first (IsBadCell dtype (view values.now))
+            → IfSome self.new.first (IsBadCell dtype (view values.now))) }
+    {
+        if is_cell_at(alloc, dtype, values, row)? {
+            return Ok(());
+        }
+        self.first = self.first.or(Some(row));
+        self.count = self.count.saturating_add(1);
+        Ok(())
     }
 }
 
@@ -52,15 +69,14 @@ pub(crate) fn bad_cells(
     count: usize,
 ) -> Result<BadCells, AllocError>
     requires { count ≤ length (elements (view values.now)) }
+    ensures { IfOk result (λ bad. IfSome bad.first (IsBadCell dtype (view values.now))) }
 {
     let mut bad = BadCells {
         first: None,
         count: 0,
     };
     for row in 0..count {
-        if !is_cell_at(alloc, dtype, values, row)? {
-            bad.note(row);
-        }
+        bad.look_at(alloc, dtype, values, row)?;
     }
     Ok(bad)
 }

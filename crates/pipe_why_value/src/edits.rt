@@ -1,14 +1,16 @@
 //! The rows of edits beside the columns of the tables that they edit.
 
-ghost use Rattle.std.specs.Prelude.{◌≤◌, length};
+ghost use Rattle.std.specs.Prelude.{◌≡◌, ◌<◌, ◌≤◌, IfOk, IfSome, OnOk, length};
 ghost use Rattle.pipe_value.specs.Items.{elements};
 ghost use Rattle.pipe_value.specs.View.{view};
+ghost use Rattle.pipe_why_value.specs.Places.{IsBadPair};
+ghost use Rattle.pipe_why_value.specs.Walks.{Looked};
 
-use crate::spelled::is_cell;
-use crate::walk::{Walk, Wrong, type_in, word_in};
-use crate::want::{Foreign, Want};
+use crate::walk::{Walk, type_in, word_in};
+use crate::wrong::Wrong;
 use pipe_frame::DataType;
 use pipe_value::Value;
+use pipe_why_wants::{Foreign, Want, is_cell};
 use std::alloc::{AllocError, Global};
 
 /// A column of a table: its name, and its type where that is told.
@@ -41,6 +43,22 @@ fn columns_of(alloc: Global, frame: &Value) -> Result<Vec<Column>, AllocError> {
         columns.push(Column { name, dtype })?;
     }
     Ok(columns)
+}
+
+/// The type of the column at a place, where it is told.
+fn type_at(columns: &[Column], place: usize) -> Option<DataType> {
+    match columns.get(place) {
+        Some(column) => column.dtype,
+        None => None,
+    }
+}
+
+/// The name of the column at a place, the empty one where there is none.
+fn name_at(alloc: Global, columns: &[Column], place: usize) -> Result<String, AllocError> {
+    match columns.get(place) {
+        Some(column) => String::from_str(alloc, column.name.as_str()),
+        None => Ok(String::new(alloc)),
+    }
 }
 
 impl Tables {
@@ -86,109 +104,107 @@ impl Tables {
     }
 }
 
-/// The place of the first of so many cells of a row that may not stand in its column.
+/// The place of the first of so many cells of a row that may not stand in its column, and the column's type.
 fn bad_cell(
     alloc: Global,
     columns: &[Column],
     row: &Value,
     count: usize,
-) -> Result<Option<usize>, AllocError>
+) -> Result<Option<(usize, DataType)>, AllocError>
     requires { count ≤ length (elements (view row.now)) }
+    ensures { IfOk result (λ bad. IfSome bad (IsBadPair (view row.now))) }
 {
     for place in 0..count {
-        if let Some(
-            Column {
-                name: _,
-                dtype: Some(dtype),
-            },
-        ) = columns.get(place)
-        {
+        if let Some(dtype) = type_at(columns, place) {
             let cell = row.item(alloc, place)?;
-            if !is_cell(alloc, *dtype, cell.value())? {
-                return Ok(Some(place));
+            if !is_cell(alloc, dtype, cell.value())? {
+                return Ok(Some((place, dtype)));
             }
         }
     }
     Ok(None)
 }
 
-/// What is wrong with the row of an edit of a table of some columns, if anything is, and at which cell.
-fn row_fault(
-    alloc: Global,
-    columns: &[Column],
-    row: &Value,
-) -> Result<Option<(Option<usize>, Wrong)>, AllocError> {
-    let Some(count) = row.array_len()? else {
-        return Ok(Some((None, Wrong::Other(Want::Foreign(Foreign::Row)))));
+/// Looks at so many cells of a row of a table of as many columns.
+fn look_at_cells(walk: &mut Walk, side: &Value, row: &Value, count: usize) -> Result<(), AllocError>
+    requires { count ≤ length (elements (view row.now)) }
+    ensures { OnOk result (Looked (view row.now) walk.old walk.new) }
+{
+    let alloc = walk.alloc;
+    let columns = walk.tables.columns(side);
+    let Some((place, dtype)) = bad_cell(alloc, columns, row, count)? else {
+        return Ok(());
     };
-    if columns.is_empty() {
-        return Ok(None);
-    }
-    if count != columns.len() {
-        let columns = columns.len();
-        return Ok(Some((
-            None,
-            Wrong::Width {
-                cells: count,
-                columns,
-            },
-        )));
-    }
-    let Some(place) = bad_cell(alloc, columns, row, count)? else {
-        return Ok(None);
-    };
-    match columns.get(place) {
-        Some(
-            Column {
-                name,
-                dtype: Some(dtype),
-            },
-        ) => Ok(Some((
-            Some(place),
-            Wrong::Cell {
-                dtype: *dtype,
-                column: String::from_str(alloc, name.as_str())?,
-                count: 1,
-            },
-        ))),
-        _ => Ok(None),
-    }
+    let column = name_at(alloc, columns, place)?;
+    walk.note_item(
+        place,
+        Wrong::Cell {
+            dtype,
+            column,
+            count: 1,
+        },
+    )
 }
 
 /// Looks at the row of an edit of the table that it names.
-fn look_at_row(walk: &mut Walk, side: &Value, row: &Value) -> Result<(), AllocError> {
-    match row_fault(walk.alloc, walk.tables.columns(side), row)? {
-        Some((Some(place), wrong)) => {
-            walk.enter_item(place)?;
-            walk.note(wrong)?;
-            walk.leave();
-            Ok(())
-        }
-        Some((None, wrong)) => walk.note(wrong),
-        None => Ok(()),
+fn look_at_row(walk: &mut Walk, side: &Value, row: &Value) -> Result<(), AllocError>
+    ensures { OnOk result (Looked (view row.now) walk.old walk.new) }
+{
+    let Some(cells) = row.array_len()? else {
+        return walk.note(Wrong::Other(Want::Foreign(Foreign::Row)));
+    };
+    let columns = walk.tables.columns(side).len();
+    if columns == 0 {
+        return Ok(());
     }
+    if cells != columns {
+        return walk.note(Wrong::Width { cells, columns });
+    }
+    look_at_cells(walk, side, row, cells)
 }
 
-/// Looks at the parts of an edit: the side, what is done, and the row.
-pub(crate) fn look_at_edit(walk: &mut Walk, value: &Value) -> Result<(), AllocError> {
+/// Looks at a word of an edit, which stands at a place.
+fn look_at_word(
+    walk: &mut Walk,
+    edit: &Value,
+    place: usize,
+    want: Foreign,
+) -> Result<(), AllocError>
+    requires { place < length (elements (view edit.now)) }
+    ensures { OnOk result (Looked (view edit.now) walk.old walk.new) }
+{
+    let word = edit.item(walk.alloc, place)?;
+    walk.enter_item(place)?;
+    walk.judge(Want::Foreign(want), word.value())?;
+    walk.leave();
+    Ok(())
+}
+
+/// Looks at the row of an edit.
+fn look_at_third(walk: &mut Walk, edit: &Value) -> Result<(), AllocError>
+    requires { length (elements (view edit.now)) ≡ 3 }
+    ensures { OnOk result (Looked (view edit.now) walk.old walk.new) }
+{
     let alloc = walk.alloc;
-    let Some(count) = value.array_len()? else {
-        return Ok(());
-    };
-    if count != 3 {
-        return walk.note(Wrong::Other(Want::Foreign(Foreign::Edit)));
-    }
-    let side = value.item(alloc, 0)?;
-    let word = value.item(alloc, 1)?;
-    let row = value.item(alloc, 2)?;
-    walk.enter_item(0)?;
-    walk.judge(Want::Foreign(Foreign::Side), side.value())?;
-    walk.leave();
-    walk.enter_item(1)?;
-    walk.judge(Want::Foreign(Foreign::Word), word.value())?;
-    walk.leave();
+    let side = edit.item(alloc, 0)?;
+    let row = edit.item(alloc, 2)?;
     walk.enter_item(2)?;
     look_at_row(walk, side.value(), row.value())?;
     walk.leave();
     Ok(())
+}
+
+/// Looks at the parts of an edit: the side, what is done, and the row.
+pub(crate) fn look_at_edit(walk: &mut Walk, value: &Value) -> Result<(), AllocError>
+    ensures { OnOk result (Looked (view value.now) walk.old walk.new) }
+{
+    let Some(count) = value.array_len()? else {
+        return Ok(());
+    };
+    if count != 3 {
+        return walk.note(Wrong::Parts(count));
+    }
+    look_at_word(walk, value, 0, Foreign::Side)?;
+    look_at_word(walk, value, 1, Foreign::Word)?;
+    look_at_third(walk, value)
 }

@@ -4,14 +4,14 @@
 
 mod cells;
 mod edits;
-mod expected;
-mod hints;
 mod input_kind;
+mod looking;
 mod misfit;
-mod spelled;
 mod table;
+mod told;
 mod walk;
-mod want;
+mod wrong;
 
 pub use input_kind::InputKind;
-pub use misfit::push_misfit;
+pub use misfit::{misfits_of, push_misfit};
+pub use wrong::{Misfit, Misfits, Wrong};

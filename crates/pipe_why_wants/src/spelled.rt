@@ -1,16 +1,16 @@
 //! Whether a value spells what is wanted of it, by the reader of jobs.
 
-ghost use Rattle.std.specs.Prelude.{◌≡◌, false, is_some, IfOk};
+ghost use Rattle.std.specs.Prelude.{◌≡◌, true, false, is_some, IfOk};
 ghost use Rattle.serde_json.specs.Find.{as_array};
 ghost use Rattle.pipe_value.specs.View.{view};
 ghost use Rattle.pipe_job.specs.Kinds.{is_version};
 ghost use Rattle.pipe_job.specs.Shape.{is_cell, is_couple, is_exactly};
-ghost use Rattle.pipe_why_value.specs.Wanted.{is_wanted};
+ghost use Rattle.pipe_why_wants.specs.Wanted.{Misspells, SpellsJob, is_wanted};
 
 use crate::want::{Foreign, Want};
 use pipe_expr::{Expr, JoinCoalesce, JoinType, NamedExpr, RenamePair};
 use pipe_frame::{Bytes, DataFrame, DataType, List, Series, Text};
-use pipe_job::{Misread, Spelled, two_items};
+use pipe_job::{Misread, Spelled, job_of, two_items};
 use pipe_plan::{IR, PlanSlice, RowsHint};
 use pipe_value::Value;
 use std::alloc::{AllocError, Global};
@@ -30,7 +30,7 @@ fn is_read<T: Spelled>(alloc: Global, value: &Value) -> Result<bool, AllocError>
 }
 
 /// Whether a value is a cell of a type.
-pub(crate) fn is_cell(alloc: Global, dtype: DataType, value: &Value) -> Result<bool, AllocError>
+pub fn is_cell(alloc: Global, dtype: DataType, value: &Value) -> Result<bool, AllocError>
     ensures { IfOk result (λ holds. holds ≡ false → is_cell dtype (view value.now) ≡ false) }
 {
     match dtype {
@@ -119,9 +119,23 @@ fn is_version(value: &Value) -> bool
 
 /// Whether a value is an object.
 fn is_object(value: &Value) -> bool
-    ensures { result ≡ false → is_wanted Want.Job (view value.now) ≡ false }
+    ensures { result ≡ false → is_wanted Want.Literal (view value.now) ≡ false }
 {
     matches!(value, Value::Object(_))
+}
+
+/// Whether a value spells a job.
+fn is_job(alloc: Global, value: &Value) -> Result<bool, AllocError>
+    ensures no { IfOk result (λ holds. holds ≡ false → Misspells Want.Job (view value.now)) }
+    ensures yes { IfOk result (λ holds. holds ≡ true → SpellsJob (view value.now)) }
+{
+    match job_of(alloc, value)? {
+        Some(job) => {
+            drop(job);
+            Ok(true)
+        }
+        None => Ok(false),
+    }
 }
 
 /// Whether a value is an array of two.
@@ -165,8 +179,10 @@ fn is_foreign_spelled(alloc: Global, foreign: Foreign, value: &Value) -> Result<
 
 /// Whether a value spells what is wanted. Of what has no reader of its own, as the two sides of an operator, only its
 /// outermost form is looked at.
-pub(crate) fn is_spelled(alloc: Global, want: Want, value: &Value) -> Result<bool, AllocError>
-    ensures { IfOk result (λ holds. holds ≡ false → is_wanted want (view value.now) ≡ false) }
+pub fn is_spelled(alloc: Global, want: Want, value: &Value) -> Result<bool, AllocError>
+    ensures no { IfOk result (λ holds. holds ≡ false → Misspells want (view value.now)) }
+    ensures job { IfOk result
+        (λ holds. holds ≡ true → want ≡ Want.Job → SpellsJob (view value.now)) }
 {
     match want {
         Want::Version => Ok(is_version(value)),
@@ -201,7 +217,8 @@ pub(crate) fn is_spelled(alloc: Global, want: Want, value: &Value) -> Result<boo
         Want::Frames => is_read::<List<DataFrame>>(alloc, value),
         Want::Sides => is_couple(alloc, value),
         Want::Cells(_) => is_array(value),
-        Want::Job | Want::Literal => Ok(is_object(value)),
+        Want::Job => is_job(alloc, value),
+        Want::Literal => Ok(is_object(value)),
         Want::Foreign(foreign) => is_foreign_spelled(alloc, foreign, value),
     }
 }

@@ -91,7 +91,7 @@ fn foreign_words(foreign: Foreign) -> &'static str {
 }
 
 /// Appends what may stand at a place.
-pub(crate) fn push_expected(out: &mut String, want: Want) -> Result<(), AllocError> {
+pub fn push_expected(out: &mut String, want: Want) -> Result<(), AllocError> {
     match want {
         Want::Type => push_one_of(out, TYPES),
         Want::Kind => push_one_of(out, KINDS),

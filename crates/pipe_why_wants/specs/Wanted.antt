@@ -1,13 +1,14 @@
 -- What may stand at a place of a job: the test of the spelling of each part, by the definitions of the reader of jobs.
-use Rattle.std.specs.Prelude.{Bool, is_some, codes, [], ◌∷◌}
+use Rattle.std.specs.Prelude.{◌≡◌, Bool, false, is_some, codes, List, ℕ, [], ◌∷◌, ◌++◌}
 use Rattle.serde_json.specs.Data.{Data}
 use Rattle.serde_json.specs.Find.{as_array}
+use Rattle.pipe_job.specs.JobSpelling.{Spells, Task}
 use Rattle.pipe_job.specs.Kinds.{is_node, is_version}
-use Rattle.pipe_job.specs.Shape.{is_cell, is_coalesce, is_column, is_couple, is_exactly, is_expr, is_frame, is_hint, is_how, is_list, is_maybe, is_named, is_object, is_one_of, is_pair, is_signed, is_slice, is_text, is_truth, is_type, is_unsigned, is_word, node_words}
-use Rattle.pipe_why_value.specs.declared.want.Foreign.{Foreign}
-use Rattle.pipe_why_value.specs.declared.want.Foreign.TheVariants as foreign
-use Rattle.pipe_why_value.specs.declared.want.Want.{Want}
-use Rattle.pipe_why_value.specs.declared.want.Want.TheVariants as want
+use Rattle.pipe_job.specs.Shape.{is_cell, is_coalesce, is_column, is_couple, is_exactly, is_expr, is_frame, is_hint, is_how, is_list, is_maybe, is_named, is_object, is_one_of, is_pair, is_signed, is_slice, is_text, is_truth, is_type, is_unsigned, is_word, node_words, unary_words, binary_words}
+use Rattle.pipe_why_wants.specs.declared.want.Foreign.{Foreign}
+use Rattle.pipe_why_wants.specs.declared.want.Foreign.TheVariants as foreign
+use Rattle.pipe_why_wants.specs.declared.want.Want.{Want}
+use Rattle.pipe_why_wants.specs.declared.want.Want.TheVariants as want
 
 -- whether a value spells a part of what another command reads: of the whole, of its two tables, its edits and their rows
 -- their outermost form
@@ -63,3 +64,16 @@ is_wanted want.NamedExprs d = is_list is_named d
 is_wanted want.Pair d = is_pair d
 is_wanted want.Pairs d = is_list is_pair d
 is_wanted (want.Foreign f) d = is_foreign f d
+
+-- the value spells a job
+abbrev pub SpellsJob : Data → Type 0
+SpellsJob d = (task : Task) × Spells d task
+
+-- the value doesn't spell what is wanted of it: a whole job is spelled by none, and anything else fails its test
+abbrev pub Misspells : Want → Data → Type 0
+Misspells want.Job d = (task : Task) → Spells d task → ⊥
+Misspells w d = is_wanted w d ≡ false
+
+-- the names that the one member of an expression may have
+abbrev pub form_words : List (List ℕ)
+form_words = codes "col" ∷ codes "lit" ∷ unary_words ++ binary_words

@@ -173,7 +173,7 @@ fn plain_hint(want: Want, found: Literal<'_>) -> Option<&'static str> {
 }
 
 /// Appends a line that helps with a value that stands where another should, where there is one.
-pub(crate) fn push_hint(
+pub fn push_hint(
     alloc: Global,
     out: &mut String,
     want: Want,
@@ -197,7 +197,7 @@ pub(crate) fn push_hint(
 }
 
 /// Appends a line with the nearest of some words, where one is near.
-pub(crate) fn push_nearest(
+pub fn push_nearest(
     alloc: Global,
     out: &mut String,
     word: &str,

@@ -1,10 +1,14 @@
 //! What may stand at a place of a job, or of what another command reads: one of these for each part of its spelling.
 
+ghost use Rattle.std.specs.Prelude.{◌≡◌, false, IfNone};
+ghost use Rattle.pipe_job.specs.Shape.{contains_text};
+ghost use Rattle.pipe_why_wants.specs.Wanted.{form_words};
+
 use pipe_frame::DataType;
 
 /// What may stand at a place of what another command reads, where no part of a job may.
 #[derive(Clone, Copy, Debug, PartialEq, Eq)]
-pub(crate) enum Foreign {
+pub enum Foreign {
     /// Two tables, a key and the numbers of a run.
     Reconciliation,
     /// Two tables, their join, a limit and edits of them.
@@ -29,7 +33,7 @@ pub(crate) enum Foreign {
 
 /// What may stand at a place.
 #[derive(Clone, Copy, Debug, PartialEq, Eq)]
-pub(crate) enum Want {
+pub enum Want {
     Job,
     Version,
     Whole32,
@@ -73,10 +77,10 @@ pub(crate) enum Want {
 }
 
 /// The name of a member, and what its value may be.
-pub(crate) type Member = (&'static str, Want);
+pub type Member = (&'static str, Want);
 
 /// The words of the kinds of nodes.
-pub(crate) const KINDS: &[&str] = &[
+pub const KINDS: &[&str] = &[
     "DataFrameScan",
     "Filter",
     "SimpleProjection",
@@ -90,24 +94,24 @@ pub(crate) const KINDS: &[&str] = &[
 ];
 
 /// The words of the kinds of joins.
-pub(crate) const HOWS: &[&str] = &["inner", "left", "full", "cross", "semi", "anti"];
+pub const HOWS: &[&str] = &["inner", "left", "full", "cross", "semi", "anti"];
 
 /// The words of what becomes of key columns.
-pub(crate) const COALESCES: &[&str] = &["JoinSpecific", "CoalesceColumns", "KeepColumns"];
+pub const COALESCES: &[&str] = &["JoinSpecific", "CoalesceColumns", "KeepColumns"];
 
 /// The words of types.
-pub(crate) const TYPES: &[&str] = &[
+pub const TYPES: &[&str] = &[
     "Int32", "Int64", "UInt32", "UInt64", "Boolean", "String", "Binary", "Int128",
 ];
 
 /// The words of the sides that are edited.
-pub(crate) const SIDES: &[&str] = &["left", "right"];
+pub const SIDES: &[&str] = &["left", "right"];
 
 /// The words of what an edit does.
-pub(crate) const EDITS: &[&str] = &["insert", "remove"];
+pub const EDITS: &[&str] = &["insert", "remove"];
 
 /// The names of the one member of an expression.
-pub(crate) const FORMS: &[&str] = &[
+pub const FORMS: &[&str] = &[
     "col",
     "lit",
     "add",
@@ -247,7 +251,7 @@ const SORT: &[Member] = &[
 ];
 
 /// The members of a node of this kind, the word of the kind alone where it is none.
-pub(crate) fn node_members(kind: &str) -> &'static [Member] {
+pub fn node_members(kind: &str) -> &'static [Member] {
     match kind {
         "DataFrameScan" => SCAN,
         "Filter" => FILTER,
@@ -264,7 +268,7 @@ pub(crate) fn node_members(kind: &str) -> &'static [Member] {
 }
 
 /// The members of an object that isn't a node or an expression, none of what is no object.
-pub(crate) fn object_members(want: Want) -> &'static [Member] {
+pub fn object_members(want: Want) -> &'static [Member] {
     match want {
         Want::Job => JOB,
         Want::Foreign(Foreign::Reconciliation) => RECONCILIATION,
@@ -280,7 +284,9 @@ pub(crate) fn object_members(want: Want) -> &'static [Member] {
 }
 
 /// What an expression's one member of this name may be.
-pub(crate) fn form(name: &str) -> Option<Want> {
+pub fn form(name: &str) -> Option<Want>
+    ensures { IfNone result (contains_text form_words name.now ≡ false) }
+{
     match name {
         "col" => Some(Want::Text),
         "lit" => Some(Want::Literal),
@@ -303,7 +309,7 @@ pub(crate) fn form(name: &str) -> Option<Want> {
 }
 
 /// What each item of a list may be, none of what is no list.
-pub(crate) fn item_want(want: Want) -> Option<Want> {
+pub fn item_want(want: Want) -> Option<Want> {
     match want {
         Want::Frames => Some(Want::Frame),
         Want::Columns => Some(Want::Column),
@@ -321,7 +327,7 @@ pub(crate) fn item_want(want: Want) -> Option<Want> {
 }
 
 /// What the two items of an array of two may be, none of what is no such array.
-pub(crate) fn couple_wants(want: Want) -> Option<(Want, Want)> {
+pub fn couple_wants(want: Want) -> Option<(Want, Want)> {
     match want {
         Want::Sides => Some((Want::Expr, Want::Expr)),
         Want::Foreign(Foreign::TwoFrames) => Some((Want::Frame, Want::Frame)),
@@ -332,7 +338,7 @@ pub(crate) fn couple_wants(want: Want) -> Option<(Want, Want)> {
 }
 
 /// The type of a word.
-pub(crate) fn type_named(word: &str) -> Option<DataType> {
+pub fn type_named(word: &str) -> Option<DataType> {
     match word {
         "Int32" => Some(DataType::Int32),
         "Int64" => Some(DataType::Int64),

@@ -1,0 +1,52 @@
+use Rattle.std.proofs.Common.{◌+◌, ◌*◌}
+use Rattle.pipe_value.specs.View.{view}
+use Rattle.pipe_why_value.specs.Walks.{Looked}
+use Rattle.pipe_why_value.proofs.looking.+walk.Given as goal
+
+abbrev pub decreases-look_at : goal.decreases-look_at
+decreases-look_at l = 20 * l.depth + 2
+
+abbrev pub decreases-parts : goal.decreases-parts
+decreases-parts l = 20 * l.depth + 1
+
+abbrev pub decreases-object : goal.decreases-object
+decreases-object l = 20 * l.depth + 15
+
+abbrev pub decreases-array : goal.decreases-array
+decreases-array l = 20 * l.depth + 15
+
+abbrev pub decreases-members : goal.decreases-members
+decreases-members l = 20 * l.depth + 14
+
+abbrev pub decreases-expr : goal.decreases-expr
+decreases-expr l = 20 * l.depth + 14
+
+abbrev pub decreases-items : goal.decreases-items
+decreases-items l = 20 * l.depth + 14
+
+abbrev pub decreases-placed_members : goal.decreases-placed_members
+decreases-placed_members l = 20 * l.depth + 13
+
+abbrev pub decreases-form_member : goal.decreases-form_member
+decreases-form_member l = 20 * l.depth + 13
+
+abbrev pub decreases-member : goal.decreases-member
+decreases-member l = 20 * l.depth + 12
+
+abbrev pub decreases-form_value : goal.decreases-form_value
+decreases-form_value l = 20 * l.depth + 12
+
+abbrev pub decreases-item : goal.decreases-item
+decreases-item l = 20 * l.depth + 12
+
+abbrev pub decreases-member_value : goal.decreases-member_value
+decreases-member_value l = 20 * l.depth + 11
+
+abbrev pub invariant-items-loop-i : goal.invariant-items-loop-i
+invariant-items-loop-i l = Looked (view l.value) l.fn.walk l.walk
+
+abbrev pub invariant-placed_members-loop-placed : goal.invariant-placed_members-loop-placed
+invariant-placed_members-loop-placed l = Looked (view l.value) l.fn.walk l.walk
+
+abbrev pub invariant-expr-loop-name : goal.invariant-expr-loop-name
+invariant-expr-loop-name l = Looked (view l.value) l.fn.walk l.walk

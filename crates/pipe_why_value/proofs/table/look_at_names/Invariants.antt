@@ -1,0 +1,6 @@
+use Rattle.pipe_value.specs.View.{view}
+use Rattle.pipe_why_value.specs.Walks.{Looked}
+use Rattle.pipe_why_value.proofs.table.look_at_names.Given as goal
+
+abbrev pub invariant-loop-i : goal.invariant-loop-i
+invariant-loop-i l = Looked (view l.columns) l.fn.walk l.walk

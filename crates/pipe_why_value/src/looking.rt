@@ -1,0 +1,368 @@
+//! The walk through a value that should spell a job, or what another command reads, in the order of its text: the first
+//! place at which something else stands than may, and how many further ones there are.
+
+ghost use Rattle.std.specs.Prelude.{◌≡◌, ◌<◌, ◌≤◌, false, None, length, OnOk, string_bytes};
+ghost use Rattle.pipe_value.specs.Items.{elements};
+ghost use Rattle.pipe_value.specs.View.{view};
+ghost use Rattle.pipe_why_wants.specs.Wanted.{SpellsJob};
+ghost use Rattle.pipe_why_value.specs.Places.{is_known, last_name};
+ghost use Rattle.pipe_why_value.specs.Walks.{Looked};
+
+use crate::edits::look_at_edit;
+use crate::table::look_at_table;
+use crate::walk::{Walk, type_in, word_in};
+use crate::wrong::Wrong;
+use pipe_frame::DataType;
+use pipe_value::Value;
+use pipe_why_text::{Layout, Placed};
+use pipe_why_wants::{
+    Foreign, Member, Want, couple_wants, form, item_want, node_members, object_members,
+};
+use std::alloc::AllocError;
+
+/// What is wanted of a member of an object.
+#[derive(Clone, Copy)]
+enum MemberWant {
+    Is(Want),
+    /// The cells of a column.
+    Cells(DataType),
+    /// Nothing, since the type isn't told.
+    Untold,
+    /// No such member may be there.
+    Unknown,
+}
+
+/// What is wanted of a member that is told so, beside the type that its object tells.
+fn want_beside(want: Want, dtype: Option<DataType>) -> MemberWant
+    ensures { result ≡ MemberWant.Unknown → ⊥ }
+{
+    match (want, dtype) {
+        (Want::Cells(_), Some(dtype)) => MemberWant::Cells(dtype),
+        (Want::Cell(_), Some(dtype)) => MemberWant::Is(Want::Cell(dtype)),
+        (Want::Cells(_), None) => MemberWant::Untold,
+        (Want::Cell(_), None) => MemberWant::Untold,
+        _ => MemberWant::Is(want),
+    }
+}
+
+/// What is wanted of a member of an object that may have these.
+fn member_want(known: &[Member], name: &str, parent: &Value) -> MemberWant
+    ensures { result ≡ MemberWant.Unknown → is_known known.now name.now ≡ false }
+{
+    for (member, want) in known {
+        if *member == name {
+            return want_beside(*want, type_in(parent));
+        }
+    }
+    MemberWant::Unknown
+}
+
+/// Looks at a value, and first at its parts.
+#[cycle(walk)]
+pub(crate) fn look_at(
+    walk: &mut Walk,
+    want: Want,
+    value: &Value,
+    layout: Option<&Layout>,
+    depth: usize,
+) -> Result<(), AllocError>
+    ensures looked { OnOk result (Looked (view value.now) walk.old walk.new) }
+    ensures job { OnOk result
+        (walk.new.first ≡ None → want ≡ Want.Job → SpellsJob (view value.now)) }
+{
+    let before = walk.found;
+    parts(walk, want, value, layout, depth)?;
+    if walk.found != before && walk.first.is_some() {
+        return Ok(());
+    }
+    walk.judge(want, value)
+}
+
+/// Looks at the parts of a value, unless it is deeper than any that was read.
+#[cycle(walk)]
+fn parts(
+    walk: &mut Walk,
+    want: Want,
+    value: &Value,
+    layout: Option<&Layout>,
+    depth: usize,
+) -> Result<(), AllocError>
+    ensures { OnOk result (Looked (view value.now) walk.old walk.new) }
+{
+    let Some(depth) = depth.checked_sub(1) else {
+        return Ok(());
+    };
+    match value {
+        Value::Object(_) => object(walk, want, value, layout, depth),
+        Value::Array(_) | Value::Packed(..) => array(walk, want, value, layout, depth),
+        Value::Null | Value::Bool(_) | Value::Number(_) | Value::String(_) => Ok(()),
+    }
+}
+
+/// The members that an object may have, and has to have.
+fn known_members(want: Want, value: &Value) -> &'static [Member] {
+    match want {
+        Want::Node => node_members(word_in(value, "node")),
+        _ => object_members(want),
+    }
+}
+
+/// Looks at the members of an object.
+#[cycle(walk)]
+fn object(
+    walk: &mut Walk,
+    want: Want,
+    value: &Value,
+    layout: Option<&Layout>,
+    depth: usize,
+) -> Result<(), AllocError>
+    ensures { OnOk result (Looked (view value.now) walk.old walk.new) }
+{
+    if want == Want::Expr {
+        return expr(walk, value, layout, depth);
+    }
+    let before = walk.found;
+    members(walk, known_members(want, value), value, layout, depth)?;
+    if want == Want::Frame && walk.found == before {
+        return look_at_table(walk, value);
+    }
+    Ok(())
+}
+
+/// Looks at the members of an object, which may have these, and has to have each.
+#[cycle(walk)]
+fn members(
+    walk: &mut Walk,
+    known: &'static [Member],
+    value: &Value,
+    layout: Option<&Layout>,
+    depth: usize,
+) -> Result<(), AllocError>
+    ensures { OnOk result (Looked (view value.now) walk.old walk.new) }
+{
+    if known.is_empty() {
+        return Ok(());
+    }
+    placed_members(walk, known, value, layout, depth)?;
+    walk.missing(known, value)
+}
+
+/// Looks at the members of an object in the order of the text.
+#[cycle(walk)]
+fn placed_members(
+    walk: &mut Walk,
+    known: &'static [Member],
+    value: &Value,
+    layout: Option<&Layout>,
+    depth: usize,
+) -> Result<(), AllocError>
+    ensures { OnOk result (Looked (view value.now) walk.old walk.new) }
+{
+    let Some(layout) = layout else {
+        return Ok(());
+    };
+    for placed in layout.members() {
+        member(walk, known, placed, value, depth)?;
+    }
+    Ok(())
+}
+
+/// Looks at a member of an object, where it counts.
+#[cycle(walk)]
+fn member(
+    walk: &mut Walk,
+    known: &'static [Member],
+    placed: &Placed,
+    parent: &Value,
+    depth: usize,
+) -> Result<(), AllocError>
+    ensures { OnOk result (Looked (view parent.now) walk.old walk.new) }
+{
+    let Some(value) = parent.get(placed.name.as_str()) else {
+        return Ok(());
+    };
+    if placed.stands_again {
+        return Ok(());
+    }
+    let repeated = walk.enter_member(placed)?;
+    member_value(walk, known, placed, parent, value, depth)?;
+    walk.leave_member(repeated);
+    Ok(())
+}
+
+/// Looks at the value of a member of an object.
+#[cycle(walk)]
+fn member_value(
+    walk: &mut Walk,
+    known: &'static [Member],
+    placed: &Placed,
+    parent: &Value,
+    value: &Value,
+    depth: usize,
+) -> Result<(), AllocError>
+    ensures { OnOk result (last_name walk.old.steps.items ≡ string_bytes placed.now.name
+        → Looked (view value.now) walk.old walk.new) }
+{
+    match member_want(known, placed.name.as_str(), parent) {
+        MemberWant::Cells(dtype) => walk.cells(dtype, parent, value),
+        MemberWant::Is(want) => look_at(walk, want, value, Some(&placed.layout), depth),
+        MemberWant::Untold => Ok(()),
+        // Where a node's kind isn't told, its members aren't known.
+        MemberWant::Unknown => if 1 < known.len() {
+            walk.note(Wrong::Unknown(known))
+        } else {
+            Ok(())
+        },
+    }
+}
+
+/// The layout of an object's last member.
+fn last_layout(layout: Option<&Layout>) -> Option<&Layout> {
+    match layout {
+        Some(layout) => match layout.members().last() {
+            Some(placed) => Some(&placed.layout),
+            None => None,
+        },
+        None => None,
+    }
+}
+
+/// Looks at the member of a name of an expression.
+#[cycle(walk)]
+fn form_member(
+    walk: &mut Walk,
+    name: &str,
+    value: &Value,
+    layout: Option<&Layout>,
+    depth: usize,
+) -> Result<(), AllocError>
+    ensures { OnOk result (Looked (view value.now) walk.old walk.new) }
+{
+    let Some(inner) = value.get(name) else {
+        return Ok(());
+    };
+    walk.enter(name)?;
+    form_value(walk, name, inner, last_layout(layout), depth)?;
+    walk.leave();
+    Ok(())
+}
+
+/// Looks at the value of the member of a name of an expression.
+#[cycle(walk)]
+fn form_value(
+    walk: &mut Walk,
+    name: &str,
+    value: &Value,
+    layout: Option<&Layout>,
+    depth: usize,
+) -> Result<(), AllocError>
+    ensures { OnOk result (last_name walk.old.steps.items ≡ name.now
+        → Looked (view value.now) walk.old walk.new) }
+{
+    match form(name) {
+        Some(want) => look_at(walk, want, value, layout, depth),
+        None => walk.note(Wrong::UnknownForm),
+    }
+}
+
+/// Looks at the one member of an expression.
+#[cycle(walk)]
+fn expr(
+    walk: &mut Walk,
+    value: &Value,
+    layout: Option<&Layout>,
+    depth: usize,
+) -> Result<(), AllocError>
+    ensures { OnOk result (Looked (view value.now) walk.old walk.new) }
+{
+    let Value::Object(members) = value else {
+        return Ok(());
+    };
+    if members.len() != 1 {
+        return walk.note(Wrong::Members(members.len()));
+    }
+    for (name, _) in members.iter() {
+        form_member(walk, name.as_str(), value, layout, depth)?;
+    }
+    Ok(())
+}
+
+/// Looks at the items of an array.
+#[cycle(walk)]
+fn array(
+    walk: &mut Walk,
+    want: Want,
+    value: &Value,
+    layout: Option<&Layout>,
+    depth: usize,
+) -> Result<(), AllocError>
+    ensures { OnOk result (Looked (view value.now) walk.old walk.new) }
+{
+    if want == Want::Foreign(Foreign::Edit) {
+        return look_at_edit(walk, value);
+    }
+    let Some(count) = value.array_len()? else {
+        return Ok(());
+    };
+    if let Some((first, second)) = couple_wants(want) {
+        if count == 2 {
+            item(walk, first, value, 0, layout, depth)?;
+            return item(walk, second, value, 1, layout, depth);
+        }
+        if want == Want::Foreign(Foreign::TwoFrames) {
+            return walk.note(Wrong::Frames(count));
+        }
+        return Ok(());
+    }
+    match item_want(want) {
+        Some(want) => items(walk, want, value, count, layout, depth),
+        None => Ok(()),
+    }
+}
+
+/// Looks at so many items of an array.
+#[cycle(walk)]
+fn items(
+    walk: &mut Walk,
+    want: Want,
+    value: &Value,
+    count: usize,
+    layout: Option<&Layout>,
+    depth: usize,
+) -> Result<(), AllocError>
+    requires { count ≤ length (elements (view value.now)) }
+    ensures { OnOk result (Looked (view value.now) walk.old walk.new) }
+{
+    for i in 0..count {
+        item(walk, want, value, i, layout, depth)?;
+    }
+    Ok(())
+}
+
+/// The layout of an item of an array.
+fn item_layout(layout: Option<&Layout>, i: usize) -> Option<&Layout> {
+    match layout {
+        Some(layout) => layout.item(i),
+        None => None,
+    }
+}
+
+/// Looks at an item of an array.
+#[cycle(walk)]
+fn item(
+    walk: &mut Walk,
+    want: Want,
+    value: &Value,
+    i: usize,
+    layout: Option<&Layout>,
+    depth: usize,
+) -> Result<(), AllocError>
+    requires { i < length (elements (view value.now)) }
+    ensures { OnOk result (Looked (view value.now) walk.old walk.new) }
+{
+    let found = value.item(walk.alloc, i)?;
+    walk.enter_item(i)?;
+    look_at(walk, want, found.value(), item_layout(layout, i), depth)?;
+    walk.leave();
+    Ok(())
+}

@@ -1,0 +1,2 @@
+-- what may stand at a place of a job
+pub mod Wanted
