@@ -28,17 +28,23 @@ def rows(text):
             yield NAME.findall(cells[1]), line
 
 
+def changes(text):
+    """The crates that a row is about which tells the files of a change, and its text."""
+    for line in text.split("\n"):
+        if line.startswith(("| pipe_", "| worked_")):
+            yield re.findall(r"\w+", line.split("|")[1]), line
+
+
 def faults():
     text = (ROOT / "docs" / "MAP.md").read_text(encoding="utf-8")
-    order, told = crates(), []
-    for names, row in rows(text):
-        told += names
+    order, told = crates(), [name for names, _ in rows(text) for name in names]
+    for names, row in [*rows(text), *changes(text)]:
+        yield from (f"{name}: no crate" for name in names if name not in order)
         for path in FILE.findall(row):
             # a row about several crates has the files of one of them
             if not any((ROOT / "crates" / name / path).exists() for name in names):
                 yield f"{', '.join(names)}: no file {path}"
     yield from (f"{name}: told of {told.count(name)} times" for name in order if told.count(name) != 1)
-    yield from (f"{name}: no crate" for name in told if name not in order)
     known = [name for name in told if name in order]
     for one, other in zip(known, known[1:]):
         if order.index(one) > order.index(other):
