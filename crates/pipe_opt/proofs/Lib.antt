@@ -12,4 +12,5 @@ pub mod Remade
 pub mod Whole
 pub mod Seen
 pub mod Steps
+pub mod Taken
 pub mod Readings

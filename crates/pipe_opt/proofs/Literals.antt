@@ -16,13 +16,13 @@ use Rattle.pipe_plan.specs.Schemas.{join_over}
 use Rattle.pipe_plan.specs.declared.ir.PlanSlice.{PlanSlice}
 use Rattle.pipe_rules.specs.Names.{with_names}
 use Rattle.pipe_rules.specs.Conjuncts.{conjuncts_of, all_conjuncts}
-use Rattle.pipe_rules.specs.Placing.{Placing, Above, OnInputs, OnLeft, OnRight, reads_only, on_inputs_if, is_plain, plain_name, below_select, is_passed_on, below_hstack, old_name, below_function, is_not_in, right_name, on_left_or, on_right_or, on_left, on_right, below_join, below_slice, placing}
+use Rattle.pipe_rules.specs.Placing.{Placing, Above, OnInputs, OnLeft, OnRight, reads_only, on_inputs_if, is_plain, plain_name, is_passed_on, old_name, below_function, is_not_in, right_name, on_left_or, on_right_or, on_left, on_right, below_join, below_slice, placing}
 use Rattle.pipe_rules.specs.Placed.{first_input, second_input, placing_at}
-use Rattle.pipe_rules.specs.Parted.{Parts, above_in, inputs_in, left_in, right_in, is_join, part_for, parted}
+use Rattle.pipe_rules.specs.Parted.{above_in, inputs_in, left_in, right_in, is_join, part_for, parted}
 use Rattle.pipe_rules.proofs.Conjoined.{all-append}
 use Rattle.pipe_frame.specs.Schema.{has_name, names_of}
 use Rattle.pipe_opt.specs.Renumbered.{with_inputs}
-use Rattle.pipe_opt.specs.Literals.{LiteralTest, literals_pass, named_literals_pass, node_literals_pass}
+use Rattle.pipe_opt.specs.Literals.{LiteralTest, literals_pass, node_literals_pass}
 
 -- ---- tests of lists
 

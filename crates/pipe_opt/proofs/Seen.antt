@@ -1,5 +1,5 @@
 -- The schemas over which the conjuncts of a node are placed.
-use Rattle.std.proofs.Common.{◌≡◌, ℕ, zero, suc, ◌+◌, ◌<◌, arith, length, take, get_or, true, false, eqb, List, [], ◌∷◌, ◌++◌, map, refl, ap, sym, ◌∙◌, append-nil, append_assoc}
+use Rattle.std.proofs.Common.{◌≡◌, ℕ, true, false, eqb, List, [], ◌∷◌, ◌++◌, map, refl, ap, sym, ◌∙◌, append-nil, append_assoc}
 use Rattle.std.specs.Prelude.{◌||◌}
 use Rattle.std.specs.List.{flat_map}
 use Rattle.pipe_frame.specs.declared.field.Field.{Field}
@@ -13,6 +13,7 @@ use Rattle.pipe_plan.specs.Faults.{IsWellFormed}
 use Rattle.pipe_check.proofs.Walks.{member, itself}
 use Rattle.pipe_rules.specs.Placing.{Placing, placing}
 use Rattle.pipe_rules.specs.Placed.{placing_at}
+use Rattle.pipe_place.proofs.Placed.{map-push}
 use Rattle.pipe_rules.specs.Parted.{Parts, parts_of, above_in, inputs_in, left_in, right_in, parted, one_more}
 use Rattle.pipe_opt.specs.Renumbered.{first_or, second_or}
 use Rattle.pipe_opt.proofs.Granted.{granted}
@@ -73,7 +74,7 @@ flat-push : {A B : Type 0} (f : A → List B) (xs : List A) (x : A) → flat_map
 flat-push f [] x = append-nil (f x)
 flat-push f (y ∷ xs) x = ap (λ l. f y ++ l) (flat-push f xs x) ∙ sym (append_assoc (f y) (flat_map f xs) (f x))
 
-pub parts-push : (ps : List Placing) (p : Placing) → parts_of (ps ++ p ∷ []) ≡ one_more (parts_of ps) p
+parts-push : (ps : List Placing) (p : Placing) → parts_of (ps ++ p ∷ []) ≡ one_more (parts_of ps) p
 parts-push ps p =
     let make : List Formula → List Formula → List Formula → List Formula → Parts = λ a b c d. record { above = a; inputs = b; left = c; right = d } in
     let all = ps ++ p ∷ [] in
@@ -83,16 +84,9 @@ parts-push ps p =
     ∙ ap (λ c. make (old.above ++ above_in p) (old.inputs ++ inputs_in p) c (flat_map right_in all)) (flat-push left_in ps p)
     ∙ ap (λ d. make (old.above ++ above_in p) (old.inputs ++ inputs_in p) (old.left ++ left_in p) d) (flat-push right_in ps p)
 
-two-maps : {A : Type 0} (pl : Formula → Placing) (g : A → Formula) (xs : List A) (i : ℕ) (d : A) → i < length xs → map pl (map g (take (suc i) xs)) ≡ map pl (map g (take i xs)) ++ pl (g (get_or xs i d)) ∷ []
-two-maps pl g [] i d lt = absurd (omega arith)
-two-maps pl g (x ∷ xs) zero d lt = refl
-two-maps pl g (x ∷ xs) (suc i) d lt = ap (λ l. pl (g x) ∷ l) (two-maps pl g xs i d (omega arith))
-
-pub parts-next : {A : Type 0} (pl : Formula → Placing) (g : A → Formula) (xs : List A) (i : ℕ) (x : A) (old new : Parts) (p : Placing) (c : Formula) → old ≡ parts_of (map pl (map g (take i xs))) → i < length xs → x ≡ get_or xs i x → c ≡ g x → p ≡ pl c → new ≡ one_more old p → new ≡ parts_of (map pl (map g (take (i + 1) xs)))
-parts-next pl g xs i x old new p c so_far lt is copy placed more =
+pub next-parted : {A : Type 0} (f : A → Placing) (yielded : List A) (x : A) (old new : Parts) → old ≡ parts_of (map f yielded) → new ≡ one_more old (f x) → new ≡ parts_of (map f (yielded ++ x ∷ []))
+next-parted f yielded x old new so_far more =
     more
-    ∙ ap (λ q. one_more old q) (placed ∙ ap pl (copy ∙ ap g is))
-    ∙ ap (λ q. one_more q (pl (g (get_or xs i x)))) so_far
-    ∙ sym (parts-push (map pl (map g (take i xs))) (pl (g (get_or xs i x))))
-    ∙ ap parts_of (sym (two-maps pl g xs i x lt))
-    ∙ (let e : suc i ≡ i + 1 = omega arith in ap (λ k. parts_of (map pl (map g (take k xs)))) e)
+    ∙ ap (λ q. one_more q (f x)) so_far
+    ∙ sym (parts-push (map f yielded) (f x))
+    ∙ ap parts_of (sym (map-push f yielded x))

@@ -1,5 +1,5 @@
 -- The literals of nodes.
-use Rattle.std.specs.Prelude.{◌≡◌, ℕ, List, Bool, true, ◌&&◌}
+use Rattle.std.specs.Prelude.{◌≡◌, List, Bool, true, ◌&&◌}
 use Rattle.std.specs.List.{list_all}
 use Rattle.pipe_frame.specs.declared.any_value.AnyValue.{AnyValue}
 use Rattle.pipe_frame.specs.declared.data_type.DataType.{DataType}

@@ -95,7 +95,7 @@ fn part_at(
 {
     let left = plan.schema(first_or(n, inputs));
     let right = plan.schema(second_or(n, inputs));
-    Ok(part(alloc, node, left, right, conjuncts.as_slice())?)
+    Ok(part(alloc, node, left, right, conjuncts)?)
 }
 
 /// Puts a copy of a node over new inputs behind others, and a filter of some conjuncts on it, where there are any; tells
@@ -136,7 +136,7 @@ fn rewrite_inputs(
     n: u32,
     node: &IR,
     inputs: &[u32],
-    parts: &Parted,
+    parts: &mut Parted,
 ) -> Result<List<u32>, PipeError>
     requires good { IsWellFormed (plan_of plan.now.arena) plan.now.root }
     requires frames { FramesFit (plan_of plan.now.arena) }
@@ -145,16 +145,17 @@ fn rewrite_inputs(
     requires inputs { inputs.now ≡ inputs_of (node_of node.now) }
     requires typed { (i : ℕ) → is_input (node_of node.now) i ≡ true
         → AllByRecursion (IsConjunct (schema_of (plan_of plan.now.arena) i))
-        (part_for (node_of node.now) (parts_in parts.now) i) }
+        (part_for (node_of node.now) (parts_in parts.old) i) }
     requires room { length nodes.old + 2 * sum_of (size_of (plan_of plan.now.arena).nodes) inputs.now
         ≤ most_nodes }
+    ensures above { parts.new.above ≡ parts.old.above }
     ensures err { IfErr result (λ e. e ≡ error.Memory) }
     ensures rewritten { IfOk result (AreRewritten (plan_of plan.now.arena) (map node_of nodes.old)
-        (map node_of nodes.new) (node_of node.now) (parts_in parts.now) inputs.now) }
+        (map node_of nodes.new) (node_of node.now) (parts_in parts.old) inputs.now) }
 {
     let mut numbers = List::new(alloc);
     for input in inputs {
-        let share = parts.copy_for(alloc, node, *input)?;
+        let share = parts.take_for(alloc, node, *input)?;
         let number = rewrite(alloc, plan, nodes, *input, share)?;
         numbers.push(number)?;
     }
@@ -185,8 +186,8 @@ fn rewrite_node(
 {
     let inputs = inputs(alloc, node)?;
     let read = inputs.as_slice();
-    let parts = part_at(alloc, plan, n, node, read, conjuncts)?;
-    let numbers = rewrite_inputs(alloc, plan, nodes, n, node, read, &parts)?;
+    let mut parts = part_at(alloc, plan, n, node, read, conjuncts)?;
+    let numbers = rewrite_inputs(alloc, plan, nodes, n, node, read, &mut parts)?;
     Ok(push_over(
         alloc,
         nodes,

@@ -1,4 +1,4 @@
 -- the placing that a value of the code is
 pub mod Placements
--- the join of two sides
-pub mod Sides
+-- where conjuncts go, by names that are looked up
+pub mod Through

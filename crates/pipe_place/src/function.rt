@@ -1,93 +1,138 @@
 //! Conjuncts on a function over rows.
 
-ghost use Rattle.std.specs.Prelude.{◌≡◌, IfOk};
-ghost use Rattle.std.specs.Option.{option_copied};
+ghost use Rattle.std.specs.Prelude.{◌≡◌, map, IfOk};
 ghost use Rattle.pipe_frame.specs.Schema.{has_name};
 ghost use Rattle.pipe_expr.specs.Formula.{formula_of};
 ghost use Rattle.pipe_expr.specs.Projections.{renamed};
-ghost use Rattle.pipe_rules.specs.Placing.{below_function, old_name};
+ghost use Rattle.pipe_rules.specs.Placing.{below_function};
 ghost use Rattle.pipe_place.specs.Placements.{placing_of};
+ghost use Rattle.pipe_place.specs.Through.{through_index, old_pair};
 
 use crate::naming::{Naming, with_names};
+use crate::passage::{Passage, place_each};
 use crate::placement::Placement;
 use crate::reading::{NameTest, reads_only};
 use pipe_expr::{Expr, FunctionIR, RenamePair};
-use pipe_frame::{Schema, Text, TryClone};
+use pipe_fields::NameIndex;
+use pipe_frame::{List, Schema, Text, TryClone};
 use std::alloc::{AllocError, Global};
 
 /// Whether a name stands among some names.
-fn is_among(names: &[Text], name: &Text) -> bool
+#[tactic(auto, using(crate::proofs::Selects::expr_rules))]
+fn is_among(names: &NameIndex<Text>, name: &Text) -> bool
     ensures { result ≡ has_name names.now name.now }
 {
-    for other in names {
-        if other.is_same(name) {
-            return true;
-        }
+    match names.first(name) {
+        Some(_) => true,
+        None => false,
     }
-    false
 }
 
-/// Some names, among which a name is looked up.
+/// The index columns of an unpivot, whose conjuncts go onto its input.
 #[derive(Drop)]
-struct Among<'a> {
-    names: &'a [Text],
+struct IndexColumns<'a> {
+    names: NameIndex<'a, Text>,
 }
 
-impl<'a> NameTest for Among<'a> {
+impl<'a> NameTest for IndexColumns<'a> {
     ghost use Rattle.pipe_frame.specs.Schema.{has_name};
 
-    ghost passes = { λ a. has_name a.names.now };
+    ghost passes = { λ i. has_name i.names };
 
     fn passes(&self, name: &Text) -> bool {
-        is_among(self.names, name)
+        is_among(&self.names, name)
+    }
+}
+
+impl<'a> Passage for IndexColumns<'a> {
+    ghost use Rattle.pipe_place.specs.Through.{through_index};
+
+    ghost placing = { λ i. through_index i.names };
+
+    fn place(&self, _alloc: Global, conjunct: Expr) -> Result<Placement, AllocError> {
+        Ok(through_unpivot(self, conjunct))
+    }
+}
+
+/// Where a conjunct on an unpivot goes: onto the input, where it reads index columns alone.
+#[tactic(auto, using(crate::proofs::Placings::placing_rules))]
+fn through_unpivot(index: &IndexColumns, conjunct: Expr) -> Placement
+    ensures { placing_of result ≡ through_index index.now.names (formula_of conjunct) }
+{
+    if reads_only(&conjunct, index) {
+        Placement::OnInputs(conjunct)
+    } else {
+        Placement::Above(conjunct)
     }
 }
 
 /// The name that a column gets: that of the first renaming of it.
-fn new_name<'a>(pairs: &'a [RenamePair], name: &'a Text) -> &'a Text
-    ensures { result.now ≡ renamed pairs.now name.now }
+#[tactic(auto, using(crate::proofs::Selects::expr_rules))]
+pub(crate) fn new_name(pairs: &NameIndex<RenamePair>, name: &Text) -> Result<Text, AllocError>
+    ensures { IfOk result (λ made. made ≡ renamed pairs.now name.now) }
 {
-    for pair in pairs {
-        if pair.existing.is_same(name) {
-            return &pair.new_name;
-        }
+    match pairs.first(name) {
+        Some(pair) => pair.new_name.try_clone(),
+        None => name.try_clone(),
     }
-    name
 }
 
-/// Renamings of the columns of an input.
+/// The names that renamed columns get, each with the old one.
+fn old_names(
+    alloc: Global,
+    pairs: &NameIndex<RenamePair>,
+    input: &Schema,
+) -> Result<List<RenamePair>, AllocError>
+    ensures { IfOk result (λ old_names. old_names ≡ map (old_pair pairs.now) input.now) }
+{
+    let mut old_names = List::new(alloc);
+    for field in input.fields() {
+        old_names.push(RenamePair {
+            existing: new_name(pairs, &field.name)?,
+            new_name: field.name.try_clone()?,
+        })?;
+    }
+    Ok(old_names)
+}
+
+/// Renamed columns, by the names that they get.
 #[derive(Drop)]
 struct Renamings<'a> {
-    pairs: &'a [RenamePair],
-    input: &'a Schema,
+    old_names: NameIndex<'a, RenamePair>,
 }
 
 impl<'a> Naming for Renamings<'a> {
-    ghost use Rattle.pipe_rules.specs.Placing.{old_name};
+    ghost use Rattle.pipe_expr.specs.Projections.{renamed};
 
-    ghost name_for = { λ r. old_name r.pairs.now r.input.now };
+    ghost name_for = { λ r. renamed r.old_names };
 
     fn name_for(&self, name: &Text) -> Result<Text, AllocError> {
-        for field in self.input.fields() {
-            if new_name(self.pairs, &field.name).is_same(name) {
-                return Ok(field.name.try_clone()?);
-            }
-        }
-        Ok(name.try_clone()?)
+        new_name(&self.old_names, name)
     }
 }
 
-/// Where a conjunct on a function goes: onto the input of an unpivot where it reads index columns alone; onto the
-/// input of a renaming, with the old names.
-#[tactic(auto, using(crate::proofs::Placings::placing_rules))]
-pub fn through_function(
+impl<'a> Passage for Renamings<'a> {
+    ghost use Rattle.pipe_place.specs.Through.{through_names};
+
+    ghost placing = { λ r. through_names r.old_names };
+
+    fn place(&self, alloc: Global, conjunct: Expr) -> Result<Placement, AllocError> {
+        let below = with_names(alloc, &conjunct, self)?;
+        Ok(Placement::OnInputs(below))
+    }
+}
+
+/// Where conjuncts on a function go: onto the input of an unpivot where they read index columns alone; onto the input of
+/// a renaming, with the old names.
+#[tactic(auto, using(crate::proofs::ByKind::function_rules))]
+pub(crate) fn place_on_function(
     alloc: Global,
     input: &Schema,
     function: &FunctionIR,
-    conjunct: Expr,
-) -> Result<Placement, AllocError>
-    ensures { IfOk result (λ placement.
-        placing_of placement ≡ below_function input.now function.now (formula_of conjunct)) }
+    conjuncts: List<Expr>,
+) -> Result<List<Placement>, AllocError>
+    ensures { IfOk result (λ placements. map placing_of placements
+        ≡ map (below_function input.now function.now) (map formula_of conjuncts)) }
 {
     match function {
         FunctionIR::Unpivot {
@@ -96,22 +141,16 @@ pub fn through_function(
             variable: _,
             value: _,
         } => {
-            let index = Among {
-                names: index.as_slice(),
-            };
-            if reads_only(&conjunct, &index) {
-                Ok(Placement::OnInputs(conjunct))
-            } else {
-                Ok(Placement::Above(conjunct))
-            }
+            let names = NameIndex::of(alloc, index.as_slice())?;
+            let index = IndexColumns { names };
+            Ok(place_each(alloc, &index, conjuncts)?)
         }
         FunctionIR::Rename { pairs } => {
-            let renamings = Renamings {
-                pairs: pairs.as_slice(),
-                input,
-            };
-            let below = with_names(alloc, &conjunct, &renamings)?;
-            Ok(Placement::OnInputs(below))
+            let pairs = NameIndex::of(alloc, pairs.as_slice())?;
+            let names = old_names(alloc, &pairs, input)?;
+            let old_names = NameIndex::of(alloc, names.as_slice())?;
+            let renamings = Renamings { old_names };
+            Ok(place_each(alloc, &renamings, conjuncts)?)
         }
     }
 }

@@ -1,32 +1,30 @@
 //! Conjuncts on a join.
 
-ghost use Rattle.std.specs.Prelude.{◌≡◌, ◌∷◌, ◌++◌, [], map, IfOk};
-ghost use Rattle.std.specs.Str.{bytes_eq};
-ghost use Rattle.pipe_frame.specs.Schema.{has_name};
+ghost use Rattle.std.specs.Prelude.{◌≡◌, ◌++◌, if◌then◌else◌, map, IfOk};
+ghost use Rattle.pipe_frame.specs.Schema.{has_name, names_of};
 ghost use Rattle.pipe_expr.specs.Formula.{formula_of};
-ghost use Rattle.pipe_expr.specs.Joins.{is_kept, suffixed_name, column_names};
-ghost use Rattle.pipe_place.specs.Sides.{join_of};
-ghost use Rattle.pipe_rules.specs.Placing.{below_join, on_right as right_placing};
+ghost use Rattle.pipe_expr.specs.Joins.{column_names};
+ghost use Rattle.pipe_fields.specs.Sides.{is_kept_by};
 ghost use Rattle.pipe_place.specs.Placements.{placing_of};
+ghost use Rattle.pipe_place.specs.Through.{shown_names as names_shown, onto_right, through_sides};
 
+use crate::function::new_name;
 use crate::naming::{Naming, with_names};
+use crate::passage::{Passage, place_each};
 use crate::placement::Placement;
 use crate::reading::{NameTest, reads_only};
-use pipe_expr::{Expr, JoinType};
-use pipe_fields::is_coalescing;
-use pipe_frame::{Field, Schema, Text, TryClone};
+use pipe_expr::{Expr, JoinType, RenamePair};
+use pipe_fields::{Columns, NameIndex, is_coalescing, plain_names};
+use pipe_frame::{Field, List, Schema, Text, TryClone};
 use pipe_plan::JoinOptions;
 use std::alloc::{AllocError, Global};
 
-/// A join's sides, keys and options.
+/// A join's sides: the kind of the join, the left columns, and the names under which right columns stand in the output.
 #[derive(Drop)]
-pub struct JoinSides<'a> {
-    pub left: &'a Schema,
-    pub right: &'a Schema,
-    pub left_on: &'a [Expr],
-    pub right_on: &'a [Expr],
-    pub options: &'a JoinOptions,
-    pub alloc: Global,
+struct JoinSides<'a> {
+    how: JoinType,
+    left: &'a Schema,
+    shown: NameIndex<'a, RenamePair>,
 }
 
 /// The names of a join's left columns, and of no others.
@@ -61,82 +59,81 @@ impl<'a> NameTest for OtherNames<'a> {
     }
 }
 
-/// Whether a key is the plain column of a name.
-fn is_column(key: &Expr, name: &Text) -> bool
-    ensures { result ≡ has_name (column_names (formula_of key.now ∷ [])) name.now }
+/// Whether a right column is kept: unless the join coalesces and a right key is that column.
+#[tactic(auto, using(crate::proofs::Selects::expr_rules))]
+fn is_kept(keys: &NameIndex<Text>, options: &JoinOptions, field: &Field) -> bool
+    ensures { result ≡ is_kept_by keys.now options.now field.now }
 {
-    match key {
-        Expr::Col(column) => column.is_same(name),
-        _ => false,
+    match keys.first(&field.name) {
+        Some(_) => !is_coalescing(options),
+        None => true,
     }
 }
 
-/// Whether some key is the plain column of a name.
-#[tactic(auto, using(crate::proofs::Keys::key_rules))]
-fn is_key(keys: &[Expr], name: &Text) -> bool
-    ensures { result ≡ has_name (column_names (map formula_of keys.now)) name.now }
+/// The name of a kept right column in the output.
+#[tactic(auto, using(crate::proofs::Selects::expr_rules))]
+fn shown_name(alloc: Global, left: &Columns, suffix: &Text, name: &Text) -> Result<Text, AllocError>
+    ensures { let is_left = has_name (names_of left.now) name.now in
+        IfOk result (λ made. made ≡ (if is_left then name.now ++ suffix.now else name.now)) }
 {
-    for key in keys {
-        if is_column(key, name) {
-            return true;
+    match left.field(name) {
+        Some(_) => {
+            let mut made = String::from_str(alloc, name.as_str())?;
+            made.push_str(suffix.as_str())?;
+            Ok(Text::from_string(made))
         }
+        None => name.try_clone(),
     }
-    false
 }
 
-impl<'a> JoinSides<'a> {
-    /// Whether a right column is kept.
-    fn is_kept(&self, field: &Field) -> bool
-        ensures { result ≡ is_kept (join_of self.now) field.now }
-    {
-        !(is_coalescing(self.options) && is_key(self.right_on, &field.name))
-    }
-
-    /// A name with the suffix.
-    fn suffixed(&self, name: &Text) -> Result<Text, AllocError>
-        ensures { IfOk result (λ made. made ≡ name.now ++ self.now.options.now.suffix) }
-    {
-        let mut made = String::from_str(self.alloc, name.as_str())?;
-        made.push_str(self.options.suffix.as_str())?;
-        Ok(Text::from_string(made))
-    }
-
-    /// Whether a right column of a name stands under another in the join's output.
-    fn is_shown_as(&self, name: &Text, shown: &Text) -> Result<bool, AllocError>
-        ensures { IfOk result (λ same.
-            same ≡ bytes_eq (suffixed_name (join_of self.now) name.now) shown.now) }
-    {
-        match self.left.index_of(name.as_bytes()) {
-            Some(_) => {
-                let made = self.suffixed(name)?;
-                Ok(made.is_same(shown))
-            }
-            None => Ok(name.is_same(shown)),
+/// The names of the kept right columns in the output, each with its own.
+fn shown_names(
+    alloc: Global,
+    left: &Columns,
+    right: &Schema,
+    keys: &NameIndex<Text>,
+    options: &JoinOptions,
+) -> Result<List<RenamePair>, AllocError>
+    ensures { IfOk result (λ shown.
+        shown ≡ names_shown left.now right.now keys.now options.now) }
+{
+    let mut shown = List::new(alloc);
+    for field in right.fields() {
+        if is_kept(keys, options, field) {
+            shown.push(RenamePair {
+                existing: shown_name(alloc, left, &options.suffix, &field.name)?,
+                new_name: field.name.try_clone()?,
+            })?;
         }
     }
+    Ok(shown)
 }
 
 impl<'a> Naming for JoinSides<'a> {
-    ghost use Rattle.pipe_rules.specs.Placing.{right_name};
-    ghost use Rattle.pipe_place.specs.Sides.{join_of};
+    ghost use Rattle.pipe_expr.specs.Projections.{renamed};
 
-    ghost name_for = { λ j. right_name (join_of j) j.right.now };
+    ghost name_for = { λ j. renamed j.shown };
 
     fn name_for(&self, name: &Text) -> Result<Text, AllocError> {
-        for field in self.right.fields() {
-            if self.is_kept(field) && self.is_shown_as(&field.name, name)? {
-                return Ok(field.name.try_clone()?);
-            }
-        }
-        Ok(name.try_clone()?)
+        new_name(&self.shown, name)
+    }
+}
+
+impl<'a> Passage for JoinSides<'a> {
+    ghost use Rattle.pipe_place.specs.Through.{through_sides};
+
+    ghost placing = { λ j. through_sides j.how j.left.now j.shown };
+
+    fn place(&self, alloc: Global, conjunct: Expr) -> Result<Placement, AllocError> {
+        through_join(alloc, self, conjunct)
     }
 }
 
 /// Onto the right input, with the right names, where a conjunct reads right columns alone.
 #[tactic(auto, using(crate::proofs::Placings::placing_rules))]
 fn on_right(alloc: Global, sides: &JoinSides, conjunct: Expr) -> Result<Placement, AllocError>
-    ensures { IfOk result (λ placement.
-        placing_of placement ≡ right_placing (join_of sides.now) (formula_of conjunct)) }
+    ensures { IfOk result (λ placement. placing_of placement
+        ≡ onto_right sides.now.left.now sides.now.shown (formula_of conjunct)) }
 {
     if reads_only(&conjunct, &OtherNames { left: sides.left }) {
         let below = with_names(alloc, &conjunct, sides)?;
@@ -149,16 +146,12 @@ fn on_right(alloc: Global, sides: &JoinSides, conjunct: Expr) -> Result<Placemen
 /// Where a conjunct on a join goes: onto the left input where it reads left columns alone, and onto the right input of
 /// an inner or a cross join, with the right names, where it reads right columns alone.
 #[tactic(auto, using(crate::proofs::Placings::placing_rules))]
-pub fn through_join(
-    alloc: Global,
-    sides: &JoinSides,
-    conjunct: Expr,
-) -> Result<Placement, AllocError>
-    ensures { IfOk result (λ placement.
-        placing_of placement ≡ below_join sides.now.options.now.how (join_of sides.now) (formula_of conjunct)) }
+fn through_join(alloc: Global, sides: &JoinSides, conjunct: Expr) -> Result<Placement, AllocError>
+    ensures { IfOk result (λ placement. placing_of placement
+        ≡ through_sides sides.now.how sides.now.left.now sides.now.shown (formula_of conjunct)) }
 {
     let is_left = reads_only(&conjunct, &LeftNames { left: sides.left });
-    match sides.options.how {
+    match sides.how {
         JoinType::Inner | JoinType::Cross => {
             if is_left {
                 Ok(Placement::OnLeft(conjunct))
@@ -175,4 +168,40 @@ pub fn through_join(
         }
         JoinType::Full => Ok(Placement::Above(conjunct)),
     }
+}
+
+/// Where conjuncts on a join go, by the names under which right columns stand in its output.
+fn place_by_names<'a>(
+    alloc: Global,
+    how: JoinType,
+    left: &'a Schema,
+    names: &'a [RenamePair],
+    conjuncts: List<Expr>,
+) -> Result<List<Placement>, AllocError>
+    ensures { IfOk result (λ placements. map placing_of placements
+        ≡ map (through_sides how left.now names.now) (map formula_of conjuncts)) }
+{
+    let shown = NameIndex::of(alloc, names)?;
+    let sides = JoinSides { how, left, shown };
+    Ok(place_each(alloc, &sides, conjuncts)?)
+}
+
+/// Where conjuncts on a join go.
+pub(crate) fn place_on_join(
+    alloc: Global,
+    left: &Schema,
+    right: &Schema,
+    right_on: &[Expr],
+    options: &JoinOptions,
+    conjuncts: List<Expr>,
+) -> Result<List<Placement>, AllocError>
+    ensures { let keys = column_names (map formula_of right_on.now) in
+        let shown = names_shown left.now right.now keys options.now in
+        IfOk result (λ placements. map placing_of placements
+        ≡ map (through_sides options.now.how left.now shown) (map formula_of conjuncts)) }
+{
+    let plain = plain_names(alloc, right_on)?;
+    let keys = NameIndex::of(alloc, plain.as_slice())?;
+    let names = shown_names(alloc, &Columns::of(left), right, &keys, options)?;
+    Ok(place_by_names(alloc, options.how, left, names.as_slice(), conjuncts)?)
 }

@@ -1,4 +1,4 @@
-use Rattle.std.proofs.Common.{◌≡◌, ◌<◌, ◌≤◌, ◌+◌, ◌*◌, ◌++◌, length, map, get_or, false, sym, ap, subst, ◌∙◌, arith}
+use Rattle.std.proofs.Common.{◌≡◌, ℕ, true, refl, ◌<◌, ◌≤◌, ◌+◌, ◌*◌, length, map, get_or, sym, ap, subst, ◌∙◌, arith}
 use Rattle.pipe_expr.specs.Formula.{formula_of}
 use Rattle.pipe_plan.specs.Node.{node_of}
 use Rattle.pipe_plan.specs.Plan.{plan_of}
@@ -11,6 +11,9 @@ use Rattle.pipe_opt.specs.Renumbered.{with_inputs}
 use Rattle.pipe_opt.specs.Sizes.{sum_of, size_of}
 use Rattle.pipe_opt.specs.Grown.{IsPut}
 use Rattle.pipe_opt.proofs.Readings.{map-long, in-bounds, node-read, not-filter, item-member, first-none, one-next}
+use Rattle.pipe_check.proofs.Walks.{member}
+use Rattle.pipe_rules.specs.Placed.{is_input}
+use Rattle.pipe_opt.proofs.Taken.{inputs-apart, served-none, served-next}
 use Rattle.pipe_opt.proofs.Remade.{filter-rewritten, all-rewritten}
 use Rattle.pipe_opt.proofs.Steps.{filter-input, filter-typed, filter-room, input-below, inputs-typed, inputs-room, push-room, next-room, put-over}
 use Rattle.pipe_opt.proofs.pushdown.+rewrite.Goals as goal
@@ -61,7 +64,17 @@ rewrite-returns-in_ok-rewrite-in-Filter-clause-rewritten t c =
     filter-rewritten plan root good c.requires.frames (map node_of c.args.nodes.now) (map node_of c.rewrite.new.nodes) n c.in-Filter.input (formula_of c.in-Filter.predicate) (map formula_of c.args.conjuncts) (map formula_of c.in_ok-all-in-Filter.all) c.in_ok-rewrite-in-Filter.field-0 under at c.in_ok-all-in-Filter.ensures.all c.in_ok-rewrite-in-Filter.ensures.rewritten
 
 pub rewrite_inputs-loop-input-init : goal.rewrite_inputs-loop-input-init
-rewrite_inputs-loop-input-init t c = first-none (plan_of c.args.plan.now.arena) (node_of c.args.node.now) (parts_in c.args.parts.now) (map node_of c.args.nodes.now) c.new-numbers.result c.new-numbers.ensures
+rewrite_inputs-loop-input-init t c = record {
+  done = first-none (plan_of c.args.plan.now.arena) (node_of c.args.node.now) (parts_in c.args.parts.now) (map node_of c.args.nodes.now) c.new-numbers.result c.new-numbers.ensures;
+  serves = served-none (node_of c.args.node.now) c.args.inputs.now 0 (parts_in c.args.parts.now);
+  above = refl;
+}
+
+pub rewrite_inputs-take_for-requires : goal.rewrite_inputs-take_for-requires
+rewrite_inputs-take_for-requires t c =
+    let ns = c.args.inputs.now in
+    let i = c.loop-input.input-index in
+    ap (λ l. member (get_or ns i 0) l) (sym c.requires.inputs) ∙ item-member ns i 0 c.loop-input-test.true
 
 pub rewrite_inputs-rewrite-requires : goal.rewrite_inputs-rewrite-requires
 rewrite_inputs-rewrite-requires t c =
@@ -76,23 +89,33 @@ rewrite_inputs-rewrite-requires t c =
     let among = ap (λ l. Rattle.pipe_check.proofs.Walks.member input l) (sym c.requires.inputs) ∙ item-member ns i 0 c.loop-input-test.true in
     let fed = input-below plan root good n c.requires.under x input c.requires.at among in
     let lt : input < n = fed.0 in
-    let typed = subst (AllByRecursion (IsConjunct (schema_of plan input))) (sym c.in_ok-share.ensures) (c.requires.typed input among) in
+    let share = c.in_ok-share.ensures.share ∙ c.loop-input.invariant.serves i (omega arith) c.loop-input-test.true in
+    let typed = subst (AllByRecursion (IsConjunct (schema_of plan input))) (sym share) (c.requires.typed input among) in
     let old_long = map-long node_of c.args.nodes.now in
     let now_long = map-long node_of c.loop-input.nodes in
     let had = c.requires.room in
     let whole : length (map node_of c.args.nodes.now) + 2 * sum_of (size_of plan.nodes) ns ≤ most_nodes = omega arith in
-    let room = next-room most_nodes plan (map node_of c.args.nodes.now) (map node_of c.loop-input.nodes) x (parts_in c.args.parts.now) ns c.loop-input.numbers i input c.loop-input.invariant c.loop-input-test.true (Rattle.pipe_opt.proofs.Readings.item-same ns i 0 input c.loop-input-test.true) whole in
+    let room = next-room most_nodes plan (map node_of c.args.nodes.now) (map node_of c.loop-input.nodes) x (parts_in c.args.parts.now) ns c.loop-input.numbers i input c.loop-input.invariant.done c.loop-input-test.true (Rattle.pipe_opt.proofs.Readings.item-same ns i 0 input c.loop-input-test.true) whole in
     (omega arith, (good, (c.requires.frames, (fed.1, (typed, omega arith)))))
 
 pub rewrite_inputs-loop-input-preserved : goal.rewrite_inputs-loop-input-preserved
 rewrite_inputs-loop-input-preserved t c =
+    let plan = plan_of c.args.plan.now.arena in
+    let x = node_of c.args.node.now in
     let ns = c.args.inputs.now in
     let i = c.loop-input.input-index in
-    one-next (plan_of c.args.plan.now.arena) (node_of c.args.node.now) (parts_in c.args.parts.now) (map node_of c.args.nodes.now) (map node_of c.loop-input.nodes) (map node_of c.rewrite.new.nodes) ns c.loop-input.numbers c.push.new.self i (get_or ns i 0) c.in_ok-number.number (map formula_of c.in_ok-share.share) c.loop-input.invariant c.loop-input-test.true Rattle.std.proofs.Common.refl c.in_ok-share.ensures c.in_ok-number.ensures.rewritten c.in_ok-push.ensures.ok
+    let share = c.in_ok-share.ensures.share ∙ c.loop-input.invariant.serves i (omega arith) c.loop-input-test.true in
+    let own : (k : ℕ) → k < length ns → is_input x (get_or ns k 0) ≡ true = λ k lt. ap (λ l. member (get_or ns k 0) l) (sym c.requires.inputs) ∙ item-member ns k 0 lt in
+    let others = inputs-apart plan c.args.plan.now.root c.requires.good c.args.n c.requires.under x ns c.requires.at c.requires.inputs i in
+    record {
+      done = one-next plan x (parts_in c.args.parts.now) (map node_of c.args.nodes.now) (map node_of c.loop-input.nodes) (map node_of c.rewrite.new.nodes) ns c.loop-input.numbers c.push.new.self i (get_or ns i 0) c.in_ok-number.number (map formula_of c.in_ok-share.share) c.loop-input.invariant.done c.loop-input-test.true refl share c.in_ok-number.ensures.rewritten c.in_ok-push.ensures.ok;
+      serves = served-next x ns i (parts_in c.args.parts.now) (parts_in c.loop-input.parts) (parts_in c.take_for.new.self) c.loop-input.invariant.serves others own c.in_ok-share.ensures.others;
+      above = c.in_ok-share.ensures.above ∙ c.loop-input.invariant.above;
+    }
 
 pub rewrite_inputs-returns-clause-rewritten : goal.rewrite_inputs-returns-clause-rewritten
 rewrite_inputs-returns-clause-rewritten t c =
-    all-rewritten (plan_of c.args.plan.now.arena) (node_of c.args.node.now) (parts_in c.args.parts.now) (map node_of c.args.nodes.now) (map node_of c.loop-input.nodes) c.args.inputs.now c.loop-input.numbers c.loop-input.input-index c.loop-input.invariant (omega (arith, c.loop-input-test.false))
+    all-rewritten (plan_of c.args.plan.now.arena) (node_of c.args.node.now) (parts_in c.args.parts.now) (map node_of c.args.nodes.now) (map node_of c.loop-input.nodes) c.args.inputs.now c.loop-input.numbers c.loop-input.input-index c.loop-input.invariant.done (omega (arith, c.loop-input-test.false))
 
 pub rewrite_node-rewrite_inputs-requires : goal.rewrite_node-rewrite_inputs-requires
 rewrite_node-rewrite_inputs-requires t c =
@@ -127,5 +150,5 @@ rewrite_node-returns-clause-rewritten t c =
     let made = map node_of c.push_over.new.nodes in
     let k = c.in_ok-push_over.field-0 in
     let own = subst (λ l. IsPut new made (with_inputs x l) (map formula_of c.as_slice-2.result.now) k) c.as_slice.ensures c.in_ok-push_over.ensures.put in
-    let put = subst (λ l. IsPut new made (with_inputs x c.in_ok-numbers.numbers) (map formula_of l) k) c.as_slice-2.ensures own in
+    let put = subst (λ l. IsPut new made (with_inputs x c.in_ok-numbers.numbers) (map formula_of l) k) (c.as_slice-2.ensures ∙ c.rewrite_inputs.ensures.above) own in
     put-over (plan_of c.args.plan.now.arena) c.args.plan.now.root c.requires.good c.args.n c.requires.under c.requires.frames (map node_of c.args.nodes.now) new made x (parts_in c.in_ok-parts.parts) (map formula_of c.args.conjuncts) c.as_slice-read.result.now c.in_ok-numbers.numbers k c.requires.typed c.requires.plain c.requires.at read c.in_ok-parts.ensures.parts c.in_ok-numbers.ensures.rewritten put

@@ -4,8 +4,6 @@ use Rattle.pipe_plan.specs.Node.{node_of}
 use Rattle.pipe_plan.specs.Plan.{plan_of}
 use Rattle.pipe_plan.specs.Under.{is_under}
 use Rattle.pipe_plan.specs.Schemas.{schema_of}
-use Rattle.pipe_rules.specs.Parted.{parts_of}
-use Rattle.pipe_rules.specs.Placing.{placing}
 use Rattle.pipe_opt.proofs.Seen.{first-under, second-under, all-seen}
 use Rattle.pipe_opt.proofs.Readings.{named-as}
 use Rattle.pipe_opt.proofs.pushdown.part_at.Goals as goal
@@ -24,5 +22,4 @@ pub returns-clause-parts : goal.returns-clause-parts
 returns-clause-parts c =
     let schema = schema_of (plan_of c.args.plan.now.arena) in
     c.in_ok-part.ensures
-    ∙ ap (λ l. parts_of (map (placing c.schema-left.result.now c.schema-right.result.now (node_of c.args.node.now)) (map formula_of l))) c.as_slice.ensures
     ∙ all-seen schema c.args.n (node_of c.args.node.now) (map formula_of c.args.conjuncts) c.args.inputs.now c.schema-left.result.now c.schema-right.result.now c.requires.inputs (c.schema-left.ensures ∙ ap schema c.first_or.ensures) (c.schema-right.ensures ∙ ap schema c.second_or.ensures)

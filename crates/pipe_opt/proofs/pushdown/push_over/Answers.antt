@@ -1,4 +1,4 @@
-use Rattle.std.proofs.Common.{◌≡◌, ◌<◌, ◌+◌, ◌++◌, ◌∷◌, [], inl, inr, length, map, ap, ◌∙◌, arith}
+use Rattle.std.proofs.Common.{◌++◌, ◌∷◌, [], inl, inr, length, map, ap, ◌∙◌, arith}
 use Rattle.pipe_expr.specs.Formula.{formula_of}
 use Rattle.pipe_plan.specs.Node.{node_of}
 use Rattle.pipe_plan.specs.Node as node

@@ -9,7 +9,7 @@ use Rattle.pipe_place.proofs.hstack.ExtendedNameTest.passes.Goals as goal
 pub returns-then-is_some : goal.returns-then-is_some
 returns-then-is_some c =
     let input = c.args.self.now.input.now in
-    let exprs = map named_formula_of c.args.self.now.exprs.now in
+    let exprs = map named_formula_of c.args.self.now.exprs in
     let name = c.args.name.now in
     let has = c.is_some.ensures ∙ place-some input name c.index_of.result (c.index_of.ensures ∙ ap (λ b. place_of b input) c.as_bytes.ensures.bytes) in
     let there : has_name (names_of input) name ≡ true = sym has ∙ c.if-is_some.true in
@@ -18,7 +18,7 @@ returns-then-is_some c =
 pub returns-else-is_some : goal.returns-else-is_some
 returns-else-is_some c =
     let input = c.args.self.now.input.now in
-    let exprs = map named_formula_of c.args.self.now.exprs.now in
+    let exprs = map named_formula_of c.args.self.now.exprs in
     let name = c.args.name.now in
     let has = c.is_some.ensures ∙ place-some input name c.index_of.result (c.index_of.ensures ∙ ap (λ b. place_of b input) c.as_bytes.ensures.bytes) in
     let lacks : has_name (names_of input) name ≡ false = sym has ∙ c.if-is_some.false in
