@@ -4,3 +4,5 @@ pub mod ReprojectLemmas
 pub mod LawLemmas
 pub mod OrderLemmas
 pub mod EndingLemmas
+pub mod RunLemmas
+pub mod RunsLemmas

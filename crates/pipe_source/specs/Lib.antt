@@ -10,6 +10,8 @@ pub mod SupplyFalls
 pub mod Law
 -- chunks in the order of their indexes
 pub mod Ordered
+-- chunks whose rows stand one behind the other
+pub mod Runs
 -- an ordered sink ends alike, in whatever order rows came
 pub mod OrderedLaws
 -- the rows and the schema of a source, and what a sink around a sink ends as

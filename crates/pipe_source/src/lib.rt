@@ -2,6 +2,7 @@
 #![tactic(auto)]
 
 mod batches;
+mod chunk_run;
 mod frame_source;
 mod ordered_sink;
 mod phys_source;
