@@ -209,9 +209,9 @@ def do_distribute(given: Any) -> None:
         told = {"types": {it: types[it] for it in names}, "null": given.null}
         try:
             with contextlib.ExitStack() as closing:
-                file = sys.stdout
+                file: Any = sys.stdout.buffer
                 if given.output:
-                    file = closing.enter_context(open(given.output, "w", encoding="utf-8", newline=""))
+                    file = closing.enter_context(open(given.output, "wb"))
                 done = write_csv(run, plan, settings, file=file, **told)
         except OSError as error:
             raise Refused(f"{given.output}: {error.strerror}") from error

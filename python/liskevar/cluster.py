@@ -3,6 +3,7 @@
 import contextlib
 import functools
 import logging
+import multiprocessing
 import os
 import sys
 import time
@@ -14,6 +15,7 @@ from typing import Any, NamedTuple
 from .errors import LiskevarError, Refused
 from .job import BYTES_OF_A_JOB
 from .pieces import BYTES_OF_A_PIECE
+from .program import find_program
 from .running import attempt
 
 try:
@@ -26,6 +28,11 @@ except ImportError:
 # How often what failed is tried again; a task whose worker died is tried again by Dask's own rule.
 RETRIES = 2
 BAR = 30
+# What Dask does all the time beside the work, done less often: it takes 30 ms of each second of each process.
+SELDOM = {
+    "distributed.worker.profile.interval": "2s", "distributed.worker.profile.cycle": "20s",
+    "distributed.admin.tick.interval": "500ms", "distributed.admin.system-monitor.interval": "5s",
+}  # fmt: skip
 # The seconds between two looks whether anything came, and whether there are workers.
 PAUSE, LOOK = 0.02, 2.0
 
@@ -55,10 +62,25 @@ def cluster(scheduler: str | None = None, local: int | None = None) -> Iterator[
         with client:
             yield client
         return
-    told = {"threads_per_worker": 1, "dashboard_address": "127.0.0.1:0", "silence_logs": logging.CRITICAL}
     count = local or os.cpu_count() or 1
-    with distributed.LocalCluster(n_workers=count, **told) as made, distributed.Client(made) as client:
-        yield client
+    told = {"threads_per_worker": 1, "dashboard_address": "127.0.0.1:0", "silence_logs": logging.CRITICAL}
+    # processes that are forked have the variables of the first run, and not of this one
+    told["env"] = {"LISKEVAR_PROGRAM": find_program()}
+    with dask.config.set({**SELDOM, **_starting(count)}), distributed.LocalCluster(n_workers=count, **told) as made:
+        with distributed.Client(made) as client:
+            yield client
+
+
+def _starting(count: int) -> dict[str, str]:
+    """How so many worker processes are started: each by itself reads all modules, which takes a second; several are
+    forked of one that has read them."""
+    if count == 1 or "forkserver" not in multiprocessing.get_all_start_methods():
+        return {}
+    modules = ["distributed", "distributed.nanny", "liskevar.cli", "liskevar.distribute"]
+    multiprocessing.get_context("forkserver").set_forkserver_preload(modules)
+    # or else Dask reads pandas for them, here too
+    distributed.utils._forkserver_preload_set = True
+    return {"distributed.worker.multiprocessing-method": "forkserver"}
 
 
 class Run:

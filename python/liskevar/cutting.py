@@ -1,16 +1,16 @@
-"""Cutting pieces of tables into blocks, placing the blocks in parts, and the jobs of parts.
+"""Cutting pieces of tables, placing what they are cut into in parts, and the jobs of parts.
 
-A block is what goes into one part together: some rows of a scan that are cut as they come, all rows of a scan that each
+An item is what goes into one part together: some rows of a scan that are cut as they come, all rows of a scan that each
 part has whole, or the rows whose keys have one hash. What is here knows nothing of Dask.
 """
 
 import collections
 import heapq
 import json
-import zlib
 from collections.abc import Iterable, Mapping, Sequence
 from typing import Any, NamedTuple
 
+from .columns import Sections, all_texts, by_hash, by_size, key_hashes
 from .dtypes import Cell, DType
 from .errors import Refused
 from .job import compact
@@ -36,83 +36,72 @@ class Scan(NamedTuple):
         """Whether each part has all of it."""
         return self.cut in ("whole", "first")
 
+    def places(self) -> list[int]:
+        """The places of the key's columns."""
+        return [list(self.types).index(it) for it in self.columns]
+
 
 class Block(NamedTuple):
-    """Rows of a scan: what they go with, how many they are, their bytes in a job, and the text of each column's cells."""
+    """Rows of a scan, of one piece of its table: how many they are, their bytes in a job, and of each column the cells,
+    with a comma behind each."""
 
     scan: int
-    item: Item
+    piece: int
     rows: int
     size: int
-    texts: tuple[str, ...]
+    texts: tuple[bytes, ...]
+
+
+class Cut(NamedTuple):
+    """The rows of a scan, of one piece of its table, by the items that they are of."""
+
+    scan: int
+    piece: int
+    items: tuple[Item, ...]
+    sections: Sections
+
+    def block(self, places: Sequence[int]) -> Block:
+        """Those of some items."""
+        sizes, ends = self.sections.sizes(), self.sections.ends
+        texts = []
+        for text, stops in zip(self.sections.texts, ends):
+            texts.append(b"".join([text[stops[it - 1] if it else 0 : stops[it]] for it in places]))
+        rows, size = (sum(map(of.__getitem__, places)) for of in (self.sections.rows, sizes))
+        return Block(self.scan, self.piece, rows, size, tuple(texts))
 
 
 class Fineness(NamedTuple):
-    """How fine blocks are: so many hashes of a key, and about so many bytes of rows."""
+    """How fine items are: so many hashes of a key, and at most so many bytes of rows as they come."""
 
     hashes: int
     bytes: int
 
 
-def block_of(scan: int, item: Item, columns: Iterable[Sequence[Cell]], rows: int) -> Block:
-    """A block of columns of cells."""
-    texts = tuple(compact(list(it))[1:-1] for it in columns)
-    return Block(scan, item, rows, sum(len(it.encode()) + 1 for it in texts), texts)
-
-
-def key_texts(scan: Scan, columns: Sequence[list[Cell]]) -> list[str]:
-    """The text of each row's key: equal keys have one text, a null that of null."""
-    names = list(scan.types)
-    texts = [list(map(str, columns[names.index(it)])) for it in scan.columns]
-    return texts[0] if len(texts) == 1 else ["\0".join(it) for it in zip(*texts)]
-
-
-def hash_of(text: str, hashes: int) -> int:
-    """The hash of a key's text: one of so many, the same in each process."""
-    return zlib.crc32(text.encode()) % hashes
-
-
-def cut_piece(piece: Piece, number: int, scans: Sequence[Scan], fineness: Fineness) -> list[Block]:
-    """The blocks of a piece, for all scans that read its table."""
-    columns = piece.cells(scans[0].types)
-    height = len(columns[0])
-    found: list[Block] = []
+def cut_piece(piece: Piece, number: int, scans: Sequence[Scan], fineness: Fineness) -> list[Cut]:
+    """The rows of a piece, for all scans that read its table."""
+    columns = piece.columns(scans[0].types)
+    height, found = len(columns[0]), []
     for scan in scans:
         if scan.is_whole:
-            found.append(block_of(scan.number, ("whole", scan.number), columns, height))
+            texts = list(all_texts(columns))
+            sections = Sections([0], [height], [[len(it)] for it in texts], texts)
+            items: list[Item] = [("whole", scan.number)]
         elif scan.cut == "split":
-            found += _ranges(scan, number, columns, height, fineness.bytes)
+            sections = by_size(columns, fineness.bytes)
+            items = [("rows", scan.number, number, it) for it in sections.groups]
         else:
-            rows = collections.defaultdict(list)
-            for row, text in enumerate(key_texts(scan, columns)):
-                rows[hash_of(text, fineness.hashes)].append(row)
-            for it, mine in rows.items():
-                cells = [list(map(column.__getitem__, mine)) for column in columns]
-                found.append(block_of(scan.number, ("key", scan.key, it), cells, len(mine)))
+            sections = by_hash(columns, scan.places(), fineness.hashes)
+            items = [("key", scan.key, it) for it in sections.groups]
+        found.append(Cut(scan.number, number, tuple(items), sections))
     return found
 
 
-def _ranges(scan: Scan, number: int, columns: Sequence[list[Cell]], height: int, size: int) -> list[Block]:
-    """The rows of a piece as they come, in blocks of about so many bytes; a row that has more is a block of its own."""
-    found, waiting = [], [(0, height)] if height else []
-    while waiting:
-        start, end = waiting.pop()
-        item = ("rows", scan.number, number, start)
-        block = block_of(scan.number, item, [it[start:end] for it in columns], end - start)
-        if block.size <= size or block.rows == 1:
-            found.append(block)
-        else:
-            count = min(-(-block.size // size), block.rows)
-            step = -(-block.rows // count)
-            waiting += [(it, min(it + step, end)) for it in range(start, end, step)]
-    return found
-
-
-def sizes_of(blocks: Sequence[Block]) -> dict[Item, int]:
+def sizes_of(cuts: Sequence[Cut]) -> dict[Item, int]:
     """How many bytes each item has."""
     found: dict[Item, int] = collections.defaultdict(int)
-    for it in blocks:
-        found[it.item] += it.size
+    for cut in cuts:
+        for item, size in zip(cut.items, cut.sections.sizes()):
+            found[item] += size
     return dict(found)
 
 
@@ -120,17 +109,18 @@ def rows_of_keys(
     piece: Piece, scans: Sequence[Scan], hashes: int, wanted: Iterable[Item]
 ) -> dict[tuple[Any, ...], list[int]]:
     """The bytes and the rows of each key whose hash is wanted, by the key's number and its cells."""
-    items, columns = set(wanted), piece.cells(scans[0].types)
+    items, columns = set(wanted), piece.columns(scans[0].types)
     found: dict[tuple[Any, ...], list[int]] = collections.defaultdict(lambda: [0, 0])
     for scan in scans:
         if scan.cut != "key":
             continue
-        places = [list(scan.types).index(it) for it in scan.columns]
-        for row, text in enumerate(key_texts(scan, columns)):
-            if ("key", scan.key, hash_of(text, hashes)) in items:
-                told = found[scan.key, tuple(columns[it][row] for it in places)]
-                told[0] += sum(len(compact(it[row]).encode()) + 1 for it in columns)
-                told[1] += 1
+        hash_of = list(key_hashes(columns, scan.places(), hashes))
+        rows = [row for row, it in enumerate(hash_of) if ("key", scan.key, int(it)) in items]
+        texts = [it.some(rows) for it in columns]
+        for row in zip(*texts):
+            told = found[scan.key, tuple(json.loads(row[it]) for it in scan.places())]
+            told[0] += sum(map(len, row)) + len(row)
+            told[1] += 1
     return dict(found)
 
 
@@ -152,17 +142,28 @@ def placed(sizes: Mapping[Item, int], room: int, least: int) -> tuple[dict[Item,
         parts += 1 + parts // 8
 
 
-def moved(blocks: Sequence[Block], places: Mapping[Item, int]) -> list[tuple[int, Block]]:
-    """Blocks with the parts that they go to, without those that each part has."""
-    return [(places[it.item], it) for it in blocks if it.item in places]
+def moved(cuts: Sequence[Cut], places: Mapping[Item, int]) -> list[tuple[int, Block]]:
+    """The rows that go to each part, one block of each scan, without those that each part has."""
+    found = []
+    for cut in cuts:
+        parts: dict[int, list[int]] = {}
+        for number, item in enumerate(cut.items):
+            if item in places:
+                parts.setdefault(places[item], []).append(number)
+        found += [(part, cut.block(some)) for part, some in parts.items()]
+    return found
 
 
-def sizes_in_parts(blocks: Sequence[Block], places: Mapping[Item, int]) -> dict[tuple[int, int], int]:
+def whole_blocks(cuts: Sequence[Cut]) -> list[Block]:
+    """The rows that each part has."""
+    return [it.block([0]) for it in cuts if it.items[:1] == (("whole", it.scan),)]
+
+
+def sizes_in_parts(cuts: Sequence[Cut], places: Mapping[Item, int]) -> dict[tuple[int, int], int]:
     """How many bytes of each scan lie in each part."""
     found: dict[tuple[int, int], int] = collections.defaultdict(int)
-    for it in blocks:
-        if it.item in places:
-            found[places[it.item], it.scan] += it.size
+    for part, block in moved(cuts, places):
+        found[part, block.scan] += block.size
     return dict(found)
 
 
@@ -177,17 +178,21 @@ class Form(NamedTuple):
     def text(self, blocks: Iterable[Block]) -> bytes:
         """The job of a part: a frame for each scan."""
         held: dict[int, list[Block]] = collections.defaultdict(list)
-        for it in sorted(blocks, key=lambda it: it.item):
+        for it in sorted(blocks, key=lambda it: (it.scan, it.piece)):
             if it.rows:
                 held[it.scan].append(it)
-        frames = []
+        found = [f'{{{self.numbers},"frames":['.encode()]
         for scan, columns in enumerate(self.frames):
-            texts = []
+            found.append(b',{"columns":[' if scan else b'{"columns":[')
             for place, (name, base) in enumerate(columns):
-                values = ",".join(it.texts[place] for it in held[scan])
-                texts.append(f'{{"name":{compact(name)},"type":{compact(base)},"values":[{values}]}}')
-            frames.append(f'{{"columns":[{",".join(texts)}]}}')
-        return f'{{{self.numbers},"frames":[{",".join(frames)}],"plan":{self.plan},"root":{self.root}}}\n'.encode()
+                head = f'{{"name":{compact(name)},"type":{compact(base)},"values":['
+                found.append((f",{head}" if place else head).encode())
+                found += [it.texts[place] for it in held[scan]]
+                # the last comma isn't wanted
+                found[-1] = found[-1].removesuffix(b",") if held[scan] else found[-1]
+                found.append(b"]}")
+            found.append(b"]}")
+        return b"".join([*found, f'],"plan":{self.plan},"root":{self.root}}}\n'.encode()])
 
 
 def form_of(
@@ -255,7 +260,3 @@ def order_of(sort: Mapping[str, Any], types: Mapping[str, DType]) -> Order:
     told = [*zip(sort["by"], *flags), *((it, False, False) for it in names if it not in sort["by"])]
     return Order(tuple((names.index(name), down, last, types[name].base == "Int128") for name, down, last in told))
 
-
-def cells_of(lines: bytes) -> list[list[Cell]]:
-    """The rows of what the program printed, without the line of names."""
-    return list(json.loads(b"[" + b",".join(lines.splitlines()[1:]) + b"]"))

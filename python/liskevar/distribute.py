@@ -18,7 +18,7 @@ from .cluster import Limits, Run, cluster
 from .csv_files import csv_lines
 from .cutting import (
     Fineness, Form, Item, Order, Scan, cut_piece, form_of, moved, order_of, placed, plan_of_parts, rows_of_keys,
-    scans_told, sizes_in_parts, sizes_of,
+    scans_told, sizes_in_parts, sizes_of, whole_blocks,
 )  # fmt: skip
 from .drawing import picture
 from .dtypes import DType
@@ -70,10 +70,14 @@ class Told(NamedTuple):
         """The scans as they are cut."""
         return scans_told(self.said, self.job, self.types)
 
-    def form(self, scans: Sequence[Scan]) -> Form:
-        """What the parts' jobs share."""
+    def form(self, scans: Sequence[Scan], is_alone: bool = False) -> Form:
+        """What the parts' jobs share: where the plan ends in a sort each part's rows are sorted, and one part alone has
+        the slice too."""
         frames = [{name: it.base for name, it in scan.types.items()} for scan in scans]
-        return form_of(self.job, self.said["root"], plan_of_parts(self.job, scans), frames)
+        plan = plan_of_parts(self.job, scans)
+        if self.said["gather"] is not None and not is_alone:
+            plan[self.job["root"]]["slice"] = None
+        return form_of(self.job, self.job["root"], plan, frames)
 
 
 class Answers(NamedTuple):
@@ -207,8 +211,11 @@ class Distribution:
             large = [it for it, size in cut.movable().items() if size > room]
             if not large:
                 return cut, room
-            if large[0][0] == "rows":
-                raise Refused(f"a row has more than {room:,} bytes, and no more are left of a job")
+            if any(it[0] == "rows" for it in large):
+                if fineness.bytes <= room:
+                    raise Refused(f"a row has more than {room:,} bytes, and no more are left of a job")
+                fineness = fineness._replace(bytes=max(room // FINE, 1))
+                continue
             self._check_keys(fineness.hashes, [it for it in large if it[0] == "key"], room)
             if fineness.hashes > MOST_HASHES:
                 raise Refused(f"keys whose hash is one have more than {room:,} bytes")
@@ -243,12 +250,13 @@ class Distribution:
         run, (cut, places, parts) = self.run, self.placed()
         pairs = run.map(moved, cut.every(), [run.share(places)] * len(cut.every()))
         whole = [it for frame, some in cut.blocks.items() if any(it.is_whole for it in self._of(frame)) for it in some]
-        blocks = run.map(running.whole_blocks, whole)
-        task = Task("part", self.form, digest(), run.topic)
+        blocks = run.map(whole_blocks, whole)
+        form = self.told.form(self.scans, is_alone=True) if parts == 1 else self.form
+        task = Task("part", form, digest(), run.topic)
         groups = run.grouped(pairs, parts)
         futures = run.compute(running.run_part, [(part, it, blocks, task) for part, it in enumerate(groups)])
         counts = self._finished("running", futures)
-        if self.told.said["gather"] is not None:
+        if self.told.said["gather"] is not None and parts > 1:
             return self._gathered(futures, counts)._replace(parts=parts)
         return Answers(futures, [(0, rows) for rows, _ in counts], parts)
 
@@ -286,12 +294,12 @@ class Distribution:
         form = form_of(self.told.job, 1, [scan, sort], columns)
         size, limit = sum(size for _, size in counts), run.limits.job - len(form.text([]))
         if size <= limit:
-            groups, ranges = run.grouped(run.map(running.all_of_it, futures), 1), 1
+            sorted_ = run.compute(running.run_answers, [(0, futures, Task("gather", form, digest(), run.topic))])
         else:
             form = form_of(self.told.job, 1, [scan, {**sort, "slice": None}], columns)
             groups, ranges = self._ranged(futures, order_of(sort, self.types), counts, limit)
-        task = Task("gather", form, digest(), run.topic)
-        sorted_ = run.compute(running.run_part, [(it, groups[it], [], task) for it in range(ranges)])
+            task = Task("gather", form, digest(), run.topic)
+            sorted_ = run.compute(running.run_group, [(it, groups[it], task) for it in range(ranges)])
         rows = [found for found, _ in self._finished("sorting", sorted_)]
         slices = _slices(rows, sort["slice"] if size > limit else None)
         return Answers(sorted_, slices, 0)
@@ -300,13 +308,12 @@ class Distribution:
         self, futures: Sequence[Any], order: Order, counts: Sequence[tuple[int, int]], limit: int
     ) -> tuple[list[Any], int]:
         """The parts' rows in ranges of an order, each of which a job holds."""
-        run, rows = self.run, sum(rows for rows, _ in counts)
-        every = max(1, rows // (SAMPLES * len(futures)))
-        told = {"order": order, "every": every}
+        run = self.run
+        told = {"order": order, "count": SAMPLES}
         keys = sorted(it for some in run.finish("sampling", run.map(running.sample, futures, **told)) for it in some)
         ranges = max(run.threads, 1 + sum(size for _, size in counts) // min(run.limits.aim, limit // 2 + 1))
         ends = [keys[len(keys) * it // ranges] for it in range(1, ranges)]
-        pairs = run.map(running.ranged, futures, order=order, ends=ends)
+        pairs = run.map(running.ranged, futures, range(len(futures)), order=order, ends=ends)
         sizes: dict[int, int] = collections.Counter()
         for found in run.finish("ranging", run.map(running.sizes_of_ranges, pairs)):
             sizes.update(found)
@@ -348,11 +355,11 @@ def write_csv(
     run: Run, plan: Plan, settings: Settings, types: Mapping[str, DType], file: Any, delimiter: str = ",",
     null: str = "",
 ) -> Done:  # fmt: skip
-    """Writes the rows of a plan to a file of text."""
+    """Writes the rows of a plan to a file of bytes."""
     made = Distribution(run, plan, settings).answers()
     alike: set[Any] = set()
     for text in csv_lines(list(types), [], delimiter, null=null):
-        file.write(text)
+        file.write(text.encode(errors="replace"))
     for it in _in_order(run, made, running.csv_text, types=types, delimiter=delimiter, null=null):
         alike |= it.alike
         # refuses nulls and empty texts of one column

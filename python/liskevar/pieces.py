@@ -12,14 +12,18 @@ from collections.abc import Iterable, Mapping, Sequence
 from dataclasses import dataclass
 from typing import Any, NamedTuple, Protocol
 
+from .columns import Cells, column_of
 from .csv_files import LOOKS, Fields, Source, blocks, delimiter_of, fields_of, fields_pattern, guess_of, header_of
 from .csv_files import marked, told_forms
 from .dtypes import BINARY, BOOLEAN, RANGES, STRING, Cell, DType, Guess, Type, dtype_of
 from .errors import Refused
+from .plain_fields import PlainFields, fields_at, spelled, whole_numbers
 from .tables import Column, Table, Types, told_types
 
 BYTES_OF_A_PIECE, MOST_PIECES = 8_388_608, 1_024
-DECIMAL = re.compile(r"-?(?:0|[1-9][0-9]{0,39})(?:\.([0-9]+))?")
+DECIMAL = r"-?(?:0|[1-9][0-9]{0,39})(?:\.([0-9]+))?"
+# So many fields tell whether a column can be anything but texts.
+SOME = 200
 # What a type of Parquet is here; whole numbers of fewer than 32 bits are widened.
 PARQUET = {
     **dict.fromkeys(("int8", "int16", "int32"), "Int32"), **dict.fromkeys(("uint8", "uint16", "uint32"), "UInt32"),
@@ -34,8 +38,8 @@ PARQUET_ENDS = (".parquet", ".pq")
 class Piece(Protocol):
     """Some rows of a table."""
 
-    def cells(self, types: Mapping[str, DType]) -> list[list[Cell]]:
-        """The cells of some columns, in this order."""
+    def columns(self, types: Mapping[str, DType]) -> list[Cells]:
+        """Some columns, in this order."""
 
 
 class Look(NamedTuple):
@@ -67,13 +71,17 @@ def look_at(fields: Fields) -> Look:
     number, whole = None, fields.number_ends(0)
     if whole is not None:
         number = (0, *whole)
-    else:
-        found = [DECIMAL.fullmatch(it) for it in fields.distinct]
-        digits = max([1, *(len((it[1] or "").rstrip("0")) for it in found if it)]) if all(found) else 99
+    elif fields.spell(DECIMAL):
+        found = [re.fullmatch(DECIMAL, it) for it in fields.distinct]
+        digits = max([1, *(len((it[1] or "").rstrip("0")) for it in found if it)])
         ends = fields.number_ends(digits) if digits <= 18 else None
         number = None if ends is None else (digits, *ends)
     looks = frozenset(filter(fields.look_like, LOOKS)) if fields.distinct else None
     return Look(fields.is_empty, looks, number, fields.fits(BOOLEAN), fields.fits(BINARY))
+
+
+# What is told where one field after the other is none of a number, a date, a truth or bytes.
+TEXTS = Look(False, frozenset(), None, False, False)
 
 
 @dataclass(frozen=True)
@@ -88,17 +96,55 @@ class CsvPiece:
     def _fields(self, read: Iterable[str] | None) -> tuple[list[Fields], int]:
         return fields_of(self.source, self.names, read, self.empty_is_text, 64)
 
+    def _plain(self) -> PlainFields | None:
+        try:
+            return fields_at(self.source, len(self.names))
+        except OSError as error:
+            raise Refused(f"{self.source.path}: {error.strerror}") from error
+
+    def _column(self, plain: PlainFields, name: str, rows: slice = slice(None)) -> Fields:
+        """The fields of a column, or of some of its rows, as texts."""
+        place = self.names.index(name)
+        return Fields(self.source, name, place, plain.values(place, rows), self.empty_is_text)
+
     def looks(self, read: Iterable[str]) -> tuple[list[Look], int]:
         """What some columns spell, and the number of rows."""
-        wanted = set(read)
+        wanted, plain = set(read), self._plain()
+        if plain is not None:
+            return [self._look(plain, it) for it in self.names if it in wanted], len(plain)
         fields, height = self._fields(wanted)
         return [look_at(it) for it in fields if it.name in wanted], height
 
+    def _look(self, plain: PlainFields, name: str) -> Look:
+        whole = whole_numbers(plain.column(self.names.index(name)))
+        if whole is not None:
+            are = frozenset({"numbers", "decimals"})
+            return Look(False, are, (0, whole.least, whole.greatest), False, whole.is_even)
+        # what some fields can't be all can't be
+        some = look_at(self._column(plain, name, slice(SOME)))
+        return some if some == TEXTS else look_at(self._column(plain, name))
+
     def cells(self, types: Mapping[str, DType]) -> list[list[Cell]]:
-        """The cells of some columns, in this order."""
+        """The cells of some columns, in this order, one by one."""
         fields = {it.name: it for it in self._fields(types)[0]}
-        spell = {name: fields[name].column(it).spell for name, it in self.forms.items() if name in types}
-        return [spell.get(name, fields[name].cells)(dtype) for name, dtype in types.items()]
+        return [self._spelled(fields[name], dtype) for name, dtype in types.items()]
+
+    def _spelled(self, fields: Fields, dtype: DType) -> list[Cell]:
+        form = self.forms.get(fields.name)
+        return fields.cells(dtype) if form is None else fields.column(form).spell(dtype)
+
+    def columns(self, types: Mapping[str, DType]) -> list[Cells]:
+        """Some columns, in this order."""
+        plain, found = self._plain(), []
+        if plain is None:
+            return list(map(column_of, self.cells(types)))
+        for name, dtype in types.items():
+            place = self.names.index(name)
+            column = None if name in self.forms else spelled(plain, place, dtype, self.empty_is_text)
+            if column is None:
+                column = column_of(self._spelled(self._column(plain, name), dtype))
+            found.append(column)
+        return found
 
 
 @dataclass(frozen=True)
@@ -115,16 +161,20 @@ class ParquetPiece:
         table = pyarrow.parquet.ParquetFile(self.path).read_row_group(self.group, columns=list(types))
         return [[dtype.cell(it) for it in table.column(name).to_pylist()] for name, dtype in types.items()]
 
+    def columns(self, types: Mapping[str, DType]) -> list[Cells]:
+        """Some columns, in this order."""
+        return list(map(column_of, self.cells(types)))
+
 
 @dataclass(frozen=True)
 class HeldPiece:
     """The rows of a table that is in memory."""
 
-    columns: Mapping[str, list[Cell]]
+    held: Mapping[str, list[Cell]]
 
-    def cells(self, types: Mapping[str, DType]) -> list[list[Cell]]:
-        """The cells of some columns, in this order; they were spelled before."""
-        return [self.columns[it] for it in types]
+    def columns(self, types: Mapping[str, DType]) -> list[Cells]:
+        """Some columns, in this order; their cells were spelled before."""
+        return [column_of(self.held[it]) for it in types]
 
 
 @dataclass(frozen=True, eq=False)

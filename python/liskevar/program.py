@@ -7,7 +7,9 @@ import os
 import re
 import shutil
 import subprocess
+import tempfile
 from collections.abc import Sequence
+from typing import Any
 
 from .errors import BY_STATUS, LiskevarError, NotOffered
 from .nodes import Node
@@ -16,6 +18,8 @@ from .places import PACKAGE
 LINE = re.compile(r'error \d+: (?P<fault>[^:\n]*?)(?: at node (?P<node>\d+))?(?:: (?P<name>".*"))?\n?', re.DOTALL)
 # The statuses of which the command `why` tells more.
 EXPLAINED = (4, 5, 6, 7)
+# So many bytes and more are given in a file.
+LONG = 1 << 20
 
 
 @functools.lru_cache(maxsize=8)
@@ -63,8 +67,15 @@ def digest() -> str:
 def _called(words: Sequence[str], text: bytes = b"") -> subprocess.CompletedProcess[bytes]:
     """What the program does, told words and a text."""
     program, environment = find_program(), {"MALLOC_ARENA_MAX": "1", **os.environ}
+    told: dict[str, Any] = {"capture_output": True, "env": environment, "check": False}
     try:
-        return subprocess.run([program, *words], input=text, capture_output=True, env=environment, check=False)
+        if len(text) < LONG:
+            return subprocess.run([program, *words], input=text, **told)
+        # a pipe takes few bytes at a time
+        with tempfile.TemporaryFile() as file:
+            file.write(text)
+            file.seek(0)
+            return subprocess.run([program, *words], stdin=file, **told)
     except OSError as error:
         raise NotOffered(f"{program}: {error.strerror}") from error
 
