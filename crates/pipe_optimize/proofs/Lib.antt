@@ -1,4 +1,5 @@
 pub mod NameLists
+pub mod Steps
 pub mod Shared
 pub mod Cut
 pub mod Over
@@ -13,5 +14,4 @@ pub mod Readers
 pub mod Plans
 pub mod ByNames
 pub mod Passing
-pub mod Steps
 pub mod Optimized

@@ -58,6 +58,13 @@ set-apart (k ∷ lists) (suc i) (suc n) l h = set-apart lists i n l (λ same. h 
 pub set-other : (lists : List (List (List ℕ))) (i n : ℕ) (l : List (List ℕ)) → eqb i n ≡ false → names_at (set lists i l) n ≡ names_at lists n
 set-other lists i n l e = set-apart lists i n l (λ same. clash (eqb i n) ((Decides-eqb i n).1 same) e)
 
+pub got-names : (lists : List (List (List ℕ))) (n : ℕ) (l : List (List ℕ)) → n < length lists → l ≡ get_or lists n l → l ≡ names_at lists n
+got-names [] n l lt is = absurd (omega arith)
+got-names (k ∷ lists) zero l lt is = is
+got-names (k ∷ lists) (suc n) l lt is = got-names lists n l (omega arith) is
+
+pub ruleset set_rules = (set-here, set-other, got-names)
+
 -- ---- names, upwards
 
 module _ (frames : List Table) (nodes : List Node) (ordered : AreOrdered nodes) where
@@ -257,19 +264,44 @@ passed-begun lists irs root k needs is long whole =
     let same : length (map node_of irs) ≡ k = omega arith in
     subst (λ q. ArePassed lists (map node_of irs) root q needs) same (passed-none lists (map node_of irs) root needs (omega arith) whole)
 
-names-got : (lists : List (List (List ℕ))) (n : ℕ) (d : List (List ℕ)) → n < length lists → names_at lists n ≡ get_or lists n d
-names-got [] n d lt = absurd (omega arith)
-names-got (k ∷ lists) zero d lt = refl
-names-got (k ∷ lists) (suc n) d lt = names-got lists n d (omega arith)
+-- what is needed of a node is out while it is handed down
+pub record IsBack (n : ℕ) (old taken put new : List (List (List ℕ))) (needed : List (List ℕ)) : Type 0 where
+  pub was : needed ≡ names_at old n
+  pub out : (i : ℕ) → eqb n i ≡ false → names_at taken i ≡ names_at old i
+  pub out_long : length taken ≡ length old
+  pub here : names_at new n ≡ needed
+  pub back : (i : ℕ) → eqb n i ≡ false → names_at new i ≡ names_at put i
+  pub back_long : length new ≡ length put
 
-pub passed-step : (lists : List (List (List ℕ))) (irs : List IR) (root k n : ℕ) (needs new : List (List (List ℕ))) (x : IR) (d needed : List (List ℕ)) → AreTree (map node_of irs) root → k ≡ suc n → k ≤ length irs → x ≡ get_or irs n x → ArePassed lists (map node_of irs) root k needs → needed ≡ get_or needs n d → HasPut (need_by (names_at lists) (node_of x) needed) (inputs_of (node_of x)) needs new → ArePassed lists (map node_of irs) root n new
-passed-step lists irs root k n needs new x d needed tree is le at before copy put =
+pub put-around : (f : ℕ → List (List ℕ)) (is : List ℕ) (n : ℕ) (old taken put new : List (List (List ℕ))) (needed : List (List ℕ)) → member n is ≡ false → IsBack n old taken put new needed → HasPut f is taken put → HasPut f is old new
+put-around f is n old taken put new needed apart b h = record {
+  long = b.back_long ∙ h.long ∙ b.out_long;
+  put = λ i own. (
+      let split : (c : Bool) → eqb n i ≡ c → names_at new i ≡ f i = elim [
+        | true ↦ λ e. (let same : n ≡ i = (Decides-eqb n i).0 e in clash (member i is) own (ap (λ q. member q is) (sym same) ∙ apart))
+        | false ↦ λ e. b.back i e ∙ h.put i own
+      ] in split (eqb n i) refl);
+  kept = λ i out. (
+      let split : (c : Bool) → eqb n i ≡ c → names_at new i ≡ names_at old i = elim [
+        | true ↦ λ e. (let same : n ≡ i = (Decides-eqb n i).0 e in subst (λ q. names_at new q ≡ names_at old q) same (b.here ∙ b.was))
+        | false ↦ λ e. b.back i e ∙ h.kept i out ∙ b.out i e
+      ] in split (eqb n i) refl);
+}
+
+-- a node reads smaller ones alone
+pub not-own : (irs : List IR) (root n : ℕ) (x : IR) → AreTree (map node_of irs) root → n < length irs → x ≡ get_or irs n x → member n (inputs_of (node_of x)) ≡ false
+not-own irs root n x tree lt at =
+    let nodes = map node_of irs in
+    let many = map-long node_of irs in
+    let here : node_at nodes n ≡ node_of x = read-at irs n x lt at in
+    never (member n (inputs_of (node_of x))) (λ own. (let less = tree.ordered n n (omega arith) (ap (λ y. member n (inputs_of y)) here ∙ own) in absurd (omega arith)))
+
+pub passed-step : (lists : List (List (List ℕ))) (irs : List IR) (root k n : ℕ) (needs new : List (List (List ℕ))) (x : IR) (needed : List (List ℕ)) → AreTree (map node_of irs) root → k ≡ suc n → k ≤ length irs → x ≡ get_or irs n x → ArePassed lists (map node_of irs) root k needs → needed ≡ names_at needs n → HasPut (need_by (names_at lists) (node_of x) needed) (inputs_of (node_of x)) needs new → ArePassed lists (map node_of irs) root n new
+passed-step lists irs root k n needs new x needed tree is le at before own put =
     let nodes = map node_of irs in
     let many = map-long node_of irs in
     let here : node_at nodes n ≡ node_of x = read-at irs n x (omega arith) at in
     let old = subst (λ q. ArePassed lists nodes root q needs) is before in
-    let long = old.long in
-    let own : needed ≡ names_at needs n = copy ∙ sym (names-got needs n d (omega arith)) in
     passed-next lists nodes root n needs new needed tree (omega arith) old own
     (subst (λ y. HasPut (need_by (names_at lists) y needed) (inputs_of y) needs new) (sym here) put)
 

@@ -17,7 +17,7 @@ take-push [] i d h = absurd (omega arith)
 take-push (y ∷ xs) zero d h = refl
 take-push (y ∷ xs) (suc i) d h = ap (λ l. y ∷ l) (take-push xs i d (omega arith))
 
-take-next : {A : Type 0} (xs : List A) (i : ℕ) (x : A) → i < length xs → x ≡ get_or xs i x → take (i + 1) xs ≡ take i xs ++ x ∷ []
+pub take-next : {A : Type 0} (xs : List A) (i : ℕ) (x : A) → i < length xs → x ≡ get_or xs i x → take (i + 1) xs ≡ take i xs ++ x ∷ []
 take-next xs i x lt is = (let e : i + 1 ≡ suc i = omega arith in ap (λ k. take k xs) e ∙ take-push xs i x lt ∙ ap (λ y. take i xs ++ y ∷ []) (sym is))
 
 -- one more of what is made of each

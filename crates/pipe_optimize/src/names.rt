@@ -30,11 +30,7 @@ pub(crate) fn has(names: &NameIndex<Text>, name: &Text) -> bool
 }
 
 /// Those of some names that stand among others.
-pub(crate) fn kept(
-    alloc: Global,
-    names: &[Text],
-    among: &NameIndex<Text>,
-) -> Result<List<Text>, AllocError>
+fn kept(alloc: Global, names: &[Text], among: &NameIndex<Text>) -> Result<List<Text>, AllocError>
     ensures { IfOk result (λ kept. kept ≡ filter (has_name among.now) names.now) }
 {
     let mut kept = List::new(alloc);
@@ -58,15 +54,26 @@ pub(crate) fn kept_among(
     kept(alloc, names, &among)
 }
 
+/// Copies of some names, with room for more.
+pub(crate) fn copied_with_room(
+    alloc: Global,
+    names: &[Text],
+    room: usize,
+) -> Result<List<Text>, AllocError>
+    ensures { IfOk result (λ copies. copies ≡ names.now) }
+{
+    let mut copies = Vec::with_capacity(alloc, names.len().saturating_add(room))?;
+    for name in names {
+        copies.push(name.try_clone()?)?;
+    }
+    Ok(List::from_vec(copies))
+}
+
 /// Copies of some names.
 pub(crate) fn copied(alloc: Global, names: &[Text]) -> Result<List<Text>, AllocError>
     ensures { IfOk result (λ copies. copies ≡ names.now) }
 {
-    let mut copies = List::new(alloc);
-    for name in names {
-        copies.push(name.try_clone()?)?;
-    }
-    Ok(copies)
+    copied_with_room(alloc, names, 0)
 }
 
 /// The names of some fields.

@@ -1,14 +1,16 @@
 //! The columns that a node needs of its inputs.
 
-ghost use Rattle.std.specs.Prelude.{◌≡◌, map, filter, IfOk};
+ghost use Rattle.std.specs.Prelude.{◌≡◌, true, map, filter, IfOk};
+ghost use Rattle.std.specs.List.{AllByRecursion};
 ghost use Rattle.pipe_frame.specs.Schema.{has_name};
 ghost use Rattle.pipe_expr.specs.Formula.{formula_of};
 ghost use Rattle.pipe_plan.specs.Node.{node_of};
+ghost use Rattle.pipe_needs.specs.Needs.{keys_read as read_by_keys};
 ghost use Rattle.pipe_optimize.specs.Lists.{names_at as kept_names_at, or_head};
 ghost use Rattle.pipe_optimize.specs.Sides.{is_either, is_needed_anew, right_needed, kept_right_of, kept_left_of, kept_sorted_of, kept_function_of, kept_by, need_by};
 
-use crate::names::{copied, has, kept, kept_among, names_at};
-use crate::outputs::{is_kept, is_pairing, suffixed};
+use crate::names::{copied, has, kept_among, names_at};
+use crate::outputs::{is_kept, is_pairing, push_shown_names, suffixed};
 use crate::reads::{columns_of, columns_read, keys_read};
 use pipe_expr::{Expr, FunctionIR, RenamePair};
 use pipe_fields::{NameIndex, plain_names};
@@ -41,17 +43,52 @@ fn kept_of_either(
     Ok(kept)
 }
 
-/// Those of some names that are needed, or read.
-fn kept_either(
+/// Whether some names stand at the start of others, and so among them.
+fn begins_with(others: &[Text], names: &[Text]) -> bool
+    ensures { result ≡ true → AllByRecursion (λ name. has_name others.now name ≡ true) names.now }
+{
+    if others.len() < names.len() {
+        return false;
+    }
+    for i in 0..names.len() {
+        if !others[i].is_same(&names[i]) {
+            return false;
+        }
+    }
+    true
+}
+
+/// Those of some names that are needed, or read, by indices.
+fn kept_of_some(
     alloc: Global,
     names: &[Text],
-    needed: &NameIndex<Text>,
+    needed: &[Text],
     read: &[Text],
 ) -> Result<List<Text>, AllocError>
     ensures { IfOk result (λ kept. kept ≡ filter (is_either needed.now read.now) names.now) }
 {
+    let needed = NameIndex::of(alloc, needed)?;
     let read = NameIndex::of(alloc, read)?;
-    kept_of_either(alloc, names, needed, &read)
+    kept_of_either(alloc, names, &needed, &read)
+}
+
+/// Those of some names that are needed, or read. Where all are needed, which shows at once, no name is looked up.
+#[tactic(auto, using(crate::proofs::Shared::begun_rules))]
+fn kept_either(
+    alloc: Global,
+    names: &[Text],
+    needed: &[Text],
+    read: &[Text],
+) -> Result<List<Text>, AllocError>
+    ensures { IfOk result (λ kept. kept ≡ filter (is_either needed.now read.now) names.now) }
+{
+    if begins_with(needed, names) {
+        let kept = copied(alloc, names)?;
+        Ok(kept)
+    } else {
+        let kept = kept_of_some(alloc, names, needed, read)?;
+        Ok(kept)
+    }
 }
 
 /// Whether a column gets a needed name.
@@ -127,6 +164,31 @@ fn kept_of_right(
     Ok(kept)
 }
 
+/// Those of a join's right names that are needed, by its left names and its plain keys. Of the needed names only those
+/// count under which a right column is shown.
+fn kept_shown(
+    alloc: Global,
+    left: &NameIndex<Text>,
+    keys: &NameIndex<Text>,
+    right: &[Text],
+    right_on: &[Expr],
+    needed: &[Text],
+    options: &JoinOptions,
+) -> Result<List<Text>, AllocError>
+    ensures { let read = read_by_keys (map formula_of right_on.now) in
+        IfOk result (λ kept. kept
+        ≡ filter (right_needed left.now keys.now read needed.now options.now) right.now) }
+{
+    let mut shown = List::new(alloc);
+    push_shown_names(alloc, &mut shown, left, keys, options, right)?;
+    let few = kept_among(alloc, needed, shown.as_slice())?;
+    let wanted = NameIndex::of(alloc, few.as_slice())?;
+    let columns = keys_read(alloc, right_on)?;
+    let read = NameIndex::of(alloc, columns.as_slice())?;
+    let kept = kept_of_right(alloc, left, keys, &read, &wanted, options, right)?;
+    Ok(kept)
+}
+
 /// Those of a join's right names that are needed. Of the left names only those count that a right column has too.
 #[tactic(auto, using(crate::proofs::Shared::shared_rules))]
 fn kept_right(
@@ -134,7 +196,7 @@ fn kept_right(
     left: &[Text],
     right: &[Text],
     right_on: &[Expr],
-    needed: &NameIndex<Text>,
+    needed: &[Text],
     options: &JoinOptions,
 ) -> Result<List<Text>, AllocError>
     ensures { IfOk result (λ kept. kept
@@ -144,9 +206,7 @@ fn kept_right(
     let left = NameIndex::of(alloc, shared.as_slice())?;
     let plain = plain_names(alloc, right_on)?;
     let keys = NameIndex::of(alloc, plain.as_slice())?;
-    let columns = keys_read(alloc, right_on)?;
-    let read = NameIndex::of(alloc, columns.as_slice())?;
-    let kept = kept_of_right(alloc, &left, &keys, &read, needed, options, right)?;
+    let kept = kept_shown(alloc, &left, &keys, right, right_on, needed, options)?;
     Ok(kept)
 }
 
@@ -156,7 +216,7 @@ fn kept_left(
     alloc: Global,
     left: &[Text],
     left_on: &[Expr],
-    needed: &NameIndex<Text>,
+    needed: &[Text],
     right: List<Text>,
 ) -> Result<List<Text>, AllocError>
     ensures { IfOk result (λ kept.
@@ -168,11 +228,29 @@ fn kept_left(
     kept_either(alloc, left, needed, read.as_slice())
 }
 
+/// Those of a join's left names that are needed, over its right names.
+fn kept_left_beside(
+    alloc: Global,
+    left: &[Text],
+    right: &[Text],
+    left_on: &[Expr],
+    right_on: &[Expr],
+    needed: &[Text],
+    options: &JoinOptions,
+) -> Result<List<Text>, AllocError>
+    ensures { let kept_right = kept_right_of left.now right.now (map formula_of right_on.now)
+        needed.now options.now in IfOk result (λ kept.
+        kept ≡ kept_left_of left.now (map formula_of left_on.now) needed.now kept_right) }
+{
+    let kept = kept_right(alloc, left, right, right_on, needed, options)?;
+    kept_left(alloc, left, left_on, needed, kept)
+}
+
 /// What a sort needs of its input: with a slice all, else what is needed, and its keys.
 fn kept_sorted(
     alloc: Global,
     names: &[Text],
-    needed: &NameIndex<Text>,
+    needed: &[Text],
     by: &[Text],
     options: &SortOptions,
 ) -> Result<List<Text>, AllocError>
@@ -189,7 +267,7 @@ fn kept_sorted(
 fn kept_function(
     alloc: Global,
     names: &[Text],
-    needed: &NameIndex<Text>,
+    needed: &[Text],
     function: &FunctionIR,
 ) -> Result<List<Text>, AllocError>
     ensures { IfOk result (λ kept. kept ≡ kept_function_of function.now needed.now names.now) }
@@ -200,13 +278,11 @@ fn kept_function(
             index,
             variable: _,
             value: _,
-        } => {
-            let on = NameIndex::of(alloc, on.as_slice())?;
-            kept_either(alloc, names, &on, index.as_slice())
-        }
+        } => kept_either(alloc, names, on.as_slice(), index.as_slice()),
         FunctionIR::Rename { pairs } => {
+            let needed = NameIndex::of(alloc, needed)?;
             let pairs = NameIndex::of(alloc, pairs.as_slice())?;
-            kept_renamed(alloc, names, needed, &pairs)
+            kept_renamed(alloc, names, &needed, &pairs)
         }
     }
 }
@@ -216,7 +292,7 @@ fn raw_need(
     alloc: Global,
     lists: &[List<Text>],
     node: &IR,
-    needed: &NameIndex<Text>,
+    needed: &[Text],
     input: u32,
 ) -> Result<List<Text>, AllocError>
     ensures { IfOk result (λ kept.
@@ -238,7 +314,7 @@ fn raw_need(
         IR::SimpleProjection {
             input: _,
             columns: _,
-        } => kept(alloc, names, needed),
+        } => kept_among(alloc, names, needed),
         IR::Select { input: _, exprs } => {
             let read = columns_read(alloc, needed, exprs.as_slice())?;
             kept_among(alloc, names, read.as_slice())
@@ -257,12 +333,13 @@ fn raw_need(
             options,
         } => {
             let lefts = names_at(lists, *left);
-            let rights = names_at(lists, *right);
-            let kept = kept_right(alloc, lefts, rights, right_on.as_slice(), needed, options)?;
+            let right_on = right_on.as_slice();
             if input == *left {
-                kept_left(alloc, lefts, left_on.as_slice(), needed, kept)
+                let rights = names_at(lists, *right);
+                let left_on = left_on.as_slice();
+                kept_left_beside(alloc, lefts, rights, left_on, right_on, needed, options)
             } else {
-                kept_right(alloc, lefts, names, right_on.as_slice(), needed, options)
+                kept_right(alloc, lefts, names, right_on, needed, options)
             }
         }
         IR::Sort {
@@ -291,7 +368,7 @@ pub(crate) fn input_need(
     alloc: Global,
     lists: &[List<Text>],
     node: &IR,
-    needed: &NameIndex<Text>,
+    needed: &[Text],
     input: u32,
 ) -> Result<List<Text>, AllocError>
     ensures { IfOk result (λ kept.

@@ -6,7 +6,8 @@ ghost use Rattle.pipe_expr.specs.Formula.{formula_of, named_formula_of};
 ghost use Rattle.pipe_expr.specs.Types.{columns_in};
 ghost use Rattle.pipe_needs.specs.Needs.{columns_read as read_by, needed_exprs, keys_read as read_by_keys};
 
-use crate::names::has;
+use crate::names::{has, kept_among};
+use crate::outputs::expr_names;
 use pipe_expr::{Expr, NamedExpr};
 use pipe_fields::NameIndex;
 use pipe_frame::{List, Text, TryClone};
@@ -74,8 +75,8 @@ fn push_if_needed(
     Ok(())
 }
 
-/// The columns that the expressions under needed names read.
-pub(crate) fn columns_read(
+/// The columns that the expressions under needed names read, which are looked up.
+fn columns_read_under(
     alloc: Global,
     needed: &NameIndex<Text>,
     exprs: &[NamedExpr],
@@ -87,5 +88,22 @@ pub(crate) fn columns_read(
     for expr in exprs {
         push_if_needed(&mut read, needed, expr)?;
     }
+    Ok(read)
+}
+
+/// The columns that the expressions under needed names read. Of the needed names only those count that an expression
+/// has.
+pub(crate) fn columns_read(
+    alloc: Global,
+    needed: &[Text],
+    exprs: &[NamedExpr],
+) -> Result<List<Text>, AllocError>
+    ensures { IfOk result (λ read.
+        read ≡ read_by (needed_exprs (has_name needed.now) (map named_formula_of exprs.now))) }
+{
+    let own = expr_names(alloc, exprs)?;
+    let shared = kept_among(alloc, needed, own.as_slice())?;
+    let index = NameIndex::of(alloc, shared.as_slice())?;
+    let read = columns_read_under(alloc, &index, exprs)?;
     Ok(read)
 }

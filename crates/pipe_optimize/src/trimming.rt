@@ -1,6 +1,6 @@
 //! Columns that nobody needs, left out of a plan.
 
-ghost use Rattle.std.specs.Prelude.{◌≡◌, ◌<◌, ◌≤◌, ℕ, true, map, length, IfOk, OnOk};
+ghost use Rattle.std.specs.Prelude.{◌≡◌, ◌<◌, ◌≤◌, ◌==◌, ℕ, true, false, map, length, IfOk, OnOk};
 ghost use Rattle.pipe_plan.specs.Node.{node_of};
 ghost use Rattle.pipe_plan.specs.Under.{inputs_of};
 ghost use Rattle.pipe_plan.specs.Faults.{most_nodes};
@@ -14,11 +14,11 @@ use crate::names::{copied, names_at};
 use crate::narrowing::narrow;
 use crate::needed::input_need;
 use crate::outputs::output_names;
-use pipe_fields::NameIndex;
 use pipe_frame::{DataFrame, List, Text};
 use pipe_opt::inputs;
 use pipe_plan::IR;
 use std::alloc::{AllocError, Global};
+use std::mem::replace;
 
 /// The names of the outputs of some nodes.
 fn node_names(
@@ -49,10 +49,9 @@ fn put_needs(
     ensures { OnOk result (HasPut (need_by (kept_names_at lists.now) (node_of node.now) needed.now)
         (inputs_of (node_of node.now)) needs.old needs.new) }
 {
-    let index = NameIndex::of(alloc, needed)?;
     let numbers = inputs(alloc, node)?;
     for input in numbers.as_slice() {
-        let need = input_need(alloc, lists, node, &index, *input)?;
+        let need = input_need(alloc, lists, node, needed, *input)?;
         needs[*input as usize] = need;
     }
     Ok(())
@@ -93,6 +92,30 @@ fn first_needs(
     Ok(needs)
 }
 
+/// Takes out what is needed of a node.
+#[tactic(auto, using(crate::proofs::Passing::set_rules))]
+fn take_need(alloc: Global, needs: &mut [List<Text>], n: usize) -> List<Text>
+    requires { n < length needs.old }
+    ensures taken { result ≡ kept_names_at needs.old n }
+    ensures others { (i : ℕ) → (n == i) ≡ false
+        → kept_names_at needs.new i ≡ kept_names_at needs.old i }
+    ensures long { length needs.new ≡ length needs.old }
+{
+    replace(&mut needs[n], List::new(alloc))
+}
+
+/// Puts back what is needed of a node.
+#[tactic(auto, using(crate::proofs::Passing::set_rules))]
+fn put_back(needs: &mut [List<Text>], n: usize, names: List<Text>)
+    requires { n < length needs.old }
+    ensures here { kept_names_at needs.new n ≡ names }
+    ensures others { (i : ℕ) → (n == i) ≡ false
+        → kept_names_at needs.new i ≡ kept_names_at needs.old i }
+    ensures long { length needs.new ≡ length needs.old }
+{
+    needs[n] = names;
+}
+
 /// Hands down what is needed, from the last node to the first.
 fn pass_needs(
     alloc: Global,
@@ -109,8 +132,9 @@ fn pass_needs(
     let mut n = nodes.len();
     while n > 0 {
         n -= 1;
-        let needed = copied(alloc, needs[n].as_slice())?;
+        let needed = take_need(alloc, needs, n);
         put_needs(alloc, lists, &nodes[n], needed.as_slice(), needs)?;
+        put_back(needs, n, needed);
     }
     Ok(())
 }

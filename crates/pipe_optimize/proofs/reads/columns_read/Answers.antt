@@ -1,9 +1,16 @@
+use Rattle.std.proofs.Common.{◌≡◌, filter, map, ap, ◌∙◌}
 use Rattle.pipe_frame.specs.Schema.{has_name}
 use Rattle.pipe_expr.specs.Formula.{named_formula_of}
-use Rattle.pipe_plan.specs.Faults.{expr_columns}
-use Rattle.pipe_needs.specs.Needs.{is_needed}
-use Rattle.pipe_optimize.proofs.Steps.{some-next}
+use Rattle.pipe_expr.specs.Projections.{expr_name}
+use Rattle.pipe_needs.specs.Needs.{needed_exprs, columns_read}
+use Rattle.pipe_optimize.proofs.Shared.{read-shared}
 use Rattle.pipe_optimize.proofs.reads.columns_read.Goals as goal
 
-pub loop-expr-preserved : goal.loop-expr-preserved
-loop-expr-preserved c = some-next named_formula_of (is_needed (has_name c.args.needed.now)) expr_columns c.args.exprs.now c.loop-expr.expr-index c.expr-item.result c.loop-expr.read c.push_if_needed.new.read c.loop-expr.invariant c.loop-expr-test.true c.expr-item.is c.in_ok-push_if_needed.ensures
+pub returns : goal.returns
+returns c =
+    let exprs = map named_formula_of c.args.exprs.now in
+    let needed = c.args.needed.now in
+    let own : c.as_slice.result.now ≡ map expr_name exprs = c.as_slice.ensures ∙ c.in_ok-own.ensures in
+    let few : c.in_ok-index.index ≡ filter (has_name (map expr_name exprs)) needed =
+    c.in_ok-index.ensures ∙ c.as_slice-2.ensures ∙ c.in_ok-shared.ensures ∙ ap (λ l. filter (has_name l) needed) own in
+    read-shared needed exprs c.in_ok-read.read (c.in_ok-read.ensures ∙ ap (λ w. columns_read (needed_exprs (has_name w) exprs)) few)

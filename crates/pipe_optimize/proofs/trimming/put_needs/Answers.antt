@@ -32,7 +32,7 @@ loop-input-preserved c =
     let lt : x < length c.args.needs.now = c.requires x among in
     let long = c.loop-input.invariant.long in
     let f = need_by (names_at c.args.lists.now) (node_of c.args.node.now) c.args.needed.now in
-    put-step f xs i c.args.needs.now c.loop-input.needs c.in_ok-need.need c.loop-input-test.true c.loop-input.invariant (omega arith) (c.in_ok-need.ensures ∙ ap (λ l. need_by (names_at c.args.lists.now) (node_of c.args.node.now) l x) c.in_ok-index.ensures)
+    put-step f xs i c.args.needs.now c.loop-input.needs c.in_ok-need.need c.loop-input-test.true c.loop-input.invariant (omega arith) c.in_ok-need.ensures
 
 pub returns : goal.returns
 returns c =
