@@ -1,5 +1,5 @@
 -- A sink is closed, or stays open.
-use Rattle.std.proofs.Common.{◌≡◌, ℕ, ◌<◌, List, [], ◌∷◌, ◌++◌, refl, sym, ap, subst, ◌∙◌, arith, ◌==◌, Bool, true, Option}
+use Rattle.std.proofs.Common.{◌≡◌, ℕ, ◌<◌, List, [], ◌∷◌, ◌++◌, refl, sym, ap, subst, ◌∙◌, arith, ◌==◌, Bool, true}
 use Rattle.std.specs.List.{AllByRecursion}
 use Rattle.pipe_frame.specs.Rows.{Row}
 use Rattle.pipe_frame.specs.Weights.{total}
@@ -8,7 +8,7 @@ use Rattle.pipe_legs.specs.Meaning.{Meaning, Place, Into, from, due}
 use Rattle.pipe_legs.specs.Legs.{Leg, Way}
 use Rattle.pipe_legs.specs.Ways.{one, way_to, feeds, way_through, passes, starts, way_starts, begun, way_brings, brought, own_brings, IsSound}
 use Rattle.pipe_legs.proofs.Tests.{by_test, eq-is, eq-true, eq-false, eq-not, all-append, all-map}
-use Rattle.pipe_driver.specs.State.{World, Counts, IsOpen, pending, gained_brings, IsBuilt, IsLeft, IsParked, IsBetween, IsReady, IsFed, HasClosed, TakesOut, BeginsElsewhere, nothing, none_due, is_sink}
+use Rattle.pipe_driver.specs.State.{World, Counts, IsOpen, pending, gained_brings, Slot, IsBuilt, IsLeft, IsParked, IsBetween, IsReady, IsFed, HasClosed, TakesOut, BeginsElsewhere, nothing, none_due, is_sink}
 use Rattle.pipe_driver.proofs.Sums.{split4, brought_append}
 
 -- ---- the sink stays open
@@ -73,7 +73,7 @@ closed_left m old new c s parked live todo is none has filled much =
           (λ e. (let same = eq-is j s e in
           let P : ℕ → Type 0 = λ n. IsBuilt m n (new.slot n) in
           subst P (sym same) (filled (ap m.is_join (sym same) ∙ join))))
-          (λ e. (let P : Option (List Row) → Type 0 = IsBuilt m j in
+          (λ e. (let P : Slot → Type 0 = IsBuilt m j in
           subst P (sym (has.slots j (eq-not j s e)))
           (is.left.built j e join (let b = much.pass j in omega arith) zero)));
       once = λ k. (let a = is.left.once k in let b = much.begin k in omega arith);

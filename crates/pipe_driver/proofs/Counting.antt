@@ -1,5 +1,5 @@
 -- A leg is counted at each node that it went through, the last one closes a join, and at last at its sink.
-use Rattle.std.proofs.Common.{◌≡◌, ℕ, ◌+◌, ◌<◌, ◌≤◌, List, [], ◌∷◌, ◌++◌, refl, sym, ap, subst, ◌∙◌, arith, ◌==◌, Bool, true, false, inl, inr, Option}
+use Rattle.std.proofs.Common.{◌≡◌, ℕ, ◌+◌, ◌<◌, ◌≤◌, List, [], ◌∷◌, ◌++◌, refl, sym, ap, subst, ◌∙◌, arith, ◌==◌, Bool, true, false, inl, inr, cond}
 use Rattle.std.specs.List.{AllByRecursion}
 use Rattle.pipe_frame.specs.Rows.{Row}
 use Rattle.pipe_frame.specs.Weights.{total}
@@ -9,7 +9,7 @@ use Rattle.pipe_legs.specs.Legs.{Way}
 use Rattle.pipe_legs.specs.Ways.{one, occurs, feeds, passes, brought, own_brings, AreLegs, IsWay, IsSound}
 use Rattle.pipe_legs.proofs.Tests.{by_test, eq-is, eq-true, eq-false, eq-not, some-left, all-map}
 use Rattle.pipe_legs.proofs.Totals.{comes_add, comes_none, comes_same}
-use Rattle.pipe_driver.specs.State.{World, Counts, IsOpen, pending, gained_brings, spread, IsBuilt, IsParked, IsFed, IsPassing, AreAlike, HasSettled, IsLowered, is_sink}
+use Rattle.pipe_driver.specs.State.{World, Counts, IsOpen, pending, gained_brings, spread, Slot, Waits, spent, spent_at, IsBuilt, IsParked, IsFed, IsPassing, AreAlike, HasSettled, IsLowered, is_sink}
 use Rattle.pipe_driver.proofs.Sums.{split4, brought_into_none, from_into_none, out_none, brought_out_none, pending_fewer, pending_apart, pending_last, pending_nil, pending_more, within_ops, within_ways}
 
 legs_parked : (m : Meaning) (sinks : ℕ → ℕ) (but : ℕ → Bool) (todo qs : List Way) → AllByRecursion (IsParked m sinks but todo) qs → AllByRecursion (λ p. AreLegs m p.start p.legs) qs
@@ -107,13 +107,22 @@ seen_all m w c j now s parked todo sound is join last = record {
       omega arith);
 }
 
+-- a slot that waits is not spent, and others are as before
+pub waits_still : (op k : ℕ) (old new : World) → new.slot ≡ (spent_at op old).slot → old.slot k ≡ Waits → new.slot k ≡ Waits
+waits_still op k old new is e =
+    ap (λ q. q k) is ∙ by_test (cond (k == op) (spent (old.slot k)) (old.slot k) ≡ Waits) (k == op)
+    (λ t. ap (λ b. cond b (spent (old.slot k)) (old.slot k)) t ∙ ap spent e)
+    (λ t. ap (λ b. cond b (spent (old.slot k)) (old.slot k)) t ∙ e)
+
+others_still : (op k : ℕ) (old new : World) → new.slot ≡ (spent_at op old).slot → (k ≡ op → ⊥) → new.slot k ≡ old.slot k
+others_still op k old new is ne = ap (λ q. q k) is ∙ ap (λ b. cond b (spent (old.slot k)) (old.slot k)) (eq-false k op ne)
+
 -- the node is closed: what a join has of its own went along its chain
 pub closes_last : (m : Meaning) (old new : World) (c : Counts) (probers : ℕ → ℕ) (op : ℕ) (now : List ℕ) (s : ℕ) (parked todo : List Way) → IsSound m → IsPassing m old c (op ∷ now) s parked todo → IsLowered op c.probers probers → probers op ≡ 0
     → HasSettled m op old new → IsPassing m new (record { sinks = c.sinks; probers = probers }) now s parked todo
 closes_last m old new c probers op now s parked todo sound is low none has =
     let flush = has.passed in
     let counts = counted_at c.probers probers op now parked todo is.left.probers low in
-    let same_slot : (k : ℕ) → new.slot k ≡ old.slot k = λ k. ap (λ q. q k) flush.slot in
     let above : m.above op ≡ now = is.alike.0 in
     let none_more : (j : ℕ) → probers j ≡ 0 → flush.more j ≡ [] = λ j z. flush.only j (let a = counts j in let e = ap (occurs j) above in omega arith) in
     -- what was pending of the join, and is no longer
@@ -152,15 +161,21 @@ closes_last m old new c probers op now s parked todo sound is low none has =
               let r2 = total-append f (due m x) (pending probers (gained_brings m new x) m.joins) in
               omega arith);
         };
-        empty = λ k lt. same_slot k ∙ is.left.empty k lt;
-        built = λ k but join some zero_now. (let P : Option (List Row) → Type 0 = IsBuilt m k in subst P (sym (same_slot k)) (is.left.built k but join some zero_now));
+        empty = λ k lt. waits_still op k old new flush.slot (is.left.empty k lt);
+        built = λ k but join some zero_now. (
+            let apart : k ≡ op → ⊥ = λ e. (let a = counts k in let b = ap probers e in absurd (omega arith)) in
+            let P : Slot → Type 0 = IsBuilt m k in
+            subst P (sym (others_still op k old new flush.slot apart)) (is.left.built k but join (omega arith) zero_now));
         once = is.left.once;
         ways = is.left.ways;
         order = is.left.order;
       };
       waiting = is.waiting;
       alike = is.alike.2;
-      tables = λ k more join. (let P : Option (List Row) → Type 0 = IsBuilt m k in subst P (sym (same_slot k)) (is.tables k (omega arith) join));
+      tables = λ k more join. (
+          let apart : k ≡ op → ⊥ = λ e. (let a = counts k in let b = ap probers e in absurd (omega arith)) in
+          let P : Slot → Type 0 = IsBuilt m k in
+          subst P (sym (others_still op k old new flush.slot apart)) (is.tables k (omega arith) join));
     }
 
 -- ---- the sink

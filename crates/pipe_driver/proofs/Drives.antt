@@ -19,14 +19,14 @@ use Rattle.pipe_driver.specs.declared.pipe_line.Leg.{Leg}
 use Rattle.pipe_driver.specs.declared.pipe_line.PipeLine.{PipeLine}
 use Rattle.pipe_driver.specs.declared.run.Run.{Run}
 use Rattle.pipe_driver.specs.declared.sink_counts.SinkCounts.{SinkCounts}
-use Rattle.pipe_driver.specs.declared.runner.Runner.{Ghosts as RunnerWords}
+use Rattle.pipe_driver.specs.Words.{RunnerWords}
 use Rattle.pipe_driver.specs.Tables.{number_at}
 use Rattle.pipe_driver.specs.State.{World, Counts, IsReady, HasTail, IsTail, IsLowered}
 use Rattle.pipe_driver.specs.Runner.{AreBuilt, RunsLeg, Leaves, Settles}
-use Rattle.pipe_driver.specs.Lines.{Task, leg_as, way_as, ways_as, counts_as, IsLegOf, HasLegs, SourceHas, legs_left, steps_left}
+use Rattle.pipe_driver.specs.Lines.{Task, leg_as, way_as, ways_as, counts_as, AreLegsOf, HasLegs, SourceHas, legs_left, steps_left}
 use Rattle.pipe_driver.specs.Runs.{node_of, IsRest, Parks, Unparks, waits_here, waits_at, HasLines, parked_ways, Ready, Passes, sink_of, HasLed}
 use Rattle.pipe_driver.proofs.LegPasses.{leg_tables, leg_there, passed}
-use Rattle.pipe_driver.proofs.Counting.{stays, seen_all, closes_last}
+use Rattle.pipe_driver.proofs.Counting.{stays, seen_all, waits_still, closes_last}
 
 -- ---- lists
 
@@ -119,17 +119,26 @@ tail_at m (at.Build n) legs old new sound on parks = parks_tail m.ordered n legs
 tail_at m at.Ordered [] old new sound on parks = record { tails = ways_as m.ordered parks.tails; is = ap (ways_as m.ordered) parks.is ∙ ways_append m.ordered old parks.tails; tail = ap (ways_as m.ordered) parks.rest }
 tail_at m at.Ordered (leg ∷ legs) old new sound on parks = absurd (let l = sound.low_sort m.ordered on in omega arith)
 
-rest_legs : {R S P : Type 0} (r : RunnerWords R S P) (k : Task) (n : ℕ) (legs : List (Leg P)) (tails : List (PipeLine S P)) → IsRest n legs tails → AllByRecursion (IsLegOf r k) legs → AllByRecursion (HasLegs r k) tails
+rest_legs : {R S P : Type 0} (r : RunnerWords R S P) (k : Task) (n : ℕ) (legs : List (Leg P)) (tails : List (PipeLine S P)) → IsRest n legs tails → AreLegsOf r k n legs → AllByRecursion (HasLegs r k) tails
 rest_legs r k n [] tails is are = let Q : List (PipeLine _ _) → Type 0 = AllByRecursion (HasLegs r k) in subst Q (sym is) tt
 rest_legs r k n (leg ∷ legs) tails is are =
     let Q : List (PipeLine _ _) → Type 0 = AllByRecursion (HasLegs r k) in
-    let T : List (Leg _) → Type 0 = AllByRecursion (IsLegOf r k) in
-    subst Q (sym is.3) (subst T (sym is.2) are, tt)
+    let T : List (Leg _) → Type 0 = AreLegsOf r k n in
+    let N : ℕ → Type 0 = λ i. AreLegsOf r k i is.0.legs.items in
+    subst Q (sym is.3) (subst N (sym is.1) (subst T (sym is.2) are), tt)
 
-parks_legs : {R S P : Type 0} (r : RunnerWords R S P) (k : Task) (n : ℕ) (legs : List (Leg P)) (old new : List (PipeLine S P)) → Parks n legs old new → AllByRecursion (HasLegs r k) old → AllByRecursion (IsLegOf r k) legs → AllByRecursion (HasLegs r k) new
-parks_legs r k n legs old new parks olds are =
+-- only behind a sort something waits, and it begins there
+begin_at : {R S P : Type 0} (r : RunnerWords R S P) (k : Task) (a : SinkAt) (legs : List (Leg P)) → IsSound k.m → MayGoOn k.m (sink_of k a) (map (leg_as k.m.ordered) legs) → AreLegsOf r k (sink_of k a) legs → AreLegsOf r k (node_of a) legs
+begin_at r k (at.Sort n) legs sound on are = are
+begin_at r k (at.Build n) legs sound on are = are
+begin_at r k at.Ordered [] sound on are = tt
+begin_at r k at.Ordered (leg ∷ legs) sound on are = absurd (let l = sound.low_sort k.m.ordered on in omega arith)
+
+parks_legs : {R S P : Type 0} (r : RunnerWords R S P) (k : Task) (a : SinkAt) (legs : List (Leg P)) (old new : List (PipeLine S P)) → IsSound k.m → MayGoOn k.m (sink_of k a) (map (leg_as k.m.ordered) legs) → Parks (node_of a) legs old new
+    → AllByRecursion (HasLegs r k) old → AreLegsOf r k (sink_of k a) legs → AllByRecursion (HasLegs r k) new
+parks_legs r k a legs old new sound on parks olds are =
     let Q : List (PipeLine _ _) → Type 0 = AllByRecursion (HasLegs r k) in
-    subst Q (sym parks.is) (all-append (HasLegs r k) old parks.tails olds (rest_legs r k n legs parks.tails parks.rest are))
+    subst Q (sym parks.is) (all-append (HasLegs r k) old parks.tails olds (rest_legs r k (node_of a) legs parks.tails parks.rest (begin_at r k a legs sound on are)))
 
 rest_steps : {S P : Type 0} (n : ℕ) (legs : List (Leg P)) (tails : List (PipeLine S P)) → IsRest n legs tails → steps_left tails ≡ length legs
 rest_steps n [] tails is = ap steps_left is
@@ -154,12 +163,12 @@ sink_counted m w c p leg legs parked todo ready first =
 abbrev pub run_with : {R S P : Type 0} → R → Vec (PipeLine S P) → SinkCounts → SinkCounts → Run R S P
 run_with runner parked counts probers = record { runner = runner; parked = parked; counts = counts; probers = probers }
 
-pub no_source : {R S P : Type 0} (r : RunnerWords R S P) (rows : List Row) (source : Option S) → SourceHas r rows source → source ≡ None → ⊥
-no_source r rows None h e = h
-no_source {S = S} r rows (Some x) h e = let f : Some x ≡ None = e in cc
+pub no_source : {R S P : Type 0} (r : RunnerWords R S P) (k : Task) (start : ℕ) (source : Option S) → SourceHas r k start source → source ≡ None → ⊥
+no_source r k start None h e = h
+no_source {S = S} r k start (Some x) h e = let f : Some x ≡ None = e in cc
 
 pub has_led : {R S P : Type 0} (r : RunnerWords R S P) (k : Task) (p : PipeLine S P) (old : Run R S P) (runner : R) (parked : Vec (PipeLine S P)) (todo : List (PipeLine S P)) (source : S) (leg : Leg P) (legs : List (Leg P))
-    → IsSound k.m → Ready r k old p todo → p.source ≡ Some source → p.legs.items ≡ leg ∷ legs → RunsLeg (r.rows source) (r.stands leg.part) (r.fits old.runner) (r.fits runner) (r.before runner)
+    → IsSound k.m → Ready r k old p todo → p.source ≡ Some source → p.legs.items ≡ leg ∷ legs → RunsLeg (r.brings source) (r.stands leg.part) (r.fits old.runner) (r.fits runner) (r.before runner)
     → Parks (node_of leg.at) legs old.parked.items parked.items → HasLed r k p old (run_with runner parked old.counts old.probers) todo (record { operators = leg.operators; at = leg.at; count = leg.count })
 has_led r k p old runner parked todo source leg legs sound ready is_source first runs parks =
     let m = k.m in
@@ -169,10 +178,10 @@ has_led r k p old runner parked todo source leg legs sound ready is_source first
     let spec_legs = map (leg_as o) legs in
     let firsts : (way_as o p).legs ≡ spec_leg ∷ spec_legs = ap (map (leg_as o)) first in
     let are = leg_there m ready.w (counts_as k old) (way_as o p) spec_leg spec_legs (parked_ways k old) (ways_as o todo) ready.ready firsts in
-    let T : List (Leg _) → Type 0 = AllByRecursion (IsLegOf r k) in
-    let parts : AllByRecursion (IsLegOf r k) (leg ∷ legs) = subst T first ready.line.legs in
-    let V : Option _ → Type 0 = SourceHas r (m.rows p.start) in
-    let rows : SameBag (r.rows source) (m.rows p.start) = subst V is_source ready.line.source in
+    let T : List (Leg _) → Type 0 = AreLegsOf r k p.start in
+    let parts : AreLegsOf r k p.start (leg ∷ legs) = subst T first ready.line.legs in
+    let V : Option _ → Type 0 = SourceHas r k p.start in
+    let rows : r.brings source m p.start = subst V is_source ready.line.source in
     let built : AreBuilt m ready.w spec_leg.operators = leg_tables m ready.w (counts_as k old) (way_as o p) spec_leg spec_legs (parked_ways k old) (ways_as o todo) sound ready.ready firsts in
     let done = runs m ready.w p.start spec_leg ready.fits parts.0.stands rows are.0.chain are.0.chain_sink built in
     let tail = tail_at m leg.at legs old.parked.items parked.items sound are.0.on parks in
@@ -185,7 +194,7 @@ has_led r k p old runner parked todo source leg legs sound ready is_source first
         empty = ap (λ q. q s) done.0.is.slot ∙ ready.ready.left.empty s (sink_counted m ready.w (counts_as k old) (way_as o p) spec_leg spec_legs (parked_ways k old) (ways_as o todo) ready.ready firsts);
         lines = record {
           numbered = ready.lines.numbered;
-          parked = parks_legs r k (node_of leg.at) legs old.parked.items parked.items parks ready.lines.parked parts.1;
+          parked = parks_legs r k leg.at legs old.parked.items parked.items sound are.0.on parks ready.lines.parked parts.1;
           todo = ready.lines.todo;
         };
       };
@@ -209,8 +218,8 @@ has_led r k p old runner parked todo source leg legs sound ready is_source first
 
 -- ---- a leg is counted at a node
 
-pub node_counted : {R S P : Type 0} (r : RunnerWords R S P) (k : Task) (run : Run R S P) (op : ℕ) (now : List ℕ) (s : ℕ) (todo : List (PipeLine S P)) → Passes r k run (op ∷ now) s todo → 0 < number_at run.probers.left.items op
-node_counted r k run op now s todo is = let a = is.passing.left.probers op in let t : one (op == op) ≡ 1 = ap one (eq-true op op refl) in omega arith
+pub node_counted : {R S P : Type 0} (r : RunnerWords R S P) (k : Task) (run : Run R S P) (op : ℕ) (now : List ℕ) (at : SinkAt) (todo : List (PipeLine S P)) → Passes r k run (op ∷ now) at todo → 0 < number_at run.probers.left.items op
+node_counted r k run op now at todo is = let a = is.passing.left.probers op in let t : one (op == op) ≡ 1 = ap one (eq-true op op refl) in omega arith
 
 -- what `lower` ensured
 pub record Lowered (n left : ℕ) (old new : List ℕ) : Type 0 where
@@ -236,11 +245,12 @@ zero_or : (n : ℕ) → (n ≡ 0) ⊎ (0 < n)
 zero_or zero = inl refl
 zero_or (suc n) = inr (omega arith)
 
-pub left_behind : {R S P : Type 0} (r : RunnerWords R S P) (k : Task) (old : Run R S P) (runner : R) (probers : SinkCounts) (op left : ℕ) (now : List ℕ) (s : ℕ) (todo : List (PipeLine S P))
-    → Passes r k old (op ∷ now) s todo → Lowered op left old.probers.left.items probers.left.items → (left ≡ 0 → ⊥) → Leaves op (r.fits old.runner) (r.fits runner) (r.before old.runner) (r.before runner) → Passes r k (run_with runner old.parked old.counts probers) now s todo
-left_behind r k old runner probers op left now s todo is low some leaves =
+pub left_behind : {R S P : Type 0} (r : RunnerWords R S P) (k : Task) (old : Run R S P) (runner : R) (probers : SinkCounts) (op left : ℕ) (now : List ℕ) (at : SinkAt) (todo : List (PipeLine S P))
+    → Passes r k old (op ∷ now) at todo → Lowered op left old.probers.left.items probers.left.items → (left ≡ 0 → ⊥) → Leaves op (r.fits old.runner) (r.fits runner) (r.before old.runner) (r.before runner) → Passes r k (run_with runner old.parked old.counts probers) now at todo
+left_behind r k old runner probers op left now at todo is low some leaves =
+    let s = sink_of k at in
     let l = is_lowered op left old.probers.left.items probers.left.items low in
-    let did = leaves k.m is.w now s is.fits is.before in
+    let did = leaves k.m is.w now at is.fits is.before in
     let positive : 0 < number_at probers.left.items op = elim (zero_or left) [ inl z ↦ absurd (some z) | inr p ↦ (let e = l.1 in omega arith) ] in
     record {
       w = is.w;
@@ -251,12 +261,13 @@ left_behind r k old runner probers op left now s todo is low some leaves =
       lines = same_lines r k old runner probers todo is.lines;
     }
 
-pub settled_behind : {R S P : Type 0} (r : RunnerWords R S P) (k : Task) (old : Run R S P) (runner : R) (probers : SinkCounts) (op left : ℕ) (now : List ℕ) (s : ℕ) (todo : List (PipeLine S P))
-    → IsSound k.m → Passes r k old (op ∷ now) s todo → Lowered op left old.probers.left.items probers.left.items → left ≡ 0 → Settles op (r.fits old.runner) (r.fits runner) (r.before old.runner) (r.before runner) → Passes r k (run_with runner old.parked old.counts probers) now s todo
-settled_behind r k old runner probers op left now s todo sound is low none settles =
+pub settled_behind : {R S P : Type 0} (r : RunnerWords R S P) (k : Task) (old : Run R S P) (runner : R) (probers : SinkCounts) (op left : ℕ) (now : List ℕ) (at : SinkAt) (todo : List (PipeLine S P))
+    → IsSound k.m → Passes r k old (op ∷ now) at todo → Lowered op left old.probers.left.items probers.left.items → left ≡ 0 → Settles op (r.fits old.runner) (r.fits runner) (r.before old.runner) (r.before runner) → Passes r k (run_with runner old.parked old.counts probers) now at todo
+settled_behind r k old runner probers op left now at todo sound is low none settles =
+    let s = sink_of k at in
     let l = is_lowered op left old.probers.left.items probers.left.items low in
     let last : number_at old.probers.left.items op ≡ 1 = (let h = low.here in omega arith) in
-    let did = settles k.m is.w now s is.fits is.before is.passing.alike.0
+    let did = settles k.m is.w now at is.fits is.before is.passing.alike.0
     (λ join. seen_all k.m is.w (counts_as k old) op now s (parked_ways k old) (ways_as k.m.ordered todo) sound is.passing join last)
     is.passing.tables in
     record {
@@ -264,7 +275,7 @@ settled_behind r k old runner probers op left now s todo sound is low none settl
       fits = did.0.fit;
       passing = closes_last k.m is.w did.0.new (counts_as k old) (number_at probers.left.items) op now s (parked_ways k old) (ways_as k.m.ordered todo) sound is.passing l.0 (let e = l.1 in omega arith) did.0.is;
       before = did.1;
-      empty = ap (λ q. q s) did.0.is.passed.slot ∙ is.empty;
+      empty = waits_still op s is.w did.0.new did.0.is.passed.slot is.empty;
       lines = same_lines r k old runner probers todo is.lines;
     }
 

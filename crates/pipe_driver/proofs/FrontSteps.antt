@@ -9,7 +9,7 @@ use Rattle.pipe_legs.proofs.Tests.{by_test, eq-is, eq-true, some-left}
 use Rattle.pipe_driver.specs.declared.pipe_line.PipeLine.{PipeLine}
 use Rattle.pipe_driver.specs.declared.run.Run.{Run}
 use Rattle.pipe_driver.specs.declared.run.Fed.{Fed}
-use Rattle.pipe_driver.specs.declared.runner.Runner.{Ghosts as RunnerWords}
+use Rattle.pipe_driver.specs.Words.{RunnerWords}
 use Rattle.pipe_driver.specs.Tables.{number_at}
 use Rattle.pipe_driver.specs.Lines.{Task, way_as, ways_as, counts_as}
 use Rattle.pipe_driver.specs.Runs.{waits_at, parked_ways, Between, sink_of, HasRun, HasStopped, IsAnswer, KeepsRoot}

@@ -8,7 +8,7 @@ use Rattle.pipe_legs.specs.Ways.{one, occurs, way_to, feeds}
 use Rattle.pipe_legs.proofs.Tests.{eq-true, some-left, occurs-append}
 use Rattle.pipe_driver.specs.declared.pipe_line.PipeLine.{PipeLine}
 use Rattle.pipe_driver.specs.declared.run.Run.{Run}
-use Rattle.pipe_driver.specs.declared.runner.Runner.{Ghosts as RunnerWords}
+use Rattle.pipe_driver.specs.Words.{RunnerWords}
 use Rattle.pipe_driver.specs.State.{World, Counts, IsParked, IsBetween, nothing}
 use Rattle.pipe_driver.specs.Lines.{Task, way_as, ways_as, counts_as}
 use Rattle.pipe_driver.specs.Runs.{waits_at, parked_ways, Between, Ready, IsAnswer, KeepsRoot}

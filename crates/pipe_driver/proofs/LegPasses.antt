@@ -1,5 +1,5 @@
 -- A leg's rows go along its chain, and what is left of its way waits.
-use Rattle.std.proofs.Common.{◌≡◌, ℕ, ◌+◌, ◌<◌, List, [], ◌∷◌, ◌++◌, refl, sym, ap, subst, ◌∙◌, arith, true, Option}
+use Rattle.std.proofs.Common.{◌≡◌, ℕ, ◌+◌, ◌<◌, List, [], ◌∷◌, ◌++◌, refl, sym, ap, subst, ◌∙◌, arith, true}
 use Rattle.std.specs.List.{AllByRecursion}
 use Rattle.pipe_frame.specs.Rows.{Row}
 use Rattle.pipe_frame.specs.Weights.{total}
@@ -8,7 +8,7 @@ use Rattle.pipe_legs.specs.Meaning.{Meaning, Place, comes, from, due}
 use Rattle.pipe_legs.specs.Legs.{Leg, Way}
 use Rattle.pipe_legs.specs.Ways.{occurs, legs_to, way_to, feeds, legs_through, way_through, passes, starts, way_starts, begun, leg_brings, legs_bring, way_brings, brought, own_brings, AreLegs, MayGoOn, IsSound}
 use Rattle.pipe_legs.proofs.Tests.{eq-not, all-append, all-map}
-use Rattle.pipe_driver.specs.State.{World, Counts, pending, gained_brings, spread, IsBuilt, IsParked, IsReady, IsPassing, HasPassed, HasTail, IsTail, nothing, is_sink}
+use Rattle.pipe_driver.specs.State.{World, Counts, pending, gained_brings, spread, Slot, IsBuilt, IsParked, IsReady, IsPassing, HasPassed, HasTail, IsTail, nothing, is_sink}
 use Rattle.pipe_driver.proofs.Sums.{split4, brought_append, pending_more, alike_from}
 use Rattle.pipe_driver.proofs.Settled.{settled}
 
@@ -113,7 +113,7 @@ passed m old new c p leg legs parked later todo sound ready first has tail =
         };
         empty = λ k lt. same_slot k ∙ ready.left.empty k lt;
         built = λ j but join some none. (
-            let P : Option (List Row) → Type 0 = IsBuilt m j in
+            let P : Slot → Type 0 = IsBuilt m j in
             subst P (sym (same_slot j)) (ready.left.built j refl join (let b = l.pass j in let e = ap (legs_through j) first in omega arith) none));
         once = λ k. (let q = ready.left.once k in let e = ap (starts k p.start) first in let b = l.begin k in omega arith);
         ways = ready.left.ways;
@@ -143,5 +143,5 @@ passed m old new c p leg legs parked later todo sound ready first has tail =
           let R : List Way → Type 0 = AllByRecursion P in
           subst R (sym tail.is) (all-append P parked tail.tails old_ones tails));
       alike = alike_from m p.start leg.operators s sound (sym are.0.chain) (sym are.0.chain_sink);
-      tables = λ j some join. (let P : Option (List Row) → Type 0 = IsBuilt m j in subst P (sym (same_slot j)) (leg_tables m old c p leg legs parked todo sound ready first j some join));
+      tables = λ j some join. (let P : Slot → Type 0 = IsBuilt m j in subst P (sym (same_slot j)) (leg_tables m old c p leg legs parked todo sound ready first j some join));
     }

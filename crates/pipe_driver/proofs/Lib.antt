@@ -6,9 +6,6 @@ pub mod Counting
 pub mod Closed
 pub mod Starts
 pub mod Drives
-pub mod Feeds
-pub mod Closings
 pub mod Fronts
 pub mod FrontSteps
-pub mod Entry
 pub mod Bounds

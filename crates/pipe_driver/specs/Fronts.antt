@@ -5,7 +5,7 @@ use Rattle.pipe_legs.specs.Legs.{Way}
 use Rattle.pipe_legs.specs.Ways.{occurs, feeds}
 use Rattle.pipe_driver.specs.declared.pipe_line.PipeLine.{PipeLine}
 use Rattle.pipe_driver.specs.declared.run.Run.{Run}
-use Rattle.pipe_driver.specs.declared.runner.Runner.{Ghosts as RunnerWords}
+use Rattle.pipe_driver.specs.Words.{RunnerWords}
 use Rattle.pipe_driver.specs.Lines.{Task, way_as, ways_as}
 use Rattle.pipe_driver.specs.Runs.{Between, Ready, IsAnswer, waits_at, parked_ways}
 

@@ -4,6 +4,8 @@ pub mod State
 pub mod Steps
 -- what stands at a number
 pub mod Tables
+-- what is known of a runner of legs
+pub mod Words
 -- what a runner of legs does
 pub mod Runner
 -- pipelines as what is known of a run sees them

@@ -1,16 +1,13 @@
 -- Pipelines and tables as what is known of a run sees them.
-use Rattle.std.specs.Prelude.{◌≡◌, ℕ, ◌<◌, List, length, map, Option, Some, None}
-use Rattle.std.specs.List.{AllByRecursion}
-use Rattle.pipe_frame.specs.Rows.{Row}
+use Rattle.std.specs.Prelude.{◌≡◌, ℕ, ◌<◌, List, [], ◌∷◌, length, map, Option, Some, None}
 use Rattle.pipe_frame.specs.Weights.{total}
-use Rattle.pipe_frame.proofs.Weights.{SameBag}
 use Rattle.pipe_legs.specs.Meaning.{Meaning}
 use Rattle.pipe_legs.specs.Legs as plan
 use Rattle.pipe_legs.specs.Legs.{Way, sink_node}
 use Rattle.pipe_driver.specs.declared.pipe_line.Leg.{Leg}
 use Rattle.pipe_driver.specs.declared.pipe_line.PipeLine.{PipeLine}
 use Rattle.pipe_driver.specs.declared.run.Run.{Run}
-use Rattle.pipe_driver.specs.declared.runner.Runner.{Ghosts as RunnerWords}
+use Rattle.pipe_driver.specs.Words.{RunnerWords}
 use Rattle.pipe_driver.specs.Tables.{number_at}
 use Rattle.pipe_driver.specs.State.{Counts}
 
@@ -43,23 +40,31 @@ counts_as k run = record {
 }
 
 -- a leg has its sink's number, and what runs it stands for it
-pub record IsLegOf {R S P : Type 0} (r : RunnerWords R S P) (k : Task) (leg : Leg P) : Type 0 where
+pub record IsLegOf {R S P : Type 0} (r : RunnerWords R S P) (k : Task) (start : ℕ) (leg : Leg P) :
+    Type 0 where
   pub number : leg.count ≡ k.number (sink_node k.m.ordered leg.at)
   pub there : k.number (sink_node k.m.ordered leg.at) < 4294967295
-  pub stands : r.stands leg.part k.m (leg_as k.m.ordered leg)
+  pub stands : r.stands leg.part k.m start (leg_as k.m.ordered leg)
+
+-- each begins at the node of the sink before it
+abbrev pub AreLegsOf : {R S P : Type 0} → RunnerWords R S P → Task → (start : ℕ) → List (Leg P) →
+    Type 0
+AreLegsOf r k start [] = Unit {0}
+AreLegsOf r k start (leg ∷ legs) =
+    IsLegOf r k start leg × AreLegsOf r k (sink_node k.m.ordered leg.at) legs
 
 abbrev pub HasLegs : {R S P : Type 0} → RunnerWords R S P → Task → PipeLine S P → Type 0
-HasLegs r k p = AllByRecursion (IsLegOf r k) p.legs.items
+HasLegs r k p = AreLegsOf r k p.start p.legs.items
 
 -- its source has the rows of the node where it begins
-abbrev pub SourceHas : {R S P : Type 0} → RunnerWords R S P → List Row → Option S → Type 0
-SourceHas r rows None = ⊥
-SourceHas r rows (Some source) = SameBag (r.rows source) rows
+abbrev pub SourceHas : {R S P : Type 0} → RunnerWords R S P → Task → ℕ → Option S → Type 0
+SourceHas r k start None = ⊥
+SourceHas r k start (Some source) = r.brings source k.m start
 
 pub record IsLine {R S P : Type 0} (r : RunnerWords R S P) (k : Task) (p : PipeLine S P) :
     Type 0 where
   pub legs : HasLegs r k p
-  pub source : SourceHas r (k.m.rows p.start) p.source
+  pub source : SourceHas r k p.start p.source
 
 -- how many legs pipelines have
 abbrev pub legs_left : {S P : Type 0} → PipeLine S P → ℕ

@@ -1,5 +1,5 @@
 -- Pipelines that stand for the branches of a plan, before the first of them runs.
-use Rattle.std.specs.Prelude.{◌≡◌, ℕ, List, [], None, length}
+use Rattle.std.specs.Prelude.{◌≡◌, ℕ, List, [], length}
 use Rattle.std.specs.List.{AllByRecursion}
 use Rattle.pipe_plan.specs.Plan.{Plan}
 use Rattle.pipe_plan.specs.Faults.{IsWellFormed}
@@ -9,9 +9,9 @@ use Rattle.pipe_legs.specs.Ways.{feeds, passes}
 use Rattle.pipe_legs.specs.Numbers.{named_sinks, sink_number}
 use Rattle.pipe_driver.specs.declared.pipe_line.PipeLine.{PipeLine}
 use Rattle.pipe_driver.specs.declared.run.Run.{Run}
-use Rattle.pipe_driver.specs.declared.runner.Runner.{Ghosts as RunnerWords}
+use Rattle.pipe_driver.specs.Words.{RunnerWords}
 use Rattle.pipe_driver.specs.Tables.{number_at}
-use Rattle.pipe_driver.specs.State.{World}
+use Rattle.pipe_driver.specs.State.{World, Waits}
 use Rattle.pipe_driver.specs.Lines.{Task, ways_as, IsLine}
 
 -- a plan, and the node whose rows are asked for
@@ -27,7 +27,7 @@ task_of ask = record {
 
 -- nothing came anywhere
 abbrev pub at_start : World
-at_start = record { there = λ x. []; gained = λ j. []; slot = λ j. None }
+at_start = record { there = λ x. []; gained = λ j. []; slot = λ j. Waits }
 
 -- The pipelines are the branches of a well-formed plan, in order, and what runs them has all that
 -- their legs need. The counts are those of all legs

@@ -15,9 +15,9 @@ use Rattle.pipe_driver.specs.declared.run.Fed.{Fed}
 use Rattle.pipe_driver.specs.declared.run.Next.{Next}
 use Rattle.pipe_driver.specs.declared.run.Next.TheVariants.{GoOn, Stay, Answer}
 use Rattle.pipe_driver.specs.declared.run.Passing.{Passing}
-use Rattle.pipe_driver.specs.declared.runner.Runner.{Ghosts as RunnerWords}
+use Rattle.pipe_driver.specs.Words.{RunnerWords}
 use Rattle.pipe_driver.specs.Tables.{number_at}
-use Rattle.pipe_driver.specs.State.{World, IsBetween, IsReady, IsPassing, IsFed}
+use Rattle.pipe_driver.specs.State.{World, Waits, IsBetween, IsReady, IsPassing, IsFed}
 use Rattle.pipe_driver.specs.Lines.{Task, AreNumbered, way_as, ways_as, counts_as, HasLegs, IsLine, steps_left}
 
 -- ---- waiting pipelines
@@ -91,31 +91,33 @@ pub record Ready {R S P : Type 0} (r : RunnerWords R S P) (k : Task) (run : Run 
   pub idle : r.idle run.runner
   pub lines : HasLines r k run todo
 
+abbrev pub sink_of : Task → SinkAt → ℕ
+sink_of k at = sink_node k.m.ordered at
+
 -- a leg is in its sink, and isn't counted at these nodes and the sink
 pub record Passes {R S P : Type 0} (r : RunnerWords R S P) (k : Task) (run : Run R S P)
-    (now : List ℕ) (s : ℕ) (todo : List (PipeLine S P)) : Type 0 where
+    (now : List ℕ) (at : SinkAt) (todo : List (PipeLine S P)) : Type 0 where
   pub w : World
   pub fits : r.fits run.runner k.m w
-  pub passing : IsPassing k.m w (counts_as k run) now s (parked_ways k run)
+  pub passing : IsPassing k.m w (counts_as k run) now (sink_of k at) (parked_ways k run)
       (ways_as k.m.ordered todo)
-  pub before : r.before run.runner now s
-  pub empty : w.slot s ≡ None
+  pub before : r.before run.runner now at
+  pub empty : w.slot (sink_of k at) ≡ Waits
   pub lines : HasLines r k run todo
 
 -- a leg has fed a sink
 pub record Feeds {R S P : Type 0} (r : RunnerWords R S P) (k : Task) (run : Run R S P)
-    (s : ℕ) (todo : List (PipeLine S P)) : Type 0 where
+    (at : SinkAt) (todo : List (PipeLine S P)) : Type 0 where
   pub w : World
   pub fits : r.fits run.runner k.m w
-  pub fed : IsFed k.m w (counts_as k run) s (parked_ways k run) (ways_as k.m.ordered todo)
+  pub fed : IsFed k.m w (counts_as k run) (sink_of k at) (parked_ways k run)
+      (ways_as k.m.ordered todo)
   pub idle : r.idle run.runner
-  pub empty : w.slot s ≡ None
+  pub holds : r.holds run.runner at
+  pub empty : w.slot (sink_of k at) ≡ Waits
   pub lines : HasLines r k run todo
 
 -- ---- steps
-
-abbrev pub sink_of : Task → SinkAt → ℕ
-sink_of k at = sink_node k.m.ordered at
 
 -- one leg less is left, and what waits is of the pipeline that ran
 pub record Moved {R S P : Type 0} (k : Task) (p : PipeLine S P) (old new : Run R S P) (s : ℕ) :
@@ -129,7 +131,7 @@ pub record Moved {R S P : Type 0} (k : Task) (p : PipeLine S P) (old new : Run R
 -- a leg's rows have come to its sink
 pub record HasLed {R S P : Type 0} (r : RunnerWords R S P) (k : Task) (p : PipeLine S P)
     (old new : Run R S P) (todo : List (PipeLine S P)) (leg : Passing) : Type 0 where
-  pub passes : Passes r k new leg.operators.items (sink_of k leg.at) todo
+  pub passes : Passes r k new leg.operators.items leg.at todo
   pub at : IsSinkOf k.m (sink_of k leg.at) leg.at
   pub number : leg.count ≡ k.number (sink_of k leg.at)
   pub counts : new.counts ≡ old.counts
@@ -138,7 +140,7 @@ pub record HasLed {R S P : Type 0} (r : RunnerWords R S P) (k : Task) (p : PipeL
 -- a leg of a pipeline has run: the sink that it has fed, and how many legs still feed that
 pub record HasRun {R S P : Type 0} (r : RunnerWords R S P) (k : Task) (p : PipeLine S P)
     (old new : Run R S P) (todo : List (PipeLine S P)) (fed : Fed) : Type 0 where
-  pub feeds : Feeds r k new (sink_of k fed.at) todo
+  pub feeds : Feeds r k new fed.at todo
   pub left : number_at new.counts.left.items fed.count ≡ fed.left
   pub at : IsSinkOf k.m (sink_of k fed.at) fed.at
   pub number : fed.count ≡ k.number (sink_of k fed.at)

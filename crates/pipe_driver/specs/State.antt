@@ -1,6 +1,6 @@
 -- What is known of a run between its steps: what is there, and what is still to come, together are
 -- what has to be there.
-use Rattle.std.specs.Prelude.{◌≡◌, ℕ, zero, suc, ◌+◌, ◌≤◌, ◌<◌, List, [], ◌∷◌, ◌++◌, Bool, true, false, ◌==◌, Option, Some, None}
+use Rattle.std.specs.Prelude.{◌≡◌, ℕ, zero, suc, ◌+◌, ◌≤◌, ◌<◌, List, [], ◌∷◌, ◌++◌, Bool, true, false, ◌==◌, if◌then◌else◌}
 use Rattle.std.specs.List.{flat_map, AllByRecursion}
 use Rattle.pipe_frame.specs.Rows.{Row}
 use Rattle.pipe_frame.proofs.Weights.{SameBag}
@@ -8,14 +8,19 @@ use Rattle.pipe_legs.specs.Meaning.{Meaning, Place, OutOf, Into, from, due}
 use Rattle.pipe_legs.specs.Legs.{Leg, Way}
 use Rattle.pipe_legs.specs.Ways.{one, occurs, feeds, passes, begun, brought, own_brings, AreLegs, IsWay, Behind, AreOrdered}
 
+-- the table of a join: its built side hasn't run; it has these rows; or the join is settled
+pub data Slot : Type 0 where
+  Waits : Slot
+  Has : (table : List Row) → Slot
+  Spent : Slot
+
 -- what the runner of legs has
 pub record World : Type 0 where
   -- the rows that came out of a node, and those that an open sink holds
   pub there : Place → List Row
   -- the rows that a join gave for keys of which it was the first to mark one
   pub gained : ℕ → List Row
-  -- the rows of a join's table, where the side that is built has run
-  pub slot : ℕ → Option (List Row)
+  pub slot : ℕ → Slot
 
 -- how many legs still feed a sink, and how many still go through a node
 pub record Counts : Type 0 where
@@ -43,9 +48,9 @@ IsOpen m c (OutOf t) = m.is_run t ≡ true
 IsOpen m c (Into s) = 0 < c.sinks s
 
 -- a table is there, and it has the rows of the side that is built
-pub record IsBuilt (m : Meaning) (j : ℕ) (slot : Option (List Row)) : Type 0 where
+pub record IsBuilt (m : Meaning) (j : ℕ) (slot : Slot) : Type 0 where
   pub table : List Row
-  pub is : slot ≡ Some table
+  pub is : slot ≡ Has table
   pub rows : SameBag table (m.below j)
 
 -- The ways that have begun and wait for a sort, and those that haven't begun, are all that is left
@@ -63,7 +68,7 @@ pub record IsLeft (m : Meaning) (w : World) (c : Counts) (due_at : ℕ → ℕ) 
       ++ pending c.probers (own_brings m x) m.joins))
       (due m x ++ pending c.probers (gained_brings m w x) m.joins)
   -- the slot of a join is empty as long as a leg feeds its sink, and then it is built
-  pub empty : (j : ℕ) → 0 < c.sinks j → w.slot j ≡ None
+  pub empty : (j : ℕ) → 0 < c.sinks j → w.slot j ≡ Waits
   pub built : (j : ℕ) → but j ≡ false → m.is_join j ≡ true → 0 < passes j live + passes j todo →
       c.sinks j ≡ 0 → IsBuilt m j (w.slot j)
   -- at most one leg begins at a node
@@ -156,11 +161,25 @@ pub record HasPassed (m : Meaning) (n : ℕ) (rows : List Row) (old new : World)
   pub gained : (j : ℕ) → SameBag (new.gained j) (old.gained j ++ more j)
   pub slot : new.slot ≡ old.slot
 
--- a join is closed: what it has of its own beside what it gave for keys goes along its chain
+-- a table that no row comes to any more
+abbrev pub spent : Slot → Slot
+spent Waits = Waits
+spent (Has table) = Spent
+spent Spent = Spent
+
+abbrev pub spent_at : ℕ → World → World
+spent_at n w = record {
+  there = w.there;
+  gained = w.gained;
+  slot = λ k. if k == n then spent (w.slot k) else w.slot k;
+}
+
+-- a join is closed: what it has of its own beside what it gave for keys goes along its chain, and
+-- its table is spent
 pub record HasSettled (m : Meaning) (n : ℕ) (old new : World) : Type 0 where
   pub flushed : List Row
   pub own : SameBag (m.own n) (old.gained n ++ flushed)
-  pub passed : HasPassed m n flushed old new
+  pub passed : HasPassed m n flushed (spent_at n old) new
 
 -- one leg less
 pub record IsLowered (n : ℕ) (old new : ℕ → ℕ) : Type 0 where
@@ -190,6 +209,6 @@ BeginsElsewhere s q = q.start ≡ s → ⊥
 pub record IsStart (w : World) (c : Counts) (ps : List Way) : Type 0 where
   pub there : (x : Place) → w.there x ≡ []
   pub gained : (j : ℕ) → w.gained j ≡ []
-  pub slot : (j : ℕ) → w.slot j ≡ None
+  pub slot : (j : ℕ) → w.slot j ≡ Waits
   pub sinks : (s : ℕ) → c.sinks s ≡ feeds s ps
   pub probers : (n : ℕ) → c.probers n ≡ passes n ps

@@ -1,0 +1,21 @@
+-- What the driver knows of the leg that runs.
+use Rattle.std.proofs.Common.{ℕ, zero, suc, ◌<◌, ◌≤◌, List, [], ◌∷◌, drop, length, Option, None, subst, arith}
+use Rattle.pipe_branches.specs.declared.branch.SinkAt.{SinkAt}
+use Rattle.pipe_engine.specs.Engine.{IsBefore, IsIdle}
+use Rattle.pipe_engine.specs.declared.engine.Engine.{Engine}
+use Rattle.pipe_engine.specs.declared.engine.OpenLeg.{OpenLeg}
+
+-- a leg that has nodes or a sink before it runs
+pub leg_runs : {H : Type 0} (engine : Engine H) (now : List ℕ) (at : SinkAt) → IsBefore engine.leg now at → IsIdle engine → ⊥
+leg_runs {H = H} engine now at before idle = let B : Option (OpenLeg H) → Type 0 = λ leg. IsBefore leg now at in subst B idle before
+
+no_more : {A : Type 0} (xs : List A) (n : ℕ) → length (drop n xs) ≤ length xs
+no_more xs zero = omega arith
+no_more [] (suc n) = omega arith
+no_more (x ∷ xs) (suc n) = let l = no_more xs n in omega arith
+
+-- some branches less are left
+pub fewer_left : {A : Type 0} (xs : List A) (n : ℕ) → 0 < n → 0 < length xs → length (drop n xs) < length xs
+fewer_left [] n some there = absurd (omega arith)
+fewer_left (x ∷ xs) zero some there = absurd (omega arith)
+fewer_left (x ∷ xs) (suc n) some there = let l = no_more xs n in omega arith

@@ -1,0 +1,39 @@
+use Rattle.std.proofs.Common.{ℕ, subst}
+use Rattle.pipe_driver.specs.Lines.{leg_as}
+use Rattle.pipe_engine.specs.Known.{words_of}
+use Rattle.pipe_driver.specs.Runs.{Parks}
+use Rattle.pipe_driver.proofs.Drives.{no_source, some_map, some_vec, first_is, has_led}
+use Rattle.pipe_engine.proofs.Mays.{may_run}
+use Rattle.pipe_engine.proofs.driving.pass.Goals as goal
+
+pub unreachable-requires : goal.unreachable-requires
+unreachable-requires g c =
+    let can = c.requires.can in
+    no_source (words_of g.H.KeyHasher.hash_of can.k) can.k.task c.args.current.start c.args.current.source can.is.ready.line.source c.in_default.is
+
+pub remove-operators-requires : goal.remove-operators-requires
+remove-operators-requires g c =
+    let can = c.requires.can in
+    some_vec c.args.current.legs (some_map (leg_as can.k.task.m.ordered) c.args.current.legs.items can.is.ready.ready.way.some)
+
+pub run_leg-requires-clause-idle : goal.run_leg-requires-clause-idle
+run_leg-requires-clause-idle g c = λ κs lives. c.requires.idle
+
+pub run_leg-requires-clause-may : goal.run_leg-requires-clause-may
+run_leg-requires-clause-may g c = λ κs lives. (
+    let can = c.requires.can in
+    let k = can.k in
+    let ready = can.is.ready in
+    let leg = c.remove-operators.result in
+    let legs = c.remove-operators.new.self.items in
+    let first = first_is c.args.current.legs.items legs leg (some_map (leg_as k.task.m.ordered) c.args.current.legs.items ready.ready.way.some) c.remove-operators.ensures.value c.remove-operators.ensures.items in
+    record { x = k.settings; m = k.task.m; may = may_run (words_of g.H.KeyHasher.hash_of k) k.task c.args.current c.args.run.now c.args.pipelines.now c.in-Some.source leg legs can.is.sound ready c.in-Some.is first })
+
+pub returns : goal.returns
+returns g c = λ k can. (
+    let leg = c.remove-operators.result in
+    let legs = c.remove-operators.new.self.items in
+    let first = first_is c.args.current.legs.items legs leg (some_map (leg_as k.task.m.ordered) c.args.current.legs.items can.ready.ready.way.some) c.remove-operators.ensures.value c.remove-operators.ensures.items in
+    let Q : ℕ → Type 0 = λ n. Parks n legs c.args.run.now.parked.items c.park.new.parked.items in
+    has_led (words_of g.H.KeyHasher.hash_of k) k.task c.args.current c.args.run.now c.run_leg.new.engine c.park.new.parked c.args.pipelines.now c.in-Some.source leg legs can.sound can.ready c.in-Some.is first (c.in_ok-run_leg.ensures.ran k.settings)
+    (subst Q c.node_at.ensures c.in-Ok.ensures))

@@ -1,0 +1,34 @@
+use Rattle.std.proofs.Common.{subst}
+use Rattle.pipe_frame.specs.Rows.{Same}
+use Rattle.pipe_engine.specs.Known.{words_of, known_of}
+use Rattle.pipe_engine.proofs.Entry.{if_ok, root_rows, stand_between, stand_open, sound_of}
+use Rattle.pipe_engine.proofs.plan_run.execute_branches.Goals as goal
+
+pub execute_pipeline-requires-clause-can : goal.execute_pipeline-requires-clause-can
+execute_pipeline-requires-clause-can g c = λ κs lives. (
+    let asked = c.requires.stand.asked in
+    let r = words_of g.H.KeyHasher.hash_of (known_of asked) in
+    let is = c.requires.stand.stand in
+    record {
+      k = known_of asked;
+      is = record {
+        sound = sound_of r asked.ask c.args.run c.args.pipelines.items is;
+        between = stand_between r asked.ask c.args.run c.args.pipelines.items is;
+        root = stand_open r asked.ask c.args.run c.args.pipelines.items is;
+      };
+    })
+
+pub execute_pipeline-requires-clause-parked : goal.execute_pipeline-requires-clause-parked
+execute_pipeline-requires-clause-parked g c = λ κs lives. c.requires.stand.stand.parked
+
+pub returns : goal.returns
+returns g c =
+    if_ok c.execute_pipeline.result
+    (λ frame has asked is. (
+    let r = words_of g.H.KeyHasher.hash_of (known_of asked) in
+    subst (Same frame.rows) (root_rows asked.ask) (has (known_of asked) (record {
+      sound = sound_of r asked.ask c.args.run c.args.pipelines.items is;
+      between = stand_between r asked.ask c.args.run c.args.pipelines.items is;
+      root = stand_open r asked.ask c.args.run c.args.pipelines.items is;
+    }))))
+    c.execute_pipeline.ensures

@@ -1,0 +1,18 @@
+-- when the operators and the sink of a leg are those of the plan
+pub mod Stands
+-- what the engine has
+pub mod Engine
+-- a plan that is run
+pub mod Known
+-- the world after rows came to its places
+pub mod Passed
+-- a join's slot that is filled
+pub mod Finished
+-- what the stages of a leg read
+pub mod Taken
+-- rows that went through lanes
+pub mod Carried
+-- what lets the engine's calls be made
+pub mod Calls
+-- what the driver's steps do
+pub mod Drives

@@ -1,0 +1,59 @@
+//! What runs legs: the tables of joins, the sinks that legs feed, and the leg that runs.
+
+use crate::part::Part;
+use pipe_branches::SinkAt;
+use pipe_driver::{PipeLine, Run};
+use pipe_index::HashesKeys;
+use pipe_ops::PExecutionContext;
+use pipe_passage::Passage;
+use pipe_sinks::PhysSink;
+use pipe_slots::Slots;
+use pipe_source::PhysSource;
+use pipe_table::JoinSpec;
+use std::sync::Arc;
+
+/// What is around a run: how threads are made, and the gate that each worker goes through.
+pub struct Tools<'a, R, G> {
+    pub threads: &'a R,
+    pub gate: &'a G,
+}
+
+/// A sink that legs have fed, and how many rows came into it.
+#[derive(Drop)]
+pub struct FedSink<H: HashesKeys> {
+    pub sink: PhysSink<H>,
+    pub rows: u64,
+}
+
+/// The leg that runs: the place of its sink, and its lanes with the stages that it hasn't left.
+#[derive(Drop)]
+pub struct OpenLeg<H: HashesKeys> {
+    pub at: SinkAt,
+    pub passage: Passage<H, PhysSink<H>>,
+    /// A sink that holds nothing, for the first leg that feeds the place.
+    pub sink: PhysSink<H>,
+}
+
+/// What runs the legs of a plan's pipelines.
+#[derive(Drop)]
+pub struct Engine<H: HashesKeys> {
+    pub context: PExecutionContext,
+    pub hasher: H,
+    /// How many partitions each table has.
+    pub parts: u32,
+    /// The settings of each join, by its node.
+    pub specs: Vec<Option<Arc<JoinSpec>>>,
+    /// How many nodes the plan has.
+    pub nodes: u32,
+    pub slots: Slots<H>,
+    /// What legs have fed, by the number of the sort or the join; last that of the root.
+    pub sinks: Vec<Option<FedSink<H>>>,
+    pub leg: Option<OpenLeg<H>>,
+    /// The index of the next chunk.
+    pub next_index: u64,
+}
+
+/// A pipeline of a plan, and what is there while such pipelines run.
+pub type PlanLine<H> = PipeLine<PhysSource, Part<H>>;
+
+pub type PlanRun<H> = Run<Engine<H>, PhysSource, Part<H>>;

@@ -1,0 +1,19 @@
+//! The engine that runs the pipelines of a plan: its sinks, the leg that runs, and the driver over them.
+#![tactic(auto)]
+
+mod driving;
+mod engine;
+mod feeding;
+mod finishing;
+mod leg;
+mod part;
+mod plan_run;
+mod running;
+mod sinks;
+mod starting;
+mod taking;
+
+pub use engine::{Engine, FedSink, OpenLeg, PlanLine, PlanRun, Tools};
+pub use part::Part;
+pub use plan_run::execute_branches;
+pub use running::{execute_pipeline, run_pipeline};

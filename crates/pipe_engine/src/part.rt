@@ -1,0 +1,16 @@
+//! What runs a leg.
+
+use pipe_branches::SinkAt;
+use pipe_index::HashesKeys;
+use pipe_run::{Basin, Stage};
+use pipe_sinks::PhysSink;
+use pipe_slots::PhysOperator;
+
+/// The operators of a leg with the nodes whose rows they are given, and its sink, all of which have done nothing. Each
+/// lane works on copies of them.
+#[derive(Drop)]
+pub struct Part<H: HashesKeys> {
+    pub at: SinkAt,
+    pub stages: Vec<Stage<PhysOperator<H>>>,
+    pub basin: Basin<PhysSink<H>>,
+}
