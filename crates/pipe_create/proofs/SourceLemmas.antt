@@ -1,6 +1,6 @@
 -- The sources of branches have the rows of their nodes.
-use Rattle.std.proofs.Common.{◌≡◌, ℕ, suc, Bool, true, false, eqb, ◌||◌, List, [], ◌∷◌, ◌++◌, length, None, refl, ap, sym, subst, ◌∙◌, append_assoc}
-use Rattle.std.proofs.lemmas.List.{append-nil}
+use Rattle.std.proofs.Common.{◌≡◌, ◌+◌, ◌<◌, ◌^◌, arith, ℕ, suc, Bool, true, false, eqb, ◌||◌, List, [], ◌∷◌, ◌++◌, length, None, refl, ap, sym, subst, ◌∙◌, append_assoc}
+use Rattle.std.proofs.lemmas.List.{append-nil, length-append}
 use Rattle.std.specs.List.{flat_map, list_all}
 use Rattle.pipe_frame.specs.declared.field.Field.{Field}
 use Rattle.pipe_ops.specs.Batches.{Left}
@@ -9,7 +9,7 @@ use Rattle.pipe_source.specs.Supplies.{left_of, all_left}
 use Rattle.pipe_source.specs.Supply.{Supply}
 use Rattle.pipe_source.specs.declared.phys_source.PhysSource.{PhysSource}
 use Rattle.pipe_source.specs.declared.phys_source.PhysSource.TheVariants.{Frame, Union}
-use Rattle.pipe_plan.specs.Faults.{IsWellFormed}
+use Rattle.pipe_plan.specs.Faults.{IsWellFormed, is_void}
 use Rattle.pipe_plan.specs.Node.{Node}
 use Rattle.pipe_plan.specs.Node as node
 use Rattle.pipe_plan.specs.Under.{node_at}
@@ -21,7 +21,7 @@ use Rattle.pipe_check.proofs.Walks.{member, itself}
 use Rattle.pipe_convert.specs.Converted.{IsSourceOf, schema_in}
 use Rattle.pipe_convert.proofs.Granted.{granted}
 use Rattle.pipe_create.specs.Nodes.{IsUnder, plan_in, nodes_in, rows_in}
-use Rattle.pipe_create.specs.Sources.{AreWhole, IsSourceAt, AreScans, AreScansOf, IsUnionOf}
+use Rattle.pipe_create.specs.Sources.{AreWhole, HasFewRows, IsSourceAt, AreScans, AreScansOf, IsUnionOf}
 use Rattle.pipe_create.proofs.NodeRows.{scan_rows, union_rows}
 use Rattle.pipe_create.proofs.SameFields.{first_true, second_true, union_schema}
 
@@ -68,19 +68,53 @@ scans_whole plan schema (n ∷ ns) (l ∷ ls) same h = (
   scans_whole plan schema ns ls (λ x m. same x (elim (eqb n x) as (λ t. (t || member x ns) ≡ true) [ true ↦ refl | false ↦ m ])) h.1,
 )
 
+-- ---- how many rows
+
+rows_append : (xs ys : List Left) → length (all_rows (xs ++ ys)) ≡ length (all_rows xs) + length (all_rows ys)
+rows_append [] ys = omega arith
+rows_append (x ∷ xs) ys =
+    let more = rows_append xs ys in
+    let all : length (all_rows ((x ∷ xs) ++ ys)) ≡ length x.rows + length (all_rows (xs ++ ys)) = length-append x.rows (all_rows (xs ++ ys)) in
+    let some : length (all_rows (x ∷ xs)) ≡ length x.rows + length (all_rows xs) = length-append x.rows (all_rows xs) in
+    omega arith
+
+one_has : (l : Left) → length (all_rows (l ∷ [])) ≡ length l.rows
+one_has l = ap length (append-nil l.rows)
+
+pub few_one : (l : Left) (left was : ℕ) → left + length l.rows ≡ was → was < 2 ^ 62 → HasFewRows (l ∷ [])
+few_one l left was e few = let one = one_has l in omega arith
+
+pub rows_next : (sources new : List PhysSource) (l : Left) (left was : ℕ) → new ≡ sources ++ Frame l ∷ [] → left + length l.rows ≡ was → was + length (all_rows (all_left sources)) < 2 ^ 62 → left + length (all_rows (all_left new)) < 2 ^ 62
+rows_next sources new l left was is e few =
+    let one = one_has l in
+    let more : length (all_rows (all_left new)) ≡ length (all_rows (all_left sources)) + length (all_rows (l ∷ [])) = ap (λ x. length (all_rows (all_left x))) is ∙ ap (λ x. length (all_rows x)) (all_left_push sources l) ∙ rows_append (all_left sources) (l ∷ []) in
+    omega arith
+
+-- a union has an input
+pub union_some : (plan : Checked) (n : ℕ) (inputs : List ℕ) (lefts : List Left) → IsWellFormed (plan_in plan) plan.root → IsUnder plan n → node_at (nodes_in plan) n ≡ node.Union inputs → AreScansOf plan inputs lefts → lefts ≡ [] → ⊥
+union_some plan n [] lefts good under is are none =
+    let g = granted (plan_in plan) plan.root n (node.Union []) good under is in
+    let full : is_void (plan_in plan).frames (node.Union []) ≡ false = g.whole in cc
+union_some plan n (x ∷ xs) [] good under is are none = are
+union_some plan n (x ∷ xs) (l ∷ lefts) good under is are none = cc
+
 -- ---- sources
 
-pub frame_is : (plan : Checked) (n : ℕ) (l : Left) → IsWellFormed (plan_in plan) plan.root → IsUnder plan n → node_word (node_at (nodes_in plan) n) ≡ node_word (node.DataFrameScan 0 None) → IsSourceOf plan n l → IsSourceAt plan n (Frame l)
-frame_is plan n l good under word h =
+pub frame_is : (plan : Checked) (n : ℕ) (l : Left) → IsWellFormed (plan_in plan) plan.root → IsUnder plan n → node_word (node_at (nodes_in plan) n) ≡ node_word (node.DataFrameScan 0 None) → IsSourceOf plan n l → HasFewRows (l ∷ []) → IsSourceAt plan n (Frame l)
+frame_is plan n l good under word h few =
     record {
       whole = (record { whole = h.whole; schema_is = h.gives_output }, tt);
+      some = λ none. cc;
+      few = few;
       rows = append-nil l.rows ∙ sym (scan_rows (plan_in plan) plan.root n good under l.rows h.rows);
       text = sym word;
     }
 
-pub union_is : (plan : Checked) (n : ℕ) (inputs : List ℕ) (supply : Supply) → IsWellFormed (plan_in plan) plan.root → IsUnder plan n → node_at (nodes_in plan) n ≡ node.Union inputs → AreScans plan inputs → IsUnionOf plan inputs supply → IsSourceAt plan n (Union supply)
-union_is plan n inputs supply good under is are h =
+pub union_is : (plan : Checked) (n : ℕ) (inputs : List ℕ) (supply : Supply) → IsWellFormed (plan_in plan) plan.root → IsUnder plan n → node_at (nodes_in plan) n ≡ node.Union inputs → AreScans plan inputs → IsUnionOf plan inputs supply → HasFewRows supply.left → IsSourceAt plan n (Union supply)
+union_is plan n inputs supply good under is are h few =
     record {
+      some = union_some plan n inputs supply.left good under is h;
+      few = few;
       whole = scans_whole plan (schema_in plan n) inputs supply.left (λ x m. union_schema (plan_in plan) plan.root n good under inputs is x m) h;
       rows = scans_rows plan inputs supply.left good are h ∙ sym (union_rows (plan_in plan) plan.root n good under inputs is);
       text = ap node_word (sym is);

@@ -1,9 +1,10 @@
 -- The sources of branches.
-use Rattle.std.specs.Prelude.{◌≡◌, ℕ, List, [], ◌∷◌, true}
+use Rattle.std.specs.Prelude.{◌≡◌, ℕ, ◌<◌, ◌^◌, List, [], ◌∷◌, true, length}
 use Rattle.std.specs.List.{AllByRecursion}
 use Rattle.pipe_frame.specs.declared.field.Field.{Field}
 use Rattle.pipe_ops.specs.Batches.{Left}
 use Rattle.pipe_source.specs.Endings.{source_rows}
+use Rattle.pipe_source.specs.Law.{all_rows}
 use Rattle.pipe_source.specs.Supplies.{left_of, source_text}
 use Rattle.pipe_source.specs.Supply.{Supply}
 use Rattle.pipe_source.specs.declared.phys_source.PhysSource.{PhysSource}
@@ -22,10 +23,16 @@ pub record IsWhole (schema : List Field) (left : Left) : Type 0 where
 abbrev pub AreWhole : List Field → List Left → Type 0
 AreWhole schema lefts = AllByRecursion (IsWhole schema) lefts
 
+-- frames have so few rows together that the numbers of their chunks never end
+abbrev pub HasFewRows : List Left → Type 0
+HasFewRows lefts = length (all_rows lefts) < 2 ^ 62
+
 -- a source is that of a node: nothing was taken, and its rows, their schema and its text are the
--- node's
+-- node's; it has a frame, and not too many rows
 pub record IsSourceAt (plan : Checked) (n : ℕ) (source : PhysSource) : Type 0 where
   pub whole : AreWhole (schema_in plan n) (left_of source)
+  pub some : left_of source ≡ [] → ⊥
+  pub few : HasFewRows (left_of source)
   pub rows : source_rows source ≡ rows_in plan n
   pub text : source_text source ≡ node_word (node_at (nodes_in plan) n)
 

@@ -1,30 +1,34 @@
 //! The source of a branch.
 
-ghost use Rattle.std.specs.Prelude.{◌≡◌, true, IfOk};
+ghost use Rattle.std.specs.Prelude.{◌≡◌, ◌+◌, ◌^◌, ◌<◌, true, length, IfOk, OnOk};
 ghost use Rattle.pipe_plan.specs.Node.{node_of};
 ghost use Rattle.pipe_plan.specs.Under.{node_at};
 ghost use Rattle.pipe_branches.specs.Branches.{is_scan, is_scan_at};
-ghost use Rattle.pipe_convert.specs.Converted.{IsSourceOf};
+ghost use Rattle.pipe_convert.specs.Converted.{IsScanOf, IsSourceOf};
 ghost use Rattle.pipe_legs.specs.Shape.{Begins, kind_at, kind_of};
 ghost use Rattle.pipe_create.specs.Nodes.{IsUnder, nodes_in};
-ghost use Rattle.pipe_create.specs.Sources.{AreScans, IsSourceAt, IsUnionOf};
+ghost use Rattle.pipe_create.specs.Sources.{AreScans, HasFewRows, IsSourceAt, IsUnionOf};
 
 use crate::nodes::numbered;
 use pipe_check::CheckedPlan;
-use pipe_convert::scan_source;
+use pipe_convert::scan_frame;
+use pipe_frame::DataFrame;
 use pipe_plan::IR;
 use pipe_source::{DataFrameSource, PhysSource, UnionSource};
 use std::alloc::{AllocError, Global};
 
-/// The source of a scan that is given.
-fn frame_source(plan: &CheckedPlan, n: u32, node: &IR) -> Result<DataFrameSource, AllocError>
+/// How many rows a source has at most: so many that the numbers of its chunks never end.
+const MOST_ROWS: u64 = 4_611_686_018_427_387_903;
+
+/// The frame of a scan that is given.
+fn node_frame(plan: &CheckedPlan, n: u32, node: &IR) -> Result<DataFrame, AllocError>
     requires under { IsUnder plan.now n }
     requires is { node_of node.now ≡ node_at (nodes_in plan.now) n }
     requires scan { is_scan (node_of node.now) ≡ true }
-    ensures { IfOk result (IsSourceOf plan.now n) }
+    ensures { IfOk result (IsScanOf plan.now n) }
 {
     match node {
-        IR::DataFrameScan { frame, columns } => Ok(scan_source(plan, n, *frame, columns)?),
+        IR::DataFrameScan { frame, columns } => Ok(scan_frame(plan, n, *frame, columns)?),
         IR::Filter {
             input: _,
             predicate: _,
@@ -55,31 +59,41 @@ fn frame_source(plan: &CheckedPlan, n: u32, node: &IR) -> Result<DataFrameSource
     }
 }
 
-/// The source of a scan.
-fn source_at(plan: &CheckedPlan, n: u32) -> Result<DataFrameSource, AllocError>
+/// The source of a scan that has no more than the rows that are left for it.
+fn source_at(plan: &CheckedPlan, n: u32, rows_left: &mut u64) -> Result<DataFrameSource, AllocError>
     requires under { IsUnder plan.now n }
     requires scan { is_scan_at (nodes_in plan.now) n ≡ true }
-    ensures { IfOk result (IsSourceOf plan.now n) }
+    ensures source { IfOk result (IsSourceOf plan.now n) }
+    ensures rows { IfOk result (λ source. rows_left.new + length source.rows ≡ rows_left.old) }
 {
-    frame_source(plan, n, numbered(plan, n))
+    let frame = node_frame(plan, n, numbered(plan, n))?;
+    let rows = frame.height() as u64;
+    if rows > *rows_left {
+        return Err(AllocError);
+    }
+    *rows_left -= rows;
+    Ok(DataFrameSource::from_df(frame))
 }
 
-/// The sources of scans, one after another. More than 32 bits count is want of memory.
+/// The sources of scans, one after another. More than 32 bits count, of scans or twice of rows, is want of memory.
 fn union_source(
     alloc: Global,
     plan: &CheckedPlan,
     inputs: &[u32],
 ) -> Result<UnionSource, AllocError>
     requires scans { AreScans plan.now inputs.now }
-    ensures { IfOk result (IsUnionOf plan.now inputs.now) }
+    ensures union { IfOk result (IsUnionOf plan.now inputs.now) }
+    ensures few { IfOk result (λ source. HasFewRows source.left) }
 {
     let _ = plan.root();
     if inputs.len() > u32::MAX as usize {
         return Err(AllocError);
     }
     let mut sources = Vec::new(alloc);
+    let mut rows_left = MOST_ROWS;
     for input in inputs {
-        sources.push(PhysSource::Frame(source_at(plan, *input)?))?;
+        let source = source_at(plan, *input, &mut rows_left)?;
+        sources.push(PhysSource::Frame(source))?;
     }
     Ok(UnionSource::new(sources))
 }
@@ -98,8 +112,12 @@ fn node_source(
 {
     let _ = plan.root();
     match node {
-        IR::DataFrameScan { frame, columns } => {
-            let source = scan_source(plan, n, *frame, columns)?;
+        IR::DataFrameScan {
+            frame: _,
+            columns: _,
+        } => {
+            let mut rows_left = MOST_ROWS;
+            let source = source_at(plan, n, &mut rows_left)?;
             Ok(PhysSource::Frame(source))
         }
         IR::Union { inputs } => {
