@@ -5,20 +5,24 @@
 
 Both tables have N rows, whose keys are drawn from N numbers. The rows in parts are compared line by line with those of
 sqlite3, which has them in one order, since the sort is by all columns. Dask's merge reads the same files with pandas (left
-out where pandas isn't there), and writes CSV too; its rows are counted. Times are of whole processes, in seconds, with
-the start of the workers; memory is that of the largest process.
+out where pandas isn't there), and writes CSV too; its rows, sorted, are the same. For each there are the seconds of
+the whole call, with the start of the workers, the seconds of processor time and the peak memory of all its processes
+together, looked at a few times a second.
+
+In a directory that is told the tables and what sqlite3 made of them stay, and are taken again.
 """
 
 import argparse
+import contextlib
 import hashlib
 import os
 import random
-import resource
 import sqlite3
 import subprocess
 import sys
 import tempfile
 import time
+from typing import NamedTuple
 
 TOP = os.path.dirname(os.path.dirname(os.path.dirname(os.path.abspath(__file__))))
 QUERY = "select l.k as k, l.a as a, r.b as b from l join r on l.k = r.k where l.a > r.b order by k, a, b"
@@ -36,26 +40,62 @@ if __name__ == "__main__":
 """
 
 
+PAUSE = 0.25
+
+
+class Used(NamedTuple):
+    """What a call took: seconds, seconds of processor time, MiB of all its processes, and what it said."""
+
+    seconds: float
+    processor: float
+    memory: float
+    said: str
+
+    def __str__(self):
+        return f"{self.seconds:.1f} s, {self.processor:.1f} s of processor time, {self.memory:.0f} MiB"
+
+
 def write_tables(folder, rows, seed):
     chance = random.Random(seed)
+    draw = lambda below: int(chance.random() * below)
     for name, column in (("l", "a"), ("r", "b")):
-        with open(os.path.join(folder, f"{name}.csv"), "w") as file:
-            file.write(f"k,{column}\n")
-            for _ in range(rows):
-                file.write(f"{chance.randrange(rows)},{chance.randrange(1000)}\n")
+        path = os.path.join(folder, f"{name}.csv")
+        if not os.path.exists(path):
+            with open(path, "w") as file:
+                file.write(f"k,{column}\n")
+                file.writelines(f"{draw(rows)},{draw(1000)}\n" for _ in range(rows))
+
+
+def used_by(session):
+    """The processor time and the memory of the processes of a session, and of those that ended below them."""
+    ticks, pages = 0, 0
+    for it in filter(str.isdigit, os.listdir("/proc")):
+        with contextlib.suppress(OSError), open(f"/proc/{it}/stat", "rb") as file:
+            said = file.read().rpartition(b")")[2].split()
+            if int(said[3]) == session:
+                ticks, pages = ticks + sum(map(int, said[11:15])), pages + int(said[21])
+    return ticks / os.sysconf("SC_CLK_TCK"), pages * os.sysconf("SC_PAGE_SIZE") / 2**20
 
 
 def timed(words, **told):
-    start = time.perf_counter()
-    done = subprocess.run(words, **told)
-    if done.returncode != 0:
-        sys.exit(f"{words[:4]} ended with {done.returncode}: {(done.stderr or b'').decode()[-2000:]}")
-    return time.perf_counter() - start, done
+    """What a call took; it ends this one where it fails."""
+    start, processor, memory = time.perf_counter(), 0.0, 0.0
+    with tempfile.TemporaryFile() as file:
+        process = subprocess.Popen(words, stderr=file, start_new_session=True, **told)
+        while process.poll() is None:
+            found = used_by(process.pid)
+            processor, memory = max(processor, found[0]), max(memory, found[1])
+            time.sleep(PAUSE)
+        seconds = time.perf_counter() - start
+        file.seek(0)
+        said = file.read().decode()
+    if process.returncode != 0:
+        sys.exit(f"{words[:4]} ended with {process.returncode}: {said[-2000:]}")
+    return Used(seconds, processor, memory, said)
 
 
 def by_sqlite(folder):
-    """The seconds of sqlite3 in memory, with reading and writing; it writes sqlite.csv."""
-    start = time.perf_counter()
+    """What sqlite3 makes of the tables in memory; it writes sqlite.csv."""
     base = sqlite3.connect(":memory:")
     for name, column in (("l", "a"), ("r", "b")):
         base.execute(f"create table {name} (k integer, {column} integer)")
@@ -66,7 +106,6 @@ def by_sqlite(folder):
     with open(os.path.join(folder, "sqlite.csv"), "w") as file:
         file.write("k,a,b\n")
         file.writelines(f"{k},{a},{b}\n" for k, a, b in base.execute(QUERY))
-    return time.perf_counter() - start
 
 
 def lines_of(path):
@@ -80,12 +119,34 @@ def lines_of(path):
 
 
 def in_parts(folder, workers):
-    """The seconds and the last line of a run in parts; it writes parts.csv."""
+    """What a run in parts took; it writes parts.csv."""
     files = [f"{it}={folder}/{it}.csv" for it in "lr"]
     words = [sys.executable, "-m", "liskevar", "distribute", "--sql", QUERY, *files, "--local", str(workers), "--quiet"]
     environment = {**os.environ, "PYTHONPATH": os.path.join(TOP, "python")}
-    seconds, done = timed([*words, "--output", f"{folder}/parts.csv"], env=environment, stderr=subprocess.PIPE)
-    return seconds, done.stderr.decode().strip().splitlines()[-1]
+    return timed([*words, "--output", f"{folder}/parts.csv"], env=environment)
+
+
+def sorted_rows(path):
+    """The rows of a CSV file, sorted; Dask's merge leaves rows of one first key in any order."""
+    with open(path) as file:
+        next(file)
+        return sorted(tuple(map(int, line.split(","))) for line in file)
+
+
+def compared(folder, workers_told, wanted):
+    """Runs both with each number of workers."""
+    has_pandas = subprocess.run([sys.executable, "-c", "import pandas"], stderr=subprocess.DEVNULL).returncode == 0
+    for workers in workers_told:
+        used = in_parts(folder, workers)
+        found = lines_of(os.path.join(folder, "parts.csv"))
+        same = "" if wanted is None else f", rows {'the same' if found == wanted else 'DIFFER'}"
+        print(f"in parts, {workers} workers: {used} ({used.said.strip().splitlines()[-1]}){same}", flush=True)
+        if not has_pandas:
+            print("Dask's merge: left out, pandas isn't there")
+            continue
+        used = timed([sys.executable, "-c", MERGE, folder, str(workers)])
+        same = "the same" if sorted_rows(f"{folder}/merged.csv") == sorted_rows(f"{folder}/parts.csv") else "DIFFER"
+        print(f"Dask's merge, {workers} workers: {used}, rows {same}", flush=True)
 
 
 def main():
@@ -95,26 +156,20 @@ def main():
     parser.add_argument("--folder")
     parser.add_argument("--seed", type=int, default=1)
     parser.add_argument("--without-sqlite", action="store_true")
+    parser.add_argument("--sqlite", help=argparse.SUPPRESS)
     given = parser.parse_args()
-    with tempfile.TemporaryDirectory(dir=given.folder) as folder:
+    if given.sqlite:
+        by_sqlite(given.sqlite)
+        return
+    with contextlib.ExitStack() as closing:
+        folder = given.folder or closing.enter_context(tempfile.TemporaryDirectory())
         write_tables(folder, given.rows, given.seed)
-        wanted = None
+        wanted, path = None, os.path.join(folder, "sqlite.csv")
         if not given.without_sqlite:
-            print(f"sqlite3: {by_sqlite(folder):.1f} s", flush=True)
-            wanted = lines_of(os.path.join(folder, "sqlite.csv"))
-        for workers in map(int, given.workers.split(",")):
-            seconds, told = in_parts(folder, workers)
-            found = lines_of(os.path.join(folder, "parts.csv"))
-            same = "" if wanted is None else f", rows {'the same' if found == wanted else 'DIFFER'}"
-            print(f"in parts, {workers} workers: {seconds:.1f} s ({told}){same}", flush=True)
-            if subprocess.run([sys.executable, "-c", "import pandas"], stderr=subprocess.DEVNULL).returncode != 0:
-                print("Dask's merge: left out, pandas isn't there")
-                continue
-            seconds, _ = timed([sys.executable, "-c", MERGE, folder, str(workers)], stderr=subprocess.PIPE)
-            count = lines_of(os.path.join(folder, "merged.csv"))[0]
-            print(f"Dask's merge, {workers} workers: {seconds:.1f} s, {count - 1} rows", flush=True)
-        peak = resource.getrusage(resource.RUSAGE_CHILDREN).ru_maxrss
-        print(f"the largest process had {peak / 1024:.0f} MiB")
+            if not os.path.exists(path):
+                print(f"sqlite3: {timed([sys.executable, __file__, '--sqlite', folder])}", flush=True)
+            wanted = lines_of(path)
+        compared(folder, [int(it) for it in given.workers.split(",") if it], wanted)
 
 
 if __name__ == "__main__":

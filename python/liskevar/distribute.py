@@ -245,8 +245,8 @@ class Distribution:
         aim = max(run.limits.aim, min(size // (8 * run.threads), room * 3 // 4))
         return cut, *placed(movable, room, run.limits.parts or max(run.threads, -(-size // aim)))
 
-    def answers(self) -> Answers:
-        """Runs all parts, and what gathers their rows."""
+    def _parts(self) -> list[Any]:
+        """The answers of all parts. What was cut is nobody's behind this, and is given up when the parts have it."""
         run, (cut, places, parts) = self.run, self.placed()
         pairs = run.map(moved, cut.every(), [run.share(places)] * len(cut.every()))
         whole = [it for frame, some in cut.blocks.items() if any(it.is_whole for it in self._of(frame)) for it in some]
@@ -254,8 +254,12 @@ class Distribution:
         form = self.told.form(self.scans, is_alone=True) if parts == 1 else self.form
         task = Task("part", form, digest(), run.topic)
         groups = run.grouped(pairs, parts)
-        futures = run.compute(running.run_part, [(part, it, blocks, task) for part, it in enumerate(groups)])
-        counts = self._finished("running", futures)
+        return run.compute(running.run_part, [(part, it, blocks, task) for part, it in enumerate(groups)])
+
+    def answers(self) -> Answers:
+        """Runs all parts, and what gathers their rows."""
+        futures = self._parts()
+        counts, parts = self._finished("running", futures), len(futures)
         if self.told.said["gather"] is not None and parts > 1:
             return self._gathered(futures, counts)._replace(parts=parts)
         return Answers(futures, [(0, rows) for rows, _ in counts], parts)

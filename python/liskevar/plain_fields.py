@@ -136,14 +136,49 @@ def _ends(digits: Any, powers: Any, is_negative: Any, lengths: Any) -> tuple[int
     return (int(numbers.min()), int(numbers.max())) if len(numbers) else None
 
 
+def scaled_numbers(column: ArrayCells, scale: int) -> ArrayCells | None:
+    """The cells of fields that all have so many digits behind the point, or nothing, as whole numbers."""
+    width = column.widest()
+    if not scale + 2 <= width <= DIGITS + 1:
+        return None
+    powers, kept, found = 10 ** numpy.arange(width - 2, -1, -1), kept_at_right(width - 1), []
+    for starts, ends, lengths in column.chunks():
+        is_filled, is_negative = lengths > 0, column.data[starts] == 45
+        counts = numpy.where(is_filled, lengths - 1 - is_negative, 0).astype(numpy.uint8)
+        cells = bytes_from(column.data, ends - width, width)
+        has_point = (cells[:, width - scale - 1] == 46) & (counts > scale) & (lengths > scale)
+        if not (has_point | ~is_filled).all():
+            return None
+        digits = numpy.delete(cells, width - scale - 1, 1) - 48
+        digits *= kept[counts].view(numpy.uint8).reshape(-1, width - 1)
+        leads = (column.data[starts + is_negative] == 48) & (counts > scale + 1)
+        if digits.max(initial=0) > 9 or leads.any():
+            return None
+        numbers = digits @ powers
+        # a number has one digit and more; of zero no sign is written
+        sizes = numpy.maximum(numpy.searchsorted(powers[::-1], numbers, "right"), 1)
+        texts = numpy.full((len(digits), width), 48, numpy.uint8)
+        texts[:, 1:] += digits
+        rows = numpy.flatnonzero(is_negative & is_filled & (numbers > 0))
+        texts[rows, width - 1 - sizes[rows]] = 45
+        sizes[rows] += 1
+        found.append((texts.tobytes(), numpy.where(is_filled, sizes, 0)))
+    data, sizes = array_of(b"".join(it[0] for it in found)), numpy.concatenate([it[1] for it in found])
+    ends = len(BEFORE) + width * numpy.arange(1, len(sizes) + 1)
+    return ArrayCells(data, ends - sizes, ends)
+
+
 def spelled(fields: PlainFields, place: int, dtype: DType, empty_is_text: bool) -> Cells | None:
-    """The cells of a column as a job spells them: of whole numbers and of texts."""
+    """The cells of a column as a job spells them: of numbers and of texts."""
     column = fields.column(place)
+    if dtype.scale:
+        scaled = scaled_numbers(column, dtype.scale) if dtype.base == "Int64" else None
+        return None if scaled is None else _with_nulls(scaled, column.starts == column.ends)
     is_empty, is_text = column.starts == column.ends, dtype.base in ("String", "Int128")
     if dtype.base == "String":
         if not fields.is_clean:
             return None
-    elif dtype.scale or dtype.base not in RANGES:
+    elif dtype.base not in RANGES:
         return None
     elif column.widest():
         found, (least, greatest) = whole_numbers(column), RANGES[dtype.base]
@@ -152,10 +187,16 @@ def spelled(fields: PlainFields, place: int, dtype: DType, empty_is_text: bool) 
     data, starts, ends = column.data, column.starts, column.ends
     if is_text:
         data, starts, ends = fields.quoted, starts - 1, ends + 1
-    if is_empty.any() and not (empty_is_text and dtype.base == "String"):
-        null = null_of(data)
-        starts, ends = numpy.where(is_empty, null, starts), numpy.where(is_empty, null + 4, ends)
-    return ArrayCells(data, starts, ends)
+    made = ArrayCells(data, starts, ends)
+    return made if empty_is_text and dtype.base == "String" else _with_nulls(made, is_empty)
+
+
+def _with_nulls(cells: ArrayCells, is_null: Any) -> ArrayCells:
+    """The cells, with nulls in the place of some."""
+    if not is_null.any():
+        return cells
+    null = null_of(cells.data)
+    return ArrayCells(cells.data, numpy.where(is_null, null, cells.starts), numpy.where(is_null, null + 4, cells.ends))
 
 
 def columns_of_lines(lines: bytes, width: int) -> list[Cells]:

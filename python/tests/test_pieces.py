@@ -157,6 +157,7 @@ def test_plain_files_are_read_as_the_reader_of_csv_reads_them(write, monkeypatch
         "large": ["18446744073709551615", "-5", str(2**120), "1", ""], "odd": ["-0", "01", "+1", "1_0", " 1", "-", "٣", "1"],
         "even": ["10", "99", "1234", ""], "texts": ["a", "é", "x" * 60, "", "null", "a b"], "strange": ["\\", "\t", "\x01", "a"],
         "truths": ["true", "false", ""], "bytes": ["00", "ff", ""], "decimals": ["1.5", "-0.25", "3", ""], "none": [""],
+        "cents": ["0.00", "-0.00", "0.05", "-0.05", "12.50", "-1234567890123456.78", "0.50", ""], "points": ["00.10", "1.50", "-.50", "1..50", "5", "-1.25"],
     }  # fmt: skip
     wanted = [DType(it) for it in ("Int32", "Int64", "UInt32", "UInt64", "Int128", "Boolean", "String", "Binary")] + [DType("Int64", 2)]
     plain, tried = set(), collections.Counter()
