@@ -1,16 +1,19 @@
 -- The places of a value, and what is told of one: that something else stands there than may.
-use Rattle.std.specs.Prelude.{◌≡◌, ◌≢◌, ◌<◌, ℕ, List, [], ◌∷◌, codes, length, slice_index_or, Option, Some, None, option_and_then, Bool, false, ◌||◌}
-use Rattle.std.specs.Borrow.{Bor}
-use Rattle.std.specs.Str.{bytes_eq}
+use Rattle.std.specs.Prelude.{◌≡◌, ◌≢◌, ◌<◌, ◌⊎◌, ℕ, List, [], ◌∷◌, ◌++◌, codes, length, slice_index_or, ◌||◌, if◌then◌else◌, is_some, Option, Some, None, option_and_then, Bool, false}
 use Rattle.serde_json.specs.Data.{Data, null, string}
 use Rattle.serde_json.specs.Find.{at, get}
 use Rattle.pipe_value.specs.Items.{elements}
 use Rattle.pipe_frame.specs.declared.data_type.DataType.{DataType}
-use Rattle.pipe_job.specs.Shape.{contains_text, is_cell, is_single}
+use Rattle.pipe_job.specs.Shape.{contains_text, is_cell, is_single, text_in}
 use Rattle.pipe_why_text.specs.declared.steps.Step.{Step}
 use Rattle.pipe_why_text.specs.declared.steps.Step.TheVariants as step
+use Rattle.pipe_why_wants.specs.Members.{HasMember, item_wanted, member_wanted, members_in, members_of, want_in}
 use Rattle.pipe_why_wants.specs.Wanted.{Misspells, form_words}
+use Rattle.pipe_why_wants.specs.declared.want.Foreign.TheVariants as foreign
 use Rattle.pipe_why_wants.specs.declared.want.Want.{Want}
+use Rattle.pipe_why_wants.specs.declared.want.Want.TheVariants as want
+use Rattle.pipe_why_value.specs.declared.input_kind.InputKind.{InputKind}
+use Rattle.pipe_why_value.specs.declared.input_kind.InputKind.TheVariants as kind
 use Rattle.pipe_why_value.specs.declared.wrong.Misfit.{Misfit}
 use Rattle.pipe_why_value.specs.declared.wrong.Wrong.{Wrong}
 use Rattle.pipe_why_value.specs.declared.wrong.Wrong.TheVariants as wrong
@@ -38,12 +41,46 @@ last_name [] = []
 last_name (s ∷ []) = name_of s
 last_name (s ∷ t ∷ steps) = last_name (t ∷ steps)
 
--- ---- what is wrong at a place
+-- ---- what may stand at a place
 
--- whether a name is one of these members'
-abbrev pub is_known : List (Bor (List ℕ) × Want) → List ℕ → Bool
-is_known [] name = false
-is_known (m ∷ ms) name = bytes_eq m.0.now name || is_known ms name
+-- what may stand where a step leads
+abbrev pub wanted : Step → Want × Data → Option Want
+wanted (step.Member name) p = member_wanted p.0 p.1 name
+wanted (step.Item i) p = item_wanted p.0 i
+
+abbrev pub both : {A B : Type 0} → Option A → Option B → Option (A × B)
+both None b = None
+both (Some a) None = None
+both (Some a) (Some b) = Some (a, b)
+
+-- what may stand where a step leads, and what does: none where nothing does, or nothing may
+abbrev pub wanted_part : Step → Want × Data → Option (Want × Data)
+wanted_part s p = both (wanted s p) (part s p.1)
+
+-- the same where steps lead, of a value and what may stand in its place
+abbrev pub wanted_at : List Step → Want × Data → Option (Want × Data)
+wanted_at [] p = Some p
+wanted_at (s ∷ steps) p = option_and_then (wanted_at steps) (wanted_part s p)
+
+-- whether a value has a member
+abbrev pub has_member : List ℕ → Data → Bool
+has_member name d = is_some (get name d)
+
+-- what a value is by its members: a job wherever it has a plan, or no member that a job hasn't
+abbrev pub kind_of : Data → InputKind
+kind_of d =
+    if has_member (codes "plan") d then kind.Job
+    else if has_member (codes "edits") d || has_member (codes "join") d then kind.Edits
+    else if has_member (codes "on") d || has_member (codes "join_nulls") d then kind.Reconciliation
+    else kind.Job
+
+-- what the whole of an input should be
+abbrev pub whole_want : InputKind → Want
+whole_want kind.Job = want.Job
+whole_want kind.Reconciliation = want.Foreign foreign.Reconciliation
+whole_want kind.Edits = want.Foreign foreign.Replay
+
+-- ---- what is wrong at a place
 
 -- the item at a place is no cell of a type
 abbrev pub IsBadCell : DataType → Data → ℕ → Type 0
@@ -57,7 +94,7 @@ IsBadPair d p = IsBadCell p.1 d p.0
 abbrev pub IsWrong : Wrong → List Step → Data → Type 0
 IsWrong (wrong.Other w) steps d = Misspells w d
 IsWrong (wrong.Missing name w) steps d = get name.now d ≡ None
-IsWrong (wrong.Unknown known) steps d = is_known known.now (last_name steps) ≡ false
+IsWrong (wrong.Unknown known) steps d = want_in (members_in known.now) (last_name steps) ≡ None
 IsWrong wrong.UnknownForm steps d = contains_text form_words (last_name steps) ≡ false
 IsWrong (wrong.Members count) steps d = is_single d ≡ false
 IsWrong (wrong.Cell t column count) steps d = is_cell t d ≡ false
@@ -69,6 +106,65 @@ IsWrong (wrong.Frames count) steps d = (length (elements d) ≡ count) × (count
 IsWrong (wrong.Parts count) steps d = (length (elements d) ≡ count) × (count ≢ 3)
 IsWrong (wrong.Width cells columns) steps d = (length (elements d) ≡ cells) × (cells ≢ columns)
 
--- a value stands where the steps of what is told lead in the whole, and what is told is wrong with it
-abbrev pub IsTold : Data → Misfit → Type 0
-IsTold root m = (d : Data) × (part_at m.steps.items root ≡ Some d) × IsWrong m.wrong m.steps.items d
+-- of the whole these steps lead to where this may stand
+abbrev pub MayStand : Want × Data → List Step → Want → Type 0
+MayStand root steps w = (d : Data) × (wanted_at steps root ≡ Some (w, d))
+
+-- the steps lead to a member of an object in whose place this may stand, and which may have these members
+pub record IsMember (root : Want × Data) (steps : List Step) (table : List (List ℕ × Want)) : Type 0 where
+  pub above : List Step
+  pub name : List ℕ
+  pub object : Want × Data
+  pub steps_are : steps ≡ above ++ step.Member name ∷ []
+  pub stands : wanted_at above root ≡ Some object
+  pub table_is : table ≡ members_of object.0 object.1
+
+-- the steps lead to an object that may have a member
+pub record MayHave (root : Want × Data) (steps : List Step) (member : List ℕ × Want) : Type 0 where
+  pub object : Want × Data
+  pub stands : wanted_at steps root ≡ Some object
+  pub has : HasMember (members_of object.0 object.1) member
+
+-- the steps lead to a cell of a column of a type, or of a row of an edit
+pub record IsCellOf (root : Want × Data) (steps : List Step) (t : DataType) : Type 0 where
+  pub above : List Step
+  pub place : ℕ
+  pub steps_are : steps ≡ above ++ step.Item place ∷ []
+  pub stands : MayStand root above (want.Cells t) ⊎ MayStand root above (want.Foreign foreign.Row)
+
+-- the name of the column at a place
+abbrev pub name_at : Data → ℕ → List ℕ
+name_at columns i = text_in (get (codes "name") (slice_index_or (elements columns) i null))
+
+-- the steps lead to the name of a column that an earlier one has
+pub record IsSecond (root : Want × Data) (steps : List Step) (earlier : ℕ) : Type 0 where
+  pub above : List Step
+  pub columns : Data
+  pub place : ℕ
+  pub steps_are : steps ≡ above ++ step.Item place ∷ step.Member (codes "name") ∷ []
+  pub stands : wanted_at above root ≡ Some (want.Columns, columns)
+  pub before : earlier < place
+  pub same : name_at columns earlier ≡ name_at columns place
+
+-- what is told to be wanted where these steps lead is what may stand there, and what is said of what stands elsewhere
+-- is so
+abbrev pub IsOwn : Want × Data → Wrong → List Step → Type 0
+IsOwn root (wrong.Other w) steps = MayStand root steps w
+IsOwn root (wrong.Missing name w) steps = MayHave root steps (name.now, w)
+IsOwn root (wrong.Unknown known) steps = IsMember root steps (members_in known.now)
+IsOwn root wrong.UnknownForm steps = (above : List Step) × (name : List ℕ) × (steps ≡ above ++ step.Member name ∷ []) × MayStand root above want.Expr
+IsOwn root (wrong.Members count) steps = MayStand root steps want.Expr
+IsOwn root (wrong.Cell t column count) steps = IsCellOf root steps t
+IsOwn root wrong.Wide steps = MayStand root steps want.Type
+IsOwn root wrong.NoColumns steps = MayStand root steps want.Columns
+IsOwn root (wrong.SecondName earlier) steps = IsSecond root steps earlier
+IsOwn root (wrong.Height cells wanted) steps = Unit {0}
+IsOwn root (wrong.Frames count) steps = MayStand root steps (want.Foreign foreign.TwoFrames)
+IsOwn root (wrong.Parts count) steps = MayStand root steps (want.Foreign foreign.Edit)
+IsOwn root (wrong.Width cells columns) steps = MayStand root steps (want.Foreign foreign.Row)
+
+-- a value stands where the steps of what is told lead in the whole, what is told is wrong with it, and what is told to be
+-- wanted there is what may stand there
+abbrev pub IsTold : Want × Data → Misfit → Type 0
+IsTold root m =
+    (d : Data) × (part_at m.steps.items root.1 ≡ Some d) × IsWrong m.wrong m.steps.items d × IsOwn root m.wrong m.steps.items

@@ -1,17 +1,43 @@
 -- What a walk through a value tells, and what a part of it leaves.
-use Rattle.std.specs.Prelude.{◌≡◌, List, [], ◌∷◌, ◌++◌, Option, Some, IfSome}
+use Rattle.std.specs.Prelude.{◌≡◌, ◌<◌, ℕ, List, [], ◌∷◌, ◌++◌, Option, Some, None, option_and_then, IfSome, String}
+use Rattle.std.specs.BTreeMap.{BTreeMap, get_by_text}
+use Rattle.std.specs.declared.alloc.Global.{Global}
 use Rattle.serde_json.specs.Data.{Data}
+use Rattle.pipe_frame.specs.declared.data_type.DataType.{DataType}
 use Rattle.pipe_why_text.specs.declared.steps.Step.{Step}
-use Rattle.pipe_why_value.specs.Places.{IsTold, part_at}
+use Rattle.pipe_why_wants.specs.Members.{beside}
+use Rattle.pipe_why_wants.specs.declared.want.Want.{Want}
+use Rattle.pipe_why_wants.specs.declared.want.Want.TheVariants as want
+use Rattle.pipe_why_value.specs.Places.{IsOwn, IsTold, IsWrong, name_at, part_at, wanted_at}
+use Rattle.pipe_why_value.specs.declared.looking.MemberWant.{MemberWant}
+use Rattle.pipe_why_value.specs.declared.looking.MemberWant.TheVariants as member
 use Rattle.pipe_why_value.specs.declared.walk.Walk.{Walk}
 use Rattle.pipe_why_value.specs.declared.wrong.Misfit.{Misfit}
+use Rattle.pipe_why_value.specs.declared.wrong.Wrong.{Wrong}
 
--- a part of a walk that stands at a value ends where it began, what was told first is told still, and what is told then
--- is wrong where it is told
-pub record Looked (d : Data) (old new : Walk) : Type 0 where
+-- what is told stays rightly told
+abbrev pub StaysTold : Want × Data → (old new : Walk) → Type 0
+StaysTold root old new = IfSome old.first (IsTold root) → IfSome new.first (IsTold root)
+
+-- a part of a walk that stands at a value, in whose place this may stand, ends where it began, what was told first is
+-- told still, and what is told then is wrong where it is told
+pub record Looked (p : Want × Data) (old new : Walk) : Type 0 where
   pub back : new.steps.items ≡ old.steps.items
   pub kept : (m : Misfit) → old.first ≡ Some m → new.first ≡ Some m
-  pub told : (root : Data) → part_at old.steps.items root ≡ Some d → IfSome old.first (IsTold root) → IfSome new.first (IsTold root)
+  pub told : (root : Want × Data) → wanted_at old.steps.items root ≡ Some p → StaysTold root old new
+
+-- so does one that stands a step behind it
+pub record Within (p : Want × Data) (s : Step) (old new : Walk) : Type 0 where
+  pub back : new.steps.items ≡ old.steps.items
+  pub kept : (m : Misfit) → old.first ≡ Some m → new.first ≡ Some m
+  pub told : (root : Want × Data) (above : List Step) → old.steps.items ≡ above ++ s ∷ [] → wanted_at above root ≡ Some p → StaysTold root old new
+
+-- something wrong was noted where the walk stands
+pub record Noted (wrong : Wrong) (old new : Walk) : Type 0 where
+  pub back : new.steps.items ≡ old.steps.items
+  pub kept : (m : Misfit) → old.first ≡ Some m → new.first ≡ Some m
+  pub told : (root : Want × Data) (d : Data) → part_at old.steps.items root.1 ≡ Some d → IsWrong wrong old.steps.items d
+      → IsOwn root wrong old.steps.items → StaysTold root old new
 
 -- a step was made
 pub record Entered (s : Step) (old new : Walk) : Type 0 where
@@ -22,3 +48,14 @@ pub record Entered (s : Step) (old new : Walk) : Type 0 where
 pub record Left (old new : Walk) : Type 0 where
   pub steps : (steps : List Step) (s : Step) → old.steps.items ≡ steps ++ s ∷ [] → new.steps.items ≡ steps
   pub first : new.first ≡ old.first
+
+-- the names of the columns before a place, each with the place of one
+abbrev pub AreNames : Data → ℕ → BTreeMap (String Global) ℕ → Type 0
+AreNames columns i names = (name : List ℕ) (j : ℕ) → get_by_text names name ≡ Some j → (j < i) × (name_at columns j ≡ name)
+
+-- what is wanted of a member, by what its table says and the type that its object tells
+abbrev pub IsWantBy : Option Want → Option DataType → MemberWant → Type 0
+IsWantBy said t (member.Is w) = option_and_then (beside t) said ≡ Some w
+IsWantBy said t (member.Cells u) = option_and_then (beside t) said ≡ Some (want.Cells u)
+IsWantBy said t member.Untold = Unit {0}
+IsWantBy said t member.Unknown = said ≡ None

@@ -1,8 +1,9 @@
 //! The rows of edits beside the columns of the tables that they edit.
 
-ghost use Rattle.std.specs.Prelude.{◌≡◌, ◌<◌, ◌≤◌, IfOk, IfSome, OnOk, length};
+ghost use Rattle.std.specs.Prelude.{◌≡◌, ◌<◌, ◌≤◌, Some, IfOk, IfSome, OnOk, length};
 ghost use Rattle.pipe_value.specs.Items.{elements};
 ghost use Rattle.pipe_value.specs.View.{view};
+ghost use Rattle.pipe_why_wants.specs.Members.{item_wanted};
 ghost use Rattle.pipe_why_value.specs.Places.{IsBadPair};
 ghost use Rattle.pipe_why_value.specs.Walks.{Looked};
 
@@ -128,7 +129,7 @@ fn bad_cell(
 /// Looks at so many cells of a row of a table of as many columns.
 fn look_at_cells(walk: &mut Walk, side: &Value, row: &Value, count: usize) -> Result<(), AllocError>
     requires { count ≤ length (elements (view row.now)) }
-    ensures { OnOk result (Looked (view row.now) walk.old walk.new) }
+    ensures { OnOk result (Looked (Want.Foreign Foreign.Row, view row.now) walk.old walk.new) }
 {
     let alloc = walk.alloc;
     let columns = walk.tables.columns(side);
@@ -146,13 +147,11 @@ fn look_at_cells(walk: &mut Walk, side: &Value, row: &Value, count: usize) -> Re
     )
 }
 
-/// Looks at the row of an edit of the table that it names.
-fn look_at_row(walk: &mut Walk, side: &Value, row: &Value) -> Result<(), AllocError>
-    ensures { OnOk result (Looked (view row.now) walk.old walk.new) }
+/// Looks at the so many cells of the row of an edit of the table that it names.
+fn look_at_width(walk: &mut Walk, side: &Value, row: &Value, cells: usize) -> Result<(), AllocError>
+    requires { cells ≡ length (elements (view row.now)) }
+    ensures { OnOk result (Looked (Want.Foreign Foreign.Row, view row.now) walk.old walk.new) }
 {
-    let Some(cells) = row.array_len()? else {
-        return walk.note(Wrong::Other(Want::Foreign(Foreign::Row)));
-    };
     let columns = walk.tables.columns(side).len();
     if columns == 0 {
         return Ok(());
@@ -163,6 +162,16 @@ fn look_at_row(walk: &mut Walk, side: &Value, row: &Value) -> Result<(), AllocEr
     look_at_cells(walk, side, row, cells)
 }
 
+/// Looks at the row of an edit of the table that it names.
+fn look_at_row(walk: &mut Walk, side: &Value, row: &Value) -> Result<(), AllocError>
+    ensures { OnOk result (Looked (Want.Foreign Foreign.Row, view row.now) walk.old walk.new) }
+{
+    match row.array_len()? {
+        Some(cells) => look_at_width(walk, side, row, cells),
+        None => walk.note(Wrong::Other(Want::Foreign(Foreign::Row))),
+    }
+}
+
 /// Looks at a word of an edit, which stands at a place.
 fn look_at_word(
     walk: &mut Walk,
@@ -171,7 +180,8 @@ fn look_at_word(
     want: Foreign,
 ) -> Result<(), AllocError>
     requires { place < length (elements (view edit.now)) }
-    ensures { OnOk result (Looked (view edit.now) walk.old walk.new) }
+    ensures { OnOk result (item_wanted (Want.Foreign Foreign.Edit) place ≡ Some (Want.Foreign want)
+        → Looked (Want.Foreign Foreign.Edit, view edit.now) walk.old walk.new) }
 {
     let word = edit.item(walk.alloc, place)?;
     walk.enter_item(place)?;
@@ -183,7 +193,7 @@ fn look_at_word(
 /// Looks at the row of an edit.
 fn look_at_third(walk: &mut Walk, edit: &Value) -> Result<(), AllocError>
     requires { length (elements (view edit.now)) ≡ 3 }
-    ensures { OnOk result (Looked (view edit.now) walk.old walk.new) }
+    ensures { OnOk result (Looked (Want.Foreign Foreign.Edit, view edit.now) walk.old walk.new) }
 {
     let alloc = walk.alloc;
     let side = edit.item(alloc, 0)?;
@@ -196,7 +206,7 @@ fn look_at_third(walk: &mut Walk, edit: &Value) -> Result<(), AllocError>
 
 /// Looks at the parts of an edit: the side, what is done, and the row.
 pub(crate) fn look_at_edit(walk: &mut Walk, value: &Value) -> Result<(), AllocError>
-    ensures { OnOk result (Looked (view value.now) walk.old walk.new) }
+    ensures { OnOk result (Looked (Want.Foreign Foreign.Edit, view value.now) walk.old walk.new) }
 {
     let Some(count) = value.array_len()? else {
         return Ok(());

@@ -1,5 +1,9 @@
 //! What commands read, told apart by its members.
 
+ghost use Rattle.std.specs.Prelude.{◌≡◌};
+ghost use Rattle.pipe_value.specs.View.{view};
+ghost use Rattle.pipe_why_value.specs.Places.{has_member, kind_of};
+
 use pipe_value::Value;
 
 /// The kinds of inputs that commands read.
@@ -14,13 +18,17 @@ pub enum InputKind {
 }
 
 /// Whether a value has a member.
-fn has(value: &Value, name: &str) -> bool {
+fn has(value: &Value, name: &str) -> bool
+    ensures { result ≡ has_member name.now (view value.now) }
+{
     value.get(name).is_some()
 }
 
 impl InputKind {
     /// What a value is by its members: a job wherever it has a plan, or no member that a job hasn't.
-    pub fn of(value: &Value) -> InputKind {
+    pub fn of(value: &Value) -> InputKind
+        ensures { result ≡ kind_of (view value.now) }
+    {
         if has(value, "plan") {
             return InputKind::Job;
         }

@@ -1,12 +1,15 @@
 //! The walk through a value that should spell a job, or what another command reads, in the order of its text: the first
 //! place at which something else stands than may, and how many further ones there are.
 
-ghost use Rattle.std.specs.Prelude.{◌≡◌, ◌<◌, ◌≤◌, false, None, length, OnOk, string_bytes};
+ghost use Rattle.std.specs.Prelude.{◌≡◌, ◌<◌, ◌≤◌, ℕ, Some, None, length, OnOk, string_bytes};
+ghost use Rattle.serde_json.specs.Data.{Data};
+ghost use Rattle.serde_json.specs.Find.{get};
 ghost use Rattle.pipe_value.specs.Items.{elements};
 ghost use Rattle.pipe_value.specs.View.{view};
+ghost use Rattle.pipe_why_text.specs.declared.steps.Step.TheVariants as step;
+ghost use Rattle.pipe_why_wants.specs.Members.{item_wanted, members_in, members_of, type_of, want_in};
 ghost use Rattle.pipe_why_wants.specs.Wanted.{SpellsJob};
-ghost use Rattle.pipe_why_value.specs.Places.{is_known, last_name};
-ghost use Rattle.pipe_why_value.specs.Walks.{Looked};
+ghost use Rattle.pipe_why_value.specs.Walks.{IsWantBy, Looked, Within};
 
 use crate::edits::look_at_edit;
 use crate::table::look_at_table;
@@ -15,9 +18,7 @@ use crate::wrong::Wrong;
 use pipe_frame::DataType;
 use pipe_value::Value;
 use pipe_why_text::{Layout, Placed};
-use pipe_why_wants::{
-    Foreign, Member, Want, couple_wants, form, item_want, node_members, object_members,
-};
+use pipe_why_wants::{Foreign, Member, Want, couple_wants, form, item_want, members_of};
 use std::alloc::AllocError;
 
 /// What is wanted of a member of an object.
@@ -34,7 +35,7 @@ enum MemberWant {
 
 /// What is wanted of a member that is told so, beside the type that its object tells.
 fn want_beside(want: Want, dtype: Option<DataType>) -> MemberWant
-    ensures { result ≡ MemberWant.Unknown → ⊥ }
+    ensures { IsWantBy (Some want) dtype result }
 {
     match (want, dtype) {
         (Want::Cells(_), Some(dtype)) => MemberWant::Cells(dtype),
@@ -47,10 +48,11 @@ fn want_beside(want: Want, dtype: Option<DataType>) -> MemberWant
 
 /// What is wanted of a member of an object that may have these.
 fn member_want(known: &[Member], name: &str, parent: &Value) -> MemberWant
-    ensures { result ≡ MemberWant.Unknown → is_known known.now name.now ≡ false }
+    ensures { IsWantBy (want_in (members_in known.now) name.now)
+        (type_of (view parent.now)) result }
 {
     for (member, want) in known {
-        if *member == name {
+        if name == *member {
             return want_beside(*want, type_in(parent));
         }
     }
@@ -66,7 +68,7 @@ pub(crate) fn look_at(
     layout: Option<&Layout>,
     depth: usize,
 ) -> Result<(), AllocError>
-    ensures looked { OnOk result (Looked (view value.now) walk.old walk.new) }
+    ensures looked { OnOk result (Looked (want, view value.now) walk.old walk.new) }
     ensures job { OnOk result
         (walk.new.first ≡ None → want ≡ Want.Job → SpellsJob (view value.now)) }
 {
@@ -87,7 +89,7 @@ fn parts(
     layout: Option<&Layout>,
     depth: usize,
 ) -> Result<(), AllocError>
-    ensures { OnOk result (Looked (view value.now) walk.old walk.new) }
+    ensures { OnOk result (Looked (want, view value.now) walk.old walk.new) }
 {
     let Some(depth) = depth.checked_sub(1) else {
         return Ok(());
@@ -100,11 +102,10 @@ fn parts(
 }
 
 /// The members that an object may have, and has to have.
-fn known_members(want: Want, value: &Value) -> &'static [Member] {
-    match want {
-        Want::Node => node_members(word_in(value, "node")),
-        _ => object_members(want),
-    }
+fn known_members(want: Want, value: &Value) -> &'static [Member]
+    ensures { members_in result.now ≡ members_of want (view value.now) }
+{
+    members_of(want, word_in(value, "node"))
 }
 
 /// Looks at the members of an object.
@@ -116,17 +117,31 @@ fn object(
     layout: Option<&Layout>,
     depth: usize,
 ) -> Result<(), AllocError>
-    ensures { OnOk result (Looked (view value.now) walk.old walk.new) }
+    ensures { OnOk result (Looked (want, view value.now) walk.old walk.new) }
 {
-    if want == Want::Expr {
-        return expr(walk, value, layout, depth);
+    match want {
+        Want::Expr => expr(walk, value, layout, depth),
+        _ => known_object(walk, want, value, layout, depth),
     }
+}
+
+/// Looks at the members of an object that isn't an expression.
+#[cycle(walk)]
+fn known_object(
+    walk: &mut Walk,
+    want: Want,
+    value: &Value,
+    layout: Option<&Layout>,
+    depth: usize,
+) -> Result<(), AllocError>
+    ensures { OnOk result (Looked (want, view value.now) walk.old walk.new) }
+{
     let before = walk.found;
     members(walk, known_members(want, value), value, layout, depth)?;
-    if want == Want::Frame && walk.found == before {
-        return look_at_table(walk, value);
+    match want {
+        Want::Frame if walk.found == before => look_at_table(walk, value),
+        _ => Ok(()),
     }
-    Ok(())
 }
 
 /// Looks at the members of an object, which may have these, and has to have each.
@@ -138,7 +153,8 @@ fn members(
     layout: Option<&Layout>,
     depth: usize,
 ) -> Result<(), AllocError>
-    ensures { OnOk result (Looked (view value.now) walk.old walk.new) }
+    ensures { OnOk result ((w : Want) → members_in known.now ≡ members_of w (view value.now)
+        → Looked (w, view value.now) walk.old walk.new) }
 {
     if known.is_empty() {
         return Ok(());
@@ -156,7 +172,8 @@ fn placed_members(
     layout: Option<&Layout>,
     depth: usize,
 ) -> Result<(), AllocError>
-    ensures { OnOk result (Looked (view value.now) walk.old walk.new) }
+    ensures { OnOk result ((w : Want) → members_in known.now ≡ members_of w (view value.now)
+        → Looked (w, view value.now) walk.old walk.new) }
 {
     let Some(layout) = layout else {
         return Ok(());
@@ -176,7 +193,8 @@ fn member(
     parent: &Value,
     depth: usize,
 ) -> Result<(), AllocError>
-    ensures { OnOk result (Looked (view parent.now) walk.old walk.new) }
+    ensures { OnOk result ((w : Want) → members_in known.now ≡ members_of w (view parent.now)
+        → Looked (w, view parent.now) walk.old walk.new) }
 {
     let Some(value) = parent.get(placed.name.as_str()) else {
         return Ok(());
@@ -200,8 +218,10 @@ fn member_value(
     value: &Value,
     depth: usize,
 ) -> Result<(), AllocError>
-    ensures { OnOk result (last_name walk.old.steps.items ≡ string_bytes placed.now.name
-        → Looked (view value.now) walk.old walk.new) }
+    ensures { OnOk result ((w : Want) → members_in known.now ≡ members_of w (view parent.now)
+        → get (string_bytes placed.now.name) (view parent.now) ≡ Some (view value.now)
+        → Within (w, view parent.now) (step.Member (string_bytes placed.now.name))
+        walk.old walk.new) }
 {
     match member_want(known, placed.name.as_str(), parent) {
         MemberWant::Cells(dtype) => walk.cells(dtype, parent, value),
@@ -236,7 +256,7 @@ fn form_member(
     layout: Option<&Layout>,
     depth: usize,
 ) -> Result<(), AllocError>
-    ensures { OnOk result (Looked (view value.now) walk.old walk.new) }
+    ensures { OnOk result (Looked (Want.Expr, view value.now) walk.old walk.new) }
 {
     let Some(inner) = value.get(name) else {
         return Ok(());
@@ -256,8 +276,8 @@ fn form_value(
     layout: Option<&Layout>,
     depth: usize,
 ) -> Result<(), AllocError>
-    ensures { OnOk result (last_name walk.old.steps.items ≡ name.now
-        → Looked (view value.now) walk.old walk.new) }
+    ensures { OnOk result ((d : Data) → get name.now d ≡ Some (view value.now)
+        → Within (Want.Expr, d) (step.Member name.now) walk.old walk.new) }
 {
     match form(name) {
         Some(want) => look_at(walk, want, value, layout, depth),
@@ -273,7 +293,7 @@ fn expr(
     layout: Option<&Layout>,
     depth: usize,
 ) -> Result<(), AllocError>
-    ensures { OnOk result (Looked (view value.now) walk.old walk.new) }
+    ensures { OnOk result (Looked (Want.Expr, view value.now) walk.old walk.new) }
 {
     let Value::Object(members) = value else {
         return Ok(());
@@ -296,11 +316,25 @@ fn array(
     layout: Option<&Layout>,
     depth: usize,
 ) -> Result<(), AllocError>
-    ensures { OnOk result (Looked (view value.now) walk.old walk.new) }
+    ensures { OnOk result (Looked (want, view value.now) walk.old walk.new) }
 {
-    if want == Want::Foreign(Foreign::Edit) {
-        return look_at_edit(walk, value);
+    match want {
+        Want::Foreign(Foreign::Edit) => look_at_edit(walk, value),
+        _ => array_items(walk, want, value, layout, depth),
     }
+}
+
+/// Looks at the items of an array that isn't an edit.
+#[cycle(walk)]
+fn array_items(
+    walk: &mut Walk,
+    want: Want,
+    value: &Value,
+    layout: Option<&Layout>,
+    depth: usize,
+) -> Result<(), AllocError>
+    ensures { OnOk result (Looked (want, view value.now) walk.old walk.new) }
+{
     let Some(count) = value.array_len()? else {
         return Ok(());
     };
@@ -309,13 +343,13 @@ fn array(
             item(walk, first, value, 0, layout, depth)?;
             return item(walk, second, value, 1, layout, depth);
         }
-        if want == Want::Foreign(Foreign::TwoFrames) {
-            return walk.note(Wrong::Frames(count));
-        }
-        return Ok(());
+        return match want {
+            Want::Foreign(Foreign::TwoFrames) => walk.note(Wrong::Frames(count)),
+            _ => Ok(()),
+        };
     }
     match item_want(want) {
-        Some(want) => items(walk, want, value, count, layout, depth),
+        Some(item) => items(walk, item, value, count, layout, depth),
         None => Ok(()),
     }
 }
@@ -331,7 +365,8 @@ fn items(
     depth: usize,
 ) -> Result<(), AllocError>
     requires { count ≤ length (elements (view value.now)) }
-    ensures { OnOk result (Looked (view value.now) walk.old walk.new) }
+    ensures { OnOk result ((w : Want) → ((i : ℕ) → item_wanted w i ≡ Some want)
+        → Looked (w, view value.now) walk.old walk.new) }
 {
     for i in 0..count {
         item(walk, want, value, i, layout, depth)?;
@@ -358,7 +393,8 @@ fn item(
     depth: usize,
 ) -> Result<(), AllocError>
     requires { i < length (elements (view value.now)) }
-    ensures { OnOk result (Looked (view value.now) walk.old walk.new) }
+    ensures { OnOk result ((w : Want) → item_wanted w i ≡ Some want
+        → Looked (w, view value.now) walk.old walk.new) }
 {
     let found = value.item(walk.alloc, i)?;
     walk.enter_item(i)?;

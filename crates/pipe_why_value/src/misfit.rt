@@ -1,9 +1,9 @@
 //! The first place of a value that isn't what a command reads, and what is told of it.
 
-ghost use Rattle.std.specs.Prelude.{◌≡◌, None, IfOk, IfSome};
+ghost use Rattle.std.specs.Prelude.{◌≡◌, ◌↔◌, None, true, false, IfOk, IfSome};
 ghost use Rattle.pipe_value.specs.View.{view};
-ghost use Rattle.pipe_why_wants.specs.Wanted.{SpellsJob};
-ghost use Rattle.pipe_why_value.specs.Places.{IsTold};
+ghost use Rattle.pipe_why_wants.specs.Wanted.{Misspells, SpellsJob};
+ghost use Rattle.pipe_why_value.specs.Places.{IsTold, whole_want};
 
 use crate::edits::Tables;
 use crate::input_kind::InputKind;
@@ -13,7 +13,7 @@ use crate::walk::Walk;
 use crate::wrong::{Misfit, Misfits, Wrong};
 use pipe_value::Value;
 use pipe_why_text::layout_of;
-use pipe_why_wants::{Foreign, Want};
+use pipe_why_wants::{Foreign, Want, is_spelled};
 use std::alloc::{AllocError, Global};
 
 /// Deeper than any value that was read.
@@ -29,7 +29,7 @@ fn is_wide(value: &Value) -> bool {
 
 /// What the whole of an input should be.
 fn whole_of(kind: InputKind) -> Want
-    ensures { kind ≡ InputKind.Job → result ≡ Want.Job }
+    ensures { result ≡ whole_want kind }
 {
     match kind {
         InputKind::Job => Want::Job,
@@ -46,6 +46,18 @@ fn tables_of(alloc: Global, value: &Value, kind: InputKind) -> Result<Tables, Al
     }
 }
 
+/// Whether a value that should be a job is one.
+fn is_good_job(alloc: Global, value: &Value, kind: InputKind) -> Result<bool, AllocError>
+    ensures no { IfOk result (λ holds.
+        holds ≡ false → kind ≡ InputKind.Job → Misspells Want.Job (view value.now)) }
+    ensures yes { IfOk result (λ holds. holds ≡ true → SpellsJob (view value.now)) }
+{
+    match kind {
+        InputKind::Job => is_spelled(alloc, Want::Job, value),
+        InputKind::Reconciliation | InputKind::Edits => Ok(false),
+    }
+}
+
 /// The places of the value of a text at which something else stands than may in an input of a kind.
 pub fn misfits_of(
     alloc: Global,
@@ -53,10 +65,17 @@ pub fn misfits_of(
     value: &Value,
     kind: InputKind,
 ) -> Result<Misfits, AllocError>
-    ensures told { IfOk result (λ misfits. IfSome misfits.first (IsTold (view value.now))) }
+    ensures told { IfOk result
+        (λ misfits. IfSome misfits.first (IsTold (whole_want kind, view value.now))) }
     ensures none { IfOk result (λ misfits.
-        misfits.first ≡ None → kind ≡ InputKind.Job → SpellsJob (view value.now)) }
+        kind ≡ InputKind.Job → ((misfits.first ≡ None) ↔ SpellsJob (view value.now))) }
 {
+    if is_good_job(alloc, value, kind)? {
+        return Ok(Misfits {
+            first: None,
+            found: 0,
+        });
+    }
     let layout = layout_of(alloc, text)?;
     let tables = tables_of(alloc, value, kind)?;
     let mut walk = Walk::new(alloc, is_wide(value), tables);

@@ -1,13 +1,14 @@
 //! The names and the heights of a frame's columns, each of which is a good one.
 
-ghost use Rattle.std.specs.Prelude.{◌≡◌, ◌<◌, ◌≤◌, IfOk, OnOk, length};
+ghost use Rattle.std.specs.Prelude.{◌≡◌, ◌+◌, ◌<◌, ◌≤◌, IfOk, OnOk, length};
 ghost use Rattle.pipe_value.specs.Items.{elements};
 ghost use Rattle.pipe_value.specs.View.{view};
-ghost use Rattle.pipe_why_value.specs.Walks.{Looked};
+ghost use Rattle.pipe_why_value.specs.Walks.{AreNames, Looked};
 
-use crate::walk::Walk;
+use crate::walk::{Walk, text_of};
 use crate::wrong::Wrong;
 use pipe_value::Value;
+use pipe_why_wants::Want;
 use std::alloc::{AllocError, Global};
 use std::collections::BTreeMap;
 
@@ -64,7 +65,7 @@ fn look_at_height(
     wanted: usize,
 ) -> Result<(), AllocError>
     requires { i < length (elements (view columns.now)) }
-    ensures { OnOk result (Looked (view columns.now) walk.old walk.new) }
+    ensures { OnOk result (Looked (Want.Columns, view columns.now) walk.old walk.new) }
 {
     let column = columns.item(walk.alloc, i)?;
     let Some(values) = column.value().get("values") else {
@@ -80,7 +81,7 @@ fn look_at_height(
 /// Looks whether each of so many columns has as many cells as it should.
 fn look_at_heights(walk: &mut Walk, columns: &Value, count: usize) -> Result<(), AllocError>
     requires { count ≤ length (elements (view columns.now)) }
-    ensures { OnOk result (Looked (view columns.now) walk.old walk.new) }
+    ensures { OnOk result (Looked (Want.Columns, view columns.now) walk.old walk.new) }
 {
     let wanted = wanted_height(walk.alloc, columns, count)?;
     for i in 0..count {
@@ -96,15 +97,17 @@ fn look_at_name(
     columns: &Value,
     i: usize,
 ) -> Result<(), AllocError>
-    requires { i < length (elements (view columns.now)) }
-    ensures { OnOk result (Looked (view columns.now) walk.old walk.new) }
+    requires place { i < length (elements (view columns.now)) }
+    requires names { AreNames (view columns.now) i names.old }
+    ensures looked { OnOk result (Looked (Want.Columns, view columns.now) walk.old walk.new) }
+    ensures names { OnOk result (AreNames (view columns.now) (i + 1) names.new) }
 {
     let alloc = walk.alloc;
     let column = columns.item(alloc, i)?;
     let Some(name) = column.value().get("name") else {
         return Ok(());
     };
-    let name = String::from_str(alloc, name.as_str().unwrap_or(""))?;
+    let name = String::from_str(alloc, text_of(name))?;
     match names.insert(name, i)? {
         Some(earlier) => walk.note_at(i, "name", Wrong::SecondName(earlier)),
         None => Ok(()),
@@ -114,7 +117,7 @@ fn look_at_name(
 /// Looks whether each of so many columns has a name that no earlier one has.
 fn look_at_names(walk: &mut Walk, columns: &Value, count: usize) -> Result<(), AllocError>
     requires { count ≤ length (elements (view columns.now)) }
-    ensures { OnOk result (Looked (view columns.now) walk.old walk.new) }
+    ensures { OnOk result (Looked (Want.Columns, view columns.now) walk.old walk.new) }
 {
     let mut names = BTreeMap::new(walk.alloc);
     for i in 0..count {
@@ -126,7 +129,7 @@ fn look_at_names(walk: &mut Walk, columns: &Value, count: usize) -> Result<(), A
 /// Looks whether there is a column.
 fn look_at_count(walk: &mut Walk, columns: &Value, count: usize) -> Result<(), AllocError>
     requires { count ≡ length (elements (view columns.now)) }
-    ensures { OnOk result (Looked (view columns.now) walk.old walk.new) }
+    ensures { OnOk result (Looked (Want.Columns, view columns.now) walk.old walk.new) }
 {
     if count == 0 {
         walk.note(Wrong::NoColumns)
@@ -137,7 +140,7 @@ fn look_at_count(walk: &mut Walk, columns: &Value, count: usize) -> Result<(), A
 
 /// Looks at the columns of a frame, each of which is a good one.
 pub(crate) fn look_at_table(walk: &mut Walk, value: &Value) -> Result<(), AllocError>
-    ensures { OnOk result (Looked (view value.now) walk.old walk.new) }
+    ensures { OnOk result (Looked (Want.Frame, view value.now) walk.old walk.new) }
 {
     let Some(columns) = value.get("columns") else {
         return Ok(());

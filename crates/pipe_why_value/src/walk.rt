@@ -1,12 +1,14 @@
 //! The state of a walk through a value: where it stands, and what it has found.
 
-ghost use Rattle.std.specs.Prelude.{◌≡◌, List, [], Some, None, true, IsSome, OnOk, codes, string_bytes};
+ghost use Rattle.std.specs.Prelude.{◌≡◌, ◌++◌, ◌∷◌, List, [], Some, None, true, IsSome, OnOk, codes, string_bytes};
 ghost use Rattle.serde_json.specs.Data.{Data, string};
 ghost use Rattle.serde_json.specs.Find.{at, get};
 ghost use Rattle.pipe_value.specs.View.{view};
+ghost use Rattle.pipe_job.specs.Shape.{text_in};
+ghost use Rattle.pipe_why_wants.specs.Members.{HasMember, members_in, members_of, plain, type_of};
 ghost use Rattle.pipe_why_wants.specs.Wanted.{SpellsJob};
-ghost use Rattle.pipe_why_value.specs.Places.{IsWrong};
-ghost use Rattle.pipe_why_value.specs.Walks.{Entered, Left, Looked};
+ghost use Rattle.pipe_why_value.specs.Places.{IsOwn, IsWrong, wanted_at};
+ghost use Rattle.pipe_why_value.specs.Walks.{Entered, Left, Looked, Noted};
 
 use crate::cells::{BadCells, bad_cells};
 use crate::edits::Tables;
@@ -34,16 +36,30 @@ pub(crate) struct Walk {
     pub(crate) found: usize,
 }
 
+/// The text that a value is, the empty one where it is none.
+pub(crate) fn text_of(value: &Value) -> &str
+    ensures { result.now ≡ text_in (Some (view value.now)) }
+{
+    match value.as_str() {
+        Some(text) => text,
+        None => "",
+    }
+}
+
 /// The text that the member of a name is, the empty one where it is none.
-pub(crate) fn word_in<'v>(value: &'v Value, name: &str) -> &'v str {
+pub(crate) fn word_in<'v>(value: &'v Value, name: &str) -> &'v str
+    ensures { result.now ≡ text_in (get name.now (view value.now)) }
+{
     match value.get(name) {
-        Some(Value::String(text)) => text.as_str(),
-        _ => "",
+        Some(member) => text_of(member),
+        None => "",
     }
 }
 
 /// The type that a column or a literal has.
-pub(crate) fn type_in(value: &Value) -> Option<DataType> {
+pub(crate) fn type_in(value: &Value) -> Option<DataType>
+    ensures { result ≡ type_of (view value.now) }
+{
     type_named(word_in(value, "type"))
 }
 
@@ -91,8 +107,7 @@ impl Walk {
 
     /// Takes note of something wrong where the walk is.
     pub(crate) fn note(&mut self, wrong: Wrong) -> Result<(), AllocError>
-        ensures looked { OnOk result ((d : Data) →
-            IsWrong wrong self.old.steps.items d → Looked d self.old self.new) }
+        ensures noted { OnOk result (Noted wrong self.old self.new) }
         ensures some { OnOk result (IsSome self.new.first) }
     {
         self.found = self.found.saturating_add(1);
@@ -134,14 +149,18 @@ impl Walk {
 
     /// Whether a value is a type that the version doesn't have.
     fn is_too_wide(&self, want: Want, value: &Value) -> bool
-        ensures { result ≡ true → view value.now ≡ string (codes "Int128") }
+        ensures want { result ≡ true → want ≡ Want.Type }
+        ensures value { result ≡ true → view value.now ≡ string (codes "Int128") }
     {
-        want == Want::Type && !self.is_wide && value.as_str() == Some("Int128")
+        match want {
+            Want::Type => !self.is_wide && value.as_str() == Some("Int128"),
+            _ => false,
+        }
     }
 
     /// Takes note of a value that doesn't spell what is wanted, of whose parts nothing was noted.
     pub(crate) fn judge(&mut self, want: Want, value: &Value) -> Result<(), AllocError>
-        ensures looked { OnOk result (Looked (view value.now) self.old self.new) }
+        ensures looked { OnOk result (Looked (want, view value.now) self.old self.new) }
         ensures job { OnOk result
             (self.new.first ≡ None → want ≡ Want.Job → SpellsJob (view value.now)) }
     {
@@ -176,8 +195,10 @@ impl Walk {
 
     /// Takes note of something wrong with an item.
     pub(crate) fn note_item(&mut self, i: usize, wrong: Wrong) -> Result<(), AllocError>
-        ensures { OnOk result ((d e : Data) → at i d ≡ Some e
-            → ((steps : List Step) → IsWrong wrong steps e) → Looked d self.old self.new) }
+        ensures { OnOk result ((p : Want × Data) (e : Data) → at i p.1 ≡ Some e
+            → ((steps : List Step) → IsWrong wrong steps e)
+            → ((root : Want × Data) (above : List Step) → wanted_at above root ≡ Some p
+            → IsOwn root wrong (above ++ Step.Item i ∷ [])) → Looked p self.old self.new) }
     {
         self.enter_item(i)?;
         self.note(wrong)?;
@@ -187,8 +208,12 @@ impl Walk {
 
     /// Takes note of something wrong with a member of an item.
     pub(crate) fn note_at(&mut self, i: usize, name: &str, wrong: Wrong) -> Result<(), AllocError>
-        ensures { OnOk result ((d e f : Data) → at i d ≡ Some e → get name.now e ≡ Some f
-            → ((steps : List Step) → IsWrong wrong steps f) → Looked d self.old self.new) }
+        ensures { OnOk result ((p : Want × Data) (e f : Data)
+            → at i p.1 ≡ Some e → get name.now e ≡ Some f
+            → ((steps : List Step) → IsWrong wrong steps f)
+            → ((root : Want × Data) (above : List Step) → wanted_at above root ≡ Some p
+            → IsOwn root wrong (above ++ Step.Item i ∷ Step.Member name.now ∷ []))
+            → Looked p self.old self.new) }
     {
         self.enter_item(i)?;
         self.enter(name)?;
@@ -199,17 +224,14 @@ impl Walk {
     }
 
     /// Looks for a member that an object should have.
-    fn missing_member(
-        &mut self,
-        name: &'static str,
-        want: Want,
-        value: &Value,
-    ) -> Result<(), AllocError>
-        ensures { OnOk result (Looked (view value.now) self.old self.new) }
+    fn missing_member(&mut self, member: &Member, value: &Value) -> Result<(), AllocError>
+        ensures { OnOk result ((w : Want)
+            → HasMember (members_of w (view value.now)) (plain member.now)
+            → Looked (w, view value.now) self.old self.new) }
     {
-        match value.get(name) {
+        match value.get(member.0) {
             Some(_) => Ok(()),
-            None => self.note(Wrong::Missing(name, want)),
+            None => self.note(Wrong::Missing(member.0, member.1)),
         }
     }
 
@@ -219,10 +241,11 @@ impl Walk {
         known: &'static [Member],
         value: &Value,
     ) -> Result<(), AllocError>
-        ensures { OnOk result (Looked (view value.now) self.old self.new) }
+        ensures { OnOk result ((w : Want) → members_in known.now ≡ members_of w (view value.now)
+            → Looked (w, view value.now) self.old self.new) }
     {
-        for (name, want) in known {
-            self.missing_member(name, *want, value)?;
+        for member in known {
+            self.missing_member(member, value)?;
         }
         Ok(())
     }
@@ -234,7 +257,7 @@ impl Walk {
         parent: &Value,
         value: &Value,
     ) -> Result<(), AllocError>
-        ensures { OnOk result (Looked (view value.now) self.old self.new) }
+        ensures { OnOk result (Looked (Want.Cells dtype, view value.now) self.old self.new) }
     {
         let alloc = self.alloc;
         let Some(count) = value.array_len()? else {

@@ -11,6 +11,5 @@ pub use expected::push_expected;
 pub use hints::{push_hint, push_nearest};
 pub use spelled::{is_cell, is_spelled};
 pub use want::{
-    FORMS, Foreign, Member, TYPES, Want, couple_wants, form, item_want, node_members,
-    object_members, type_named,
+    FORMS, Foreign, Member, TYPES, Want, couple_wants, form, item_want, members_of, type_named,
 };

@@ -1,7 +1,9 @@
 //! What may stand at a place of a job, or of what another command reads: one of these for each part of its spelling.
 
-ghost use Rattle.std.specs.Prelude.{◌≡◌, false, IfNone};
-ghost use Rattle.pipe_job.specs.Shape.{contains_text};
+ghost use Rattle.std.specs.Prelude.{◌≡◌, Option, Some, false, IfNone, IfSome};
+ghost use Rattle.pipe_job.specs.Shape.{contains_text, type_named};
+ghost use Rattle.pipe_why_wants.specs.Members.{beside, couple_items, form_table, list_item, members_in, node_table, object_table, table_of, want_in};
+ghost use Rattle.pipe_frame.specs.declared.data_type.DataType.{DataType};
 ghost use Rattle.pipe_why_wants.specs.Wanted.{form_words};
 
 use pipe_frame::DataType;
@@ -140,6 +142,26 @@ const JOB: &[Member] = &[
     ("root", Want::Whole32),
 ];
 
+/// The one member of an expression.
+const FORM: &[Member] = &[
+    ("col", Want::Text),
+    ("lit", Want::Literal),
+    ("not", Want::Expr),
+    ("is_null", Want::Expr),
+    ("is_not_null", Want::Expr),
+    ("add", Want::Sides),
+    ("sub", Want::Sides),
+    ("mul", Want::Sides),
+    ("eq", Want::Sides),
+    ("not_eq", Want::Sides),
+    ("lt", Want::Sides),
+    ("lt_eq", Want::Sides),
+    ("gt", Want::Sides),
+    ("gt_eq", Want::Sides),
+    ("and", Want::Sides),
+    ("or", Want::Sides),
+];
+
 const RECONCILIATION: &[Member] = &[
     ("version", Want::Version),
     ("workers", Want::Whole32),
@@ -251,7 +273,9 @@ const SORT: &[Member] = &[
 ];
 
 /// The members of a node of this kind, the word of the kind alone where it is none.
-pub fn node_members(kind: &str) -> &'static [Member] {
+fn node_members(kind: &str) -> &'static [Member]
+    ensures { members_in result.now ≡ node_table kind.now }
+{
     match kind {
         "DataFrameScan" => SCAN,
         "Filter" => FILTER,
@@ -267,8 +291,10 @@ pub fn node_members(kind: &str) -> &'static [Member] {
     }
 }
 
-/// The members of an object that isn't a node or an expression, none of what is no object.
-pub fn object_members(want: Want) -> &'static [Member] {
+/// The members of an object that is no node and no expression, none of what is no object.
+fn object_members(want: Want) -> &'static [Member]
+    ensures { members_in result.now ≡ object_table want }
+{
     match want {
         Want::Job => JOB,
         Want::Foreign(Foreign::Reconciliation) => RECONCILIATION,
@@ -283,9 +309,22 @@ pub fn object_members(want: Want) -> &'static [Member] {
     }
 }
 
+/// The members that an object may have of which something is wanted, by the word of its kind where it is a node.
+pub fn members_of(want: Want, kind: &str) -> &'static [Member]
+    ensures { members_in result.now ≡ table_of want kind.now }
+{
+    match want {
+        Want::Node => node_members(kind),
+        Want::Expr => FORM,
+        _ => object_members(want),
+    }
+}
+
 /// What an expression's one member of this name may be.
 pub fn form(name: &str) -> Option<Want>
-    ensures { IfNone result (contains_text form_words name.now ≡ false) }
+    ensures want { result ≡ want_in form_table name.now }
+    ensures beside { IfSome result (λ want. (t : Option DataType) → beside t want ≡ Some want) }
+    ensures none { IfNone result (contains_text form_words name.now ≡ false) }
 {
     match name {
         "col" => Some(Want::Text),
@@ -309,7 +348,9 @@ pub fn form(name: &str) -> Option<Want>
 }
 
 /// What each item of a list may be, none of what is no list.
-pub fn item_want(want: Want) -> Option<Want> {
+pub fn item_want(want: Want) -> Option<Want>
+    ensures { result ≡ list_item want }
+{
     match want {
         Want::Frames => Some(Want::Frame),
         Want::Columns => Some(Want::Column),
@@ -327,7 +368,9 @@ pub fn item_want(want: Want) -> Option<Want> {
 }
 
 /// What the two items of an array of two may be, none of what is no such array.
-pub fn couple_wants(want: Want) -> Option<(Want, Want)> {
+pub fn couple_wants(want: Want) -> Option<(Want, Want)>
+    ensures { result ≡ couple_items want }
+{
     match want {
         Want::Sides => Some((Want::Expr, Want::Expr)),
         Want::Foreign(Foreign::TwoFrames) => Some((Want::Frame, Want::Frame)),
@@ -338,7 +381,9 @@ pub fn couple_wants(want: Want) -> Option<(Want, Want)> {
 }
 
 /// The type of a word.
-pub fn type_named(word: &str) -> Option<DataType> {
+pub fn type_named(word: &str) -> Option<DataType>
+    ensures { result ≡ type_named word.now }
+{
     match word {
         "Int32" => Some(DataType::Int32),
         "Int64" => Some(DataType::Int64),

@@ -1,5 +1,7 @@
-use Rattle.std.proofs.Common.{◌≡◌, ◌<◌, ◌++◌, ◌∷◌, [], refl, sym, ap, ◌∙◌, subst, arith, Option, Some, ℕ}
+use Rattle.std.proofs.Common.{refl, subst, inr}
 use Rattle.pipe_value.specs.View.{view}
+use Rattle.pipe_why_wants.specs.declared.want.Want.TheVariants as want
+use Rattle.pipe_why_wants.specs.declared.want.Foreign.TheVariants as foreign
 use Rattle.std.specs.Prelude.{IfSome, slice_index_or}
 use Rattle.serde_json.specs.Data.{null}
 use Rattle.pipe_value.specs.Items.{elements}
@@ -10,5 +12,9 @@ use Rattle.pipe_why_value.proofs.edits.look_at_cells.Goals as goal
 pub returns : goal.returns
 returns c =
     let d = view c.args.row.now in
+    let place = c.in-Some.place in
     let bad = subst (λ f. IfSome f (IsBadPair d)) c.in-Some.is c.in_ok-place.ensures in
-    on_ok c.note_item.result (λ looked. looked d (slice_index_or (elements d) c.in-Some.place null) (item_there d c.in-Some.place bad.0) (λ steps. bad.1)) c.note_item.ensures
+    on_ok c.note_item.result
+    (λ looked. looked (want.Foreign foreign.Row, d) (slice_index_or (elements d) place null) (item_there d place bad.0) (λ steps. bad.1)
+    (λ root above here. record { above = above; place = place; steps_are = refl; stands = inr (d, here) }))
+    c.note_item.ensures

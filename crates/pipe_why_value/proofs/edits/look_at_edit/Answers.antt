@@ -1,12 +1,27 @@
-use Rattle.std.proofs.Common.{◌≡◌, ◌<◌, ◌++◌, ◌∷◌, [], refl, sym, ap, ◌∙◌, subst, arith, Option, Some, ℕ}
+use Rattle.std.proofs.Common.{◌≡◌, refl, sym, subst, None}
+use Rattle.serde_json.specs.Data.{Data}
 use Rattle.pipe_value.specs.View.{view}
-use Rattle.pipe_why_value.proofs.Looks.{looked_twice, on_ok}
+use Rattle.pipe_why_wants.specs.declared.want.Want.{Want}
+use Rattle.pipe_why_wants.specs.declared.want.Want.TheVariants as want
+use Rattle.pipe_why_wants.specs.declared.want.Foreign.TheVariants as foreign
+use Rattle.std.specs.Prelude.{MatchOption}
+use Rattle.serde_json.specs.Find.{as_array}
+use Rattle.pipe_value.specs.Items.{IsArrayOf}
+use Rattle.pipe_why_value.proofs.Looks.{looked_twice, noted_here, on_ok}
 use Rattle.pipe_why_value.proofs.edits.look_at_edit.Goals as goal
 
 pub returns : goal.returns
 returns c =
-    let d = view c.args.value.now in
+    let p : Want × Data = (want.Foreign foreign.Edit, view c.args.value.now) in
     on_ok c.look_at_third.result
-    (looked_twice d c.args.walk.now c.look_at_word-2.new.walk c.look_at_third.new.walk
-    (looked_twice d c.args.walk.now c.look_at_word.new.walk c.look_at_word-2.new.walk c.in_ok-look_at_word.ensures c.in_ok-look_at_word-2.ensures))
+    (looked_twice p c.args.walk.now c.look_at_word-2.new.walk c.look_at_third.new.walk
+    (looked_twice p c.args.walk.now c.look_at_word.new.walk c.look_at_word-2.new.walk (c.in_ok-look_at_word.ensures refl) (c.in_ok-look_at_word-2.ensures refl)))
     c.look_at_third.ensures
+
+pub returns-then-count-ne3 : goal.returns-then-count-ne3
+returns-then-count-ne3 c =
+    let d = view c.args.value.now in
+    let is : IsArrayOf d c.in-Some.count = subst (λ f. MatchOption f (as_array d ≡ None) (IsArrayOf d)) c.in-Some.is c.in_ok-count.ensures in
+    on_ok c.note.result
+    (λ noted. noted_here (want.Foreign foreign.Edit, d) _ c.args.walk.now c.note.new.self noted (sym is.counted, c.if-count-ne3.true) (λ root here. (d, here)))
+    c.note.ensures.noted

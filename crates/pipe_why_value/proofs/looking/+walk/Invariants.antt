@@ -1,5 +1,8 @@
-use Rattle.std.proofs.Common.{◌+◌, ◌*◌}
+use Rattle.std.proofs.Common.{◌≡◌, ◌+◌, ◌*◌, ℕ, Some}
 use Rattle.pipe_value.specs.View.{view}
+use Rattle.pipe_why_wants.specs.Members.{item_wanted, members_in, members_of}
+use Rattle.pipe_why_wants.specs.declared.want.Want.{Want}
+use Rattle.pipe_why_wants.specs.declared.want.Want.TheVariants as want
 use Rattle.pipe_why_value.specs.Walks.{Looked}
 use Rattle.pipe_why_value.proofs.looking.+walk.Given as goal
 
@@ -10,10 +13,16 @@ abbrev pub decreases-parts : goal.decreases-parts
 decreases-parts l = 20 * l.depth + 1
 
 abbrev pub decreases-object : goal.decreases-object
-decreases-object l = 20 * l.depth + 15
+decreases-object l = 20 * l.depth + 16
 
 abbrev pub decreases-array : goal.decreases-array
-decreases-array l = 20 * l.depth + 15
+decreases-array l = 20 * l.depth + 16
+
+abbrev pub decreases-known_object : goal.decreases-known_object
+decreases-known_object l = 20 * l.depth + 15
+
+abbrev pub decreases-array_items : goal.decreases-array_items
+decreases-array_items l = 20 * l.depth + 15
 
 abbrev pub decreases-members : goal.decreases-members
 decreases-members l = 20 * l.depth + 14
@@ -43,10 +52,10 @@ abbrev pub decreases-member_value : goal.decreases-member_value
 decreases-member_value l = 20 * l.depth + 11
 
 abbrev pub invariant-items-loop-i : goal.invariant-items-loop-i
-invariant-items-loop-i l = Looked (view l.value) l.fn.walk l.walk
+invariant-items-loop-i l = (w : Want) → ((i : ℕ) → item_wanted w i ≡ Some l.want) → Looked (w, view l.value) l.fn.walk l.walk
 
 abbrev pub invariant-placed_members-loop-placed : goal.invariant-placed_members-loop-placed
-invariant-placed_members-loop-placed l = Looked (view l.value) l.fn.walk l.walk
+invariant-placed_members-loop-placed l = (w : Want) → members_in l.known ≡ members_of w (view l.value) → Looked (w, view l.value) l.fn.walk l.walk
 
 abbrev pub invariant-expr-loop-name : goal.invariant-expr-loop-name
-invariant-expr-loop-name l = Looked (view l.value) l.fn.walk l.walk
+invariant-expr-loop-name l = Looked (want.Expr, view l.value) l.fn.walk l.walk

@@ -1,6 +1,7 @@
 use Rattle.pipe_value.specs.View.{view}
+use Rattle.pipe_why_wants.specs.declared.want.Want.TheVariants as want
 use Rattle.pipe_why_value.specs.Walks.{Looked}
 use Rattle.pipe_why_value.proofs.table.look_at_heights.Given as goal
 
 abbrev pub invariant-loop-i : goal.invariant-loop-i
-invariant-loop-i l = Looked (view l.columns) l.fn.walk l.walk
+invariant-loop-i l = Looked (want.Columns, view l.columns) l.fn.walk l.walk

@@ -1,4 +1,4 @@
-use Rattle.std.proofs.Common.{◌≡◌, ◌<◌, ◌++◌, ◌∷◌, [], refl, sym, ap, ◌∙◌, subst, arith, Option, Some, ℕ}
+use Rattle.std.proofs.Common.{sym, subst}
 use Rattle.pipe_value.specs.View.{view}
 use Rattle.std.specs.Prelude.{IfSome}
 use Rattle.pipe_why_value.specs.Places.{IsBadCell}

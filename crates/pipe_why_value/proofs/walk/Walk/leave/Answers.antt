@@ -1,4 +1,4 @@
-use Rattle.std.proofs.Common.{◌≡◌, ◌<◌, ◌++◌, ◌∷◌, [], refl, sym, ap, ◌∙◌, subst, arith, Option, Some, ℕ, take, length, ◌-◌}
+use Rattle.std.proofs.Common.{refl, ap, ◌∙◌, take, length, ◌-◌}
 use Rattle.pipe_why_value.proofs.Looks.{left_steps}
 use Rattle.pipe_why_value.proofs.walk.Walk.leave.Goals as goal
 

@@ -1,10 +1,12 @@
-use Rattle.std.proofs.Common.{◌≡◌, ◌++◌, ◌∷◌, [], refl, sym, ap, ◌∙◌, subst, arith}
+use Rattle.std.proofs.Common.{refl}
 use Rattle.pipe_value.specs.View.{view}
-use Rattle.pipe_why_value.proofs.Looks.{looked_none, looked_twice}
+use Rattle.pipe_why_value.proofs.Looks.{looked_none, looked_twice, member_by_slice, member_there}
 use Rattle.pipe_why_value.proofs.walk.Walk.missing.Goals as goal
 
-pub loop-name-init : goal.loop-name-init
-loop-name-init c = looked_none (view c.args.value.now) c.args.self.now _ refl refl
+pub loop-member-init : goal.loop-member-init
+loop-member-init c = λ w table. looked_none (w, view c.args.value.now) c.args.self.now _ refl refl
 
-pub loop-name-preserved : goal.loop-name-preserved
-loop-name-preserved c = looked_twice (view c.args.value.now) c.args.self.now c.loop-name.self _ c.loop-name.invariant c.in_ok-missing_member.ensures
+pub loop-member-preserved : goal.loop-member-preserved
+loop-member-preserved c = λ w table.
+    looked_twice (w, view c.args.value.now) c.args.self.now c.loop-member.self _ (c.loop-member.invariant w table)
+    (c.in_ok-missing_member.ensures w (search (member_there, member_by_slice, table, c.loop-member-test.true)))

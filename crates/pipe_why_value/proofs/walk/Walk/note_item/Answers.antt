@@ -1,8 +1,14 @@
-use Rattle.std.proofs.Common.{◌≡◌, ◌++◌, ◌∷◌, [], refl, sym, ap, ◌∙◌, subst, arith}
+use Rattle.std.proofs.Common.{sym, subst}
 use Rattle.pipe_why_text.specs.declared.steps.Step.TheVariants as step
-use Rattle.pipe_why_value.proofs.Looks.{looked_inside}
+use Rattle.pipe_why_value.specs.Places.{IsOwn}
+use Rattle.pipe_why_value.proofs.Looks.{looked_behind, noted_within}
 use Rattle.pipe_why_value.proofs.walk.Walk.note_item.Goals as goal
 
 pub returns : goal.returns
-returns c = λ d e there bad.
-    looked_inside (step.Item c.args.i) d e c.args.self.now c.enter_item.new.self c.note.new.self c.leave.new.self there c.in_ok-enter_item.ensures (c.in_ok-note.ensures.looked e (bad c.enter_item.new.self.steps.items)) c.leave.ensures
+returns c = λ p e there bad own.
+    let s = step.Item c.args.i in
+    let entered = c.enter_item.new.self in
+    looked_behind s p c.args.self.now entered c.note.new.self c.leave.new.self c.in_ok-enter_item.ensures
+    (noted_within s p e c.args.wrong entered c.note.new.self c.in_ok-note.ensures.noted there (λ above was. bad entered.steps.items)
+    (λ root above was here. subst (λ t. IsOwn root c.args.wrong t) (sym was) (own root above here)))
+    c.leave.ensures
