@@ -44,7 +44,7 @@ def statuses_of_commands():
         if own:
             (statuses,) = own
         else:
-            (maker,) = set(re.findall(r"^\w+ = (looks_at|writes)\b", text, re.M))
+            (maker,) = set(re.findall(r"^\w+(?: \w+)* = (looks_at|writes)(?:_those)?\b", text, re.M))
             statuses = made[maker]
         commands[path.stem.removesuffix("Command").lower()] = statuses
     return commands

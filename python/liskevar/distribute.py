@@ -35,8 +35,6 @@ FINE = 16
 LEAST_HASHES, MOST_HASHES = 64, 2**28
 # So many rows of each part tell where the ranges of an order end.
 SAMPLES = 500
-# The rows in the place of the largest table's where it is asked how tables may be cut.
-MOST_IN_PLACE = 1000
 
 
 # How a scan is cut, as a picture tells it.
@@ -59,7 +57,7 @@ class Done(NamedTuple):
 
 
 class Told(NamedTuple):
-    """The job with few rows of nulls, what `parts` tells of it, and each frame's table with its types."""
+    """The job with empty tables, what `parts` tells of it, and each frame's table with its types."""
 
     job: Mapping[str, Any]
     said: Mapping[str, Any]
@@ -116,20 +114,15 @@ def read_table(run: Run, path: str, columns: Sequence[str] | None = None, **told
     return read_csv(run, path, columns, **told)
 
 
-def scaled(heights: Sequence[int]) -> list[int]:
-    """Few rows in the place of many, in about the same proportion: a table that has rows keeps some."""
-    unit = max(1, max(heights, default=0) // MOST_IN_PLACE)
-    return [-(-it // unit) for it in heights]
-
-
 def ask_parts(plan: Plan, settings: Settings) -> Told:
     """What the program's `parts` tells of a plan."""
-    want("parts")
+    want("parts --rows")
     read, resolve = frames_of(plan), plan.nodes[-1].typing.resolve
-    heights = scaled([it.height for it in read])
-    text = job_text(plan, settings, heights)
+    heights = [it.height for it in read]
+    text = job_text(plan, settings, [0] * len(heights))
     types = [{it.name: resolve(it.type) for it in table.columns if it.name in names} for table, names in read.items()]
-    said = json.loads(ask("parts", text, plan.nodes, settings.row_limit))
+    rows = ["--rows", ",".join(map(str, heights))]
+    said = json.loads(ask("parts", text, plan.nodes, settings.row_limit, rows))
     return Told(json.loads(text), said, list(read), types)
 
 

@@ -40,7 +40,7 @@ SMALL = Limits(piece=40, aim=60)
 def called(words, text=b""):
     """What the plain program does, in this process."""
     if words[0] == "--help":
-        return subprocess.CompletedProcess(words, 0, b"liskevar run\nliskevar parts\n", b"")
+        return subprocess.CompletedProcess(words, 0, b"liskevar run\nliskevar parts\nliskevar parts --rows N,N,..\n", b"")
     status, told = plain_jobs.answered(list(words), text)
     return subprocess.CompletedProcess(words, status, b"" if status else told, told if status else b"")
 

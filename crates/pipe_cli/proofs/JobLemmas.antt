@@ -1,5 +1,5 @@
 -- Jobs: what bytes spell, how one ends, and why the contracts of their commands are sound.
-use Rattle.std.proofs.Common.{Result, Ok, Err, ◌≡◌, ℕ, List, [], ◌∷◌, ◌++◌, inl, inr, map, refl, ap, subst, sym, ◌∙◌, arith}
+use Rattle.std.proofs.Common.{Result, Ok, Err, ◌≡◌, ◌⊎◌, ℕ, List, [], ◌∷◌, ◌++◌, inl, inr, map, refl, ap, subst, sym, ◌∙◌, arith}
 use Rattle.std.specs.Prelude.{IfErr}
 use Rattle.std.specs.Result.{IsErrAnd}
 use Rattle.std.specs.List.{flat_map}
@@ -25,7 +25,7 @@ use Rattle.pipe_plan.specs.Schemas.{schema_of}
 use Rattle.pipe_cli.specs.Commands.RunCommand.{run}
 use Rattle.pipe_cli.specs.Commands.StreamCommand.{stream}
 use Rattle.pipe_cli.specs.Contract.{Answered, Because, Causes, EndsBy, EndsWith, Fails, IsKind, IsLawful, Unread}
-use Rattle.pipe_cli.specs.Jobs.{IsLookedAt, IsRefusedJob, IsRefusedWith, IsRowLines, IsSoundJob, IsWithinJob, job_kind, looks_at}
+use Rattle.pipe_cli.specs.Jobs.{IsLookedAt, IsRefusedJob, IsRefusedWith, IsRowLines, IsSoundJob, IsWithinJob, ReadsJobOf, ReadsOtherJob, job_kind, jobs_of, looks_at, looks_at_those}
 use Rattle.pipe_cli.specs.Refused.{Tells}
 use Rattle.pipe_cli.specs.Status.{OneOf, status_of}
 use Rattle.pipe_cli.specs.declared.status.Refusal.{Refusal}
@@ -131,6 +131,81 @@ looks_lawful A = record {
   stops = λ h. absurd (apart (looks_at A).statuses 8 refl h);
   answers = found 0 (looks_at A).statuses refl;
   writes = found 9 (looks_at A).statuses refl;
+}
+
+-- ---- jobs for which something holds
+
+none_of : (H : Task → Type 0) (bytes : List ℕ) (job : Task) → ReadsNoJob bytes ⊎ ReadsOtherJob H bytes → ReadsJobOf H bytes job → ⊥
+none_of H bytes job (inl n) j = none_job bytes job n j.read
+none_of H bytes job (inr o) j = o.other (subst H (same_job bytes job o.job j.read o.read) j.holds)
+
+apart_of : (H : Task → Type 0) (bytes : List ℕ) → ReadsNothing bytes → ReadsNoJob bytes ⊎ ReadsOtherJob H bytes → ⊥
+apart_of H bytes n (inl m) = n.none m.value m.reading
+apart_of H bytes n (inr o) = n.none o.read.value o.read.reading
+
+jobs_are_kind : (H : Task → Type 0) → IsKind (jobs_of H)
+jobs_are_kind H = record {
+  one = λ bytes a b r q. same_job bytes a b r.read q.read;
+  text = λ bytes a n j. n.none j.read.value j.read.reading;
+  some = λ bytes a n j. none_of H bytes a n j;
+  apart = λ bytes n m. apart_of H bytes n m;
+}
+
+-- what spells no job spells none of these
+pub unread_of : (H : Task → Type 0) (r : Refusal) (bytes : List ℕ) → Unread job_kind r bytes → Unread (jobs_of H) r bytes
+unread_of H refusal.BadWords bytes u = absurd u
+unread_of H refusal.ReadFault bytes u = absurd u
+unread_of H refusal.TooLong bytes u = absurd u
+unread_of H refusal.NotJson bytes u = u
+unread_of H refusal.NotJob bytes u = inl u
+unread_of H (refusal.Fault line) bytes u = absurd u
+unread_of H (refusal.TooMany line) bytes u = absurd u
+unread_of H refusal.Stopped bytes u = absurd u
+unread_of H refusal.WriteFault bytes u = absurd u
+unread_of H refusal.Memory bytes u = tt
+
+pub other_job : (H : Task → Type 0) (bytes : List ℕ) (job : Task) → ReadsJob bytes job → (H job → ⊥) → Unread (jobs_of H) refusal.NotJob bytes
+other_job H bytes job read other = inr record { job = job; read = read; other = other }
+
+pub job_of_those : (H : Task → Type 0) (bytes : List ℕ) (job : Task) → ReadsJob bytes job → H job → ReadsJobOf H bytes job
+job_of_those H bytes job read holds = record { read = read; holds = holds }
+
+those_because : (H : Task → Type 0) (A : Task → List ℕ → Type 0) (r : Refusal) (job : Task) → IsLookedAt r job → Because (looks_at_those H A) r job
+those_because H A refusal.BadWords job h = absurd h
+those_because H A refusal.ReadFault job h = absurd h
+those_because H A refusal.TooLong job h = absurd h
+those_because H A refusal.NotJson job h = absurd h
+those_because H A refusal.NotJob job h = absurd h
+those_because H A (refusal.Fault line) job h = record { error = h.error; ends = inl h.refused; status_is = h.status_is; line_is = h.line_is }
+those_because H A (refusal.TooMany line) job h = record { error = h.error; ends = inl h.refused; status_is = h.status_is; line_is = h.line_is }
+those_because H A refusal.Stopped job h = absurd h
+those_because H A refusal.WriteFault job h = absurd h
+those_because H A refusal.Memory job h = tt
+
+pub those_told : (H : Task → Type 0) (A : Task → List ℕ → Type 0) (r : Refusal) (bytes : List ℕ) (job : Task) → ReadsJobOf H bytes job → IsLookedAt r job → Causes (looks_at_those H A) r bytes
+those_told H A r bytes job read h = because_told (looks_at_those H A) r bytes job read (those_because H A r job h)
+
+pub unread_those : (H : Task → Type 0) (A : Task → List ℕ → Type 0) (r : Refusal) (bytes : List ℕ) → Unread (jobs_of H) r bytes → Causes (looks_at_those H A) r bytes
+unread_those H A r bytes u = unread_told (looks_at_those H A) r bytes u
+
+pub those_only : (H : Task → Type 0) (A : Task → List ℕ → Type 0) (r : Refusal) (job : Task) → IsLookedAt r job → OneOf (looks_at_those H A).statuses (status_of r)
+those_only H A r job h = looked_only A r job h
+
+pub unread_those_only : (H : Task → Type 0) (A : Task → List ℕ → Type 0) (r : Refusal) (bytes : List ℕ) → Unread (jobs_of H) r bytes → OneOf (looks_at_those H A).statuses (status_of r)
+unread_those_only H A r bytes u = among (4 ∷ 5 ∷ 10 ∷ []) (looks_at_those H A).statuses refl (status_of r) (unread_only (jobs_of H) r bytes u)
+
+pub those_answer : (H : Task → Type 0) (A : Task → List ℕ → Type 0) (bytes text : List ℕ) (job : Task) → ReadsJobOf H bytes job → IsSoundJob job → A job text → Answered (looks_at_those H A) bytes text
+those_answer H A bytes text job read sound a = record { input = job; read = read; sound = sound; within = tt; answer = a }
+
+pub those_lawful : (H : Task → Type 0) (A : Task → List ℕ → Type 0) → IsLawful (looks_at_those H A)
+those_lawful H A = record {
+  kind = jobs_are_kind H;
+  sound = λ job e s r. sound_refused job.plan job.root job.config e s r;
+  one_error = λ job d e h k. one_refusal job d e h k;
+  within = λ job n m w. m;
+  stops = λ h. absurd (apart (looks_at_those H A).statuses 8 refl h);
+  answers = found 0 (looks_at_those H A).statuses refl;
+  writes = found 9 (looks_at_those H A).statuses refl;
 }
 
 -- ---- jobs that are run

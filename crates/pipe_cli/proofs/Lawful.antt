@@ -3,13 +3,13 @@ use Rattle.std.proofs.Common.{◌≡◌, ℕ, false, List, [], ◌∷◌, Option
 use Rattle.pipe_cli.specs.Commands.{Request, Run, Check, Explain, Optimize, Parts, SelfTest, Reconcile, ReplayEdits, Help, Version, Stream, Why, contract_of, source_of}
 use Rattle.pipe_cli.specs.Commands.CheckCommand.{ok_text}
 use Rattle.pipe_cli.specs.Commands.HelpCommand.{help_text}
-use Rattle.pipe_cli.specs.Commands.PartsCommand.{IsPartsText}
+use Rattle.pipe_cli.specs.Commands.PartsCommand.{HasFramesOf, IsPartsText}
 use Rattle.pipe_cli.specs.Commands.VersionCommand.{version_text}
 use Rattle.pipe_cli.specs.Commands.WhyCommand.{IsGoodText}
 use Rattle.pipe_cli.specs.Contract.{IsLawful}
 use Rattle.pipe_cli.specs.Jobs.{branch_lines}
 use Rattle.pipe_cli.specs.Status.{OneOf}
-use Rattle.pipe_cli.proofs.JobLemmas.{looks_lawful, run_lawful, stream_lawful}
+use Rattle.pipe_cli.proofs.JobLemmas.{looks_lawful, run_lawful, stream_lawful, those_lawful}
 use Rattle.pipe_cli.proofs.OptimizeLemmas.{optimize_lawful}
 use Rattle.pipe_cli.proofs.ReconLemmas.{reconcile_lawful}
 use Rattle.pipe_cli.proofs.ReplayLemmas.{replay_lawful}
@@ -21,7 +21,7 @@ lawful (Run name) = run_lawful
 lawful Check = looks_lawful (λ job text. text ≡ ok_text)
 lawful Explain = looks_lawful (λ job text. text ≡ branch_lines job)
 lawful Optimize = optimize_lawful
-lawful Parts = looks_lawful IsPartsText
+lawful (Parts heights) = those_lawful (HasFramesOf heights) (IsPartsText heights)
 lawful (SelfTest start rows) = selftest_lawful start rows
 lawful Reconcile = reconcile_lawful
 lawful ReplayEdits = replay_lawful

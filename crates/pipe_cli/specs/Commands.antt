@@ -16,6 +16,7 @@ use Rattle.std.specs.Option.{option_copied}
 use Rattle.std.specs.Str.{bytes_eq}
 use Rattle.pipe_selftest.specs.Words.{rows_in, start_in}
 use Rattle.pipe_cli.specs.Contract.{Contract}
+use Rattle.pipe_cli.specs.Heights.{heights_in, heights_told}
 use Rattle.pipe_cli.specs.Sources.{Source, Nowhere, Standard, standard_or}
 use Rattle.pipe_cli.specs.Commands.RunCommand.{run}
 use Rattle.pipe_cli.specs.Commands.CheckCommand.{check}
@@ -38,7 +39,7 @@ pub data Request : Type 0 where
   Check : Request
   Explain : Request
   Optimize : Request
-  Parts : Request
+  Parts : (heights : Option (List ℕ)) → Request
   SelfTest : (start rows : ℕ) → Request
   Reconcile : Request
   ReplayEdits : Request
@@ -53,7 +54,7 @@ contract_of (Run name) = run
 contract_of Check = check
 contract_of Explain = explain
 contract_of Optimize = optimize
-contract_of Parts = parts
+contract_of (Parts heights) = parts heights
 contract_of (SelfTest start rows) = selftest start rows
 contract_of Reconcile = reconcile
 contract_of ReplayEdits = replay_edits
@@ -68,7 +69,7 @@ source_of (Run name) = standard_or name
 source_of Check = Standard
 source_of Explain = Standard
 source_of Optimize = Standard
-source_of Parts = Standard
+source_of (Parts heights) = Standard
 source_of (SelfTest start rows) = Nowhere
 source_of Reconcile = Standard
 source_of ReplayEdits = Standard
@@ -84,7 +85,7 @@ word_request word =
     else if bytes_eq word (codes "check") then Some Check
     else if bytes_eq word (codes "explain") then Some Explain
     else if bytes_eq word (codes "optimize") then Some Optimize
-    else if bytes_eq word (codes "parts") then Some Parts
+    else if bytes_eq word (codes "parts") then Some (Parts None)
     else if bytes_eq word (codes "reconcile") then Some Reconcile
     else if bytes_eq word (codes "replay-edits") then Some ReplayEdits
     else if bytes_eq word (codes "--help") then Some Help
@@ -101,10 +102,20 @@ test_request (Some start) (Some rows) = Some (SelfTest start rows)
 test_request (Some start) None = None
 test_request None rows = None
 
--- the request of a word and two numbers
+-- the request of numbers of rows, where they are there
+abbrev pub heights_request : Option (List ℕ) → Option Request
+heights_request (Some heights) = Some (Parts (Some heights))
+heights_request None = None
+
+abbrev pub parts_request : (option : List ℕ) → Option (List ℕ) → Option Request
+parts_request option heights = if bytes_eq option (codes "--rows") then heights_request heights else None
+
+-- the request of a word with two others
 abbrev pub numbered_request : (word start rows : List ℕ) → Option Request
 numbered_request word start rows =
-    if bytes_eq word (codes "selftest") then test_request (start_in start) (rows_in rows) else None
+    if bytes_eq word (codes "selftest") then test_request (start_in start) (rows_in rows)
+    else if bytes_eq word (codes "parts") then parts_request start (heights_in rows)
+    else None
 
 -- the request of words, by exact words
 abbrev pub request : List (List ℕ) → Option Request
@@ -120,7 +131,7 @@ request_of (command.Run name) = Run (option_copied name)
 request_of command.Check = Check
 request_of command.Explain = Explain
 request_of command.Optimize = Optimize
-request_of command.Parts = Parts
+request_of (command.Parts word) = Parts (heights_told (option_copied word))
 request_of (command.SelfTest start rows) = SelfTest start rows
 request_of command.Reconcile = Reconcile
 request_of command.ReplayEdits = ReplayEdits
@@ -133,7 +144,7 @@ HasGoodRows (command.Run name) = ⊤
 HasGoodRows command.Check = ⊤
 HasGoodRows command.Explain = ⊤
 HasGoodRows command.Optimize = ⊤
-HasGoodRows command.Parts = ⊤
+HasGoodRows (command.Parts word) = ⊤
 HasGoodRows (command.SelfTest start rows) = (1 ≤ rows) × (rows ≤ 1000000)
 HasGoodRows command.Reconcile = ⊤
 HasGoodRows command.ReplayEdits = ⊤

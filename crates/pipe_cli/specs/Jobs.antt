@@ -1,5 +1,5 @@
 -- Jobs, a kind of inputs: which are sound and which within their limit, and what is written of them.
-use Rattle.std.specs.Prelude.{ℕ, ◌≡◌, List, [], ◌∷◌, ◌++◌, false, map}
+use Rattle.std.specs.Prelude.{ℕ, ◌≡◌, ◌⊎◌, List, [], ◌∷◌, ◌++◌, false, map}
 use Rattle.std.specs.List.{flat_map}
 use Rattle.pipe_branches.specs.Texts.{texts}
 use Rattle.pipe_eval.specs.Evaluated.{AllWithin}
@@ -68,6 +68,43 @@ looks_at IsAnswer = record {
   asks = false;
   statuses = 0 ∷ 2 ∷ 3 ∷ 4 ∷ 5 ∷ 6 ∷ 7 ∷ 9 ∷ 10 ∷ [];
 }
+
+-- ---- jobs for which something holds
+
+-- bytes spell a job for which it holds,
+pub record ReadsJobOf (Holds : Task → Type 0) (bytes : List ℕ) (job : Task) : Type 0 where
+  pub read : ReadsJob bytes job
+  pub holds : Holds job
+
+-- or one for which it doesn't
+pub record ReadsOtherJob (Holds : Task → Type 0) (bytes : List ℕ) : Type 0 where
+  pub job : Task
+  pub read : ReadsJob bytes job
+  pub other : Holds job → ⊥
+
+-- another job is none
+abbrev pub jobs_of : (Task → Type 0) → Kind
+jobs_of Holds = record {
+  Input = Task;
+  Reads = ReadsJobOf Holds;
+  ReadsNothing = ReadsNothing;
+  ReadsNone = λ bytes. ReadsNoJob bytes ⊎ ReadsOtherJob Holds bytes;
+}
+
+-- the contract of a command that writes something of such a job that may be run
+abbrev pub looks_at_those : (Task → Type 0) → (Task → List ℕ → Type 0) → Contract
+looks_at_those Holds IsAnswer = record {
+  kind = jobs_of Holds;
+  IsSound = IsSoundJob;
+  IsRefused = IsRefusedJob;
+  HasMany = λ job n. ⊥;
+  IsWithin = λ job. Unit {0};
+  IsAnswer = IsAnswer;
+  asks = false;
+  statuses = (looks_at IsAnswer).statuses;
+}
+
+-- ---- how a job that is looked at is refused
 
 -- a job is refused with this status and this line
 pub record IsRefusedWith (status : ℕ) (line : List ℕ) (job : Task) : Type 0 where

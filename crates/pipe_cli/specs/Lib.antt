@@ -4,6 +4,8 @@ pub mod Status
 pub mod Sources
 -- what a command promises, and what that says by one rule for all commands
 pub mod Contract
+-- numbers of rows as a word
+pub mod Heights
 -- jobs
 pub mod Jobs
 -- reconciliations

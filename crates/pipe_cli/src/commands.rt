@@ -5,7 +5,8 @@ ghost use Rattle.std.specs.Prelude.{◌≡◌, ◌≤◌, ◌∷◌, [], length,
 ghost use Rattle.pipe_frame.specs.Counts.{Counts, Rises};
 ghost use Rattle.pipe_selftest.specs.Words.{rows_in, start_in};
 ghost use Rattle.pipe_cli.specs.Answers.{text_of};
-ghost use Rattle.pipe_cli.specs.Commands.{HasGoodRows, contract_of, request, request_of, source_of, test_request};
+ghost use Rattle.pipe_cli.specs.Commands.{HasGoodRows, contract_of, parts_request, request, request_of, source_of, test_request};
+ghost use Rattle.pipe_cli.specs.Heights.{heights_in};
 ghost use Rattle.pipe_cli.specs.Contract.{Answered, Causes};
 ghost use Rattle.pipe_cli.specs.Outcome.{told_to};
 ghost use Rattle.pipe_cli.specs.Refused.{OfReading};
@@ -35,6 +36,7 @@ use self::run::run;
 use self::selftest::selftest;
 use self::version::version_text;
 use crate::answer::Answer;
+use crate::heights::are_heights;
 use crate::status::Refusal;
 use crate::streams::{bytes_at, bytes_left};
 use pipe_frame::{Gate, StopCheck, Text};
@@ -54,8 +56,9 @@ pub enum Command<'a> {
     Explain,
     /// `optimize`: the job on standard input is written with its filters low and without needless columns.
     Optimize,
-    /// `parts`: how the tables of the job on standard input may be cut is told.
-    Parts,
+    /// `parts` and `parts --rows N,N,..`: how the tables of the job on standard input may be cut is told, over the
+    /// rows that they have or that the word tells.
+    Parts(Option<&'a Text>),
     /// `selftest START ROWS`: two frames of so many rows are drawn from a state on and joined.
     SelfTest(u64, u32),
     /// `reconcile`: the two tables on standard input are reconciled.
@@ -77,6 +80,19 @@ fn self_test(start: &str, rows: &str) -> Option<Command<'static>>
     Some(Command::SelfTest(start_in(start)?, rows_in(rows)?))
 }
 
+/// `parts` over numbers of rows, where these are good.
+#[tactic(auto, using(crate::proofs::HeightLemmas::asked_heights))]
+fn parts_over<'a>(option: &Text, heights: &'a Text) -> Option<Command<'a>>
+    ensures request { option_map request_of result
+        ≡ parts_request option.now (heights_in heights.now) }
+    ensures rows { IfSome result HasGoodRows }
+{
+    if option.as_str() != "--rows" || !are_heights(heights.as_str()) {
+        return None;
+    }
+    Some(Command::Parts(Some(heights)))
+}
+
 /// The command that the words are, by exact words.
 pub fn command_of(words: &[Text]) -> Option<Command<'_>>
     ensures request { option_map request_of result ≡ request words.now }
@@ -88,7 +104,7 @@ pub fn command_of(words: &[Text]) -> Option<Command<'_>>
             "check" => Some(Command::Check),
             "explain" => Some(Command::Explain),
             "optimize" => Some(Command::Optimize),
-            "parts" => Some(Command::Parts),
+            "parts" => Some(Command::Parts(None)),
             "reconcile" => Some(Command::Reconcile),
             "replay-edits" => Some(Command::ReplayEdits),
             "--help" => Some(Command::Help),
@@ -99,6 +115,7 @@ pub fn command_of(words: &[Text]) -> Option<Command<'_>>
         [word, start, rows] if word.as_str() == "selftest" => {
             self_test(start.as_str(), rows.as_str())
         }
+        [word, option, heights] if word.as_str() == "parts" => parts_over(option, heights),
         _ => None,
     }
 }
@@ -130,7 +147,7 @@ pub(crate) fn input_of<R: JobReader>(
         Command::Check
         | Command::Explain
         | Command::Optimize
-        | Command::Parts
+        | Command::Parts(_)
         | Command::Reconcile
         | Command::ReplayEdits => bytes_left(alloc, input),
         Command::SelfTest(..) | Command::Help | Command::Version => Ok(Vec::new(alloc)),
@@ -165,7 +182,7 @@ pub(crate) fn answer_of<T: Threads + Sync, C: StopCheck, G: Gate + Sync>(
         Command::Check => check(alloc, bytes),
         Command::Explain => explain(alloc, bytes),
         Command::Optimize => optimize(alloc, bytes),
-        Command::Parts => parts(alloc, bytes),
+        Command::Parts(heights) => parts(alloc, bytes, heights),
         Command::SelfTest(start, rows) => selftest(rt, alloc, start, rows, stop, gate),
         Command::Reconcile => reconcile(rt, alloc, bytes, stop, gate),
         Command::ReplayEdits => replay_edits(alloc, bytes),

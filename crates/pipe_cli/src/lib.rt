@@ -7,6 +7,7 @@
 
 mod answer;
 mod commands;
+mod heights;
 mod jobs;
 mod laws;
 mod program;

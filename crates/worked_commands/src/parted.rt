@@ -48,6 +48,20 @@ const NO_WORKER: &str = r#"{"version":1,"workers":0,"chunk_rows":2,"row_limit":1
 "plan":[{"node":"DataFrameScan","frame":0,"columns":null}],
 "root":0}"#;
 
+/// An inner join of two tables without rows whose key is a sum.
+const INNER_SUM: &str = r#"{"version":1,"workers":3,"chunk_rows":2,"row_limit":1000000,
+"frames":[
+{"columns":[{"name":"k","type":"Int64","values":[]}]},
+{"columns":[{"name":"k","type":"Int64","values":[]}]}],
+"plan":[
+{"node":"DataFrameScan","frame":0,"columns":null},
+{"node":"DataFrameScan","frame":1,"columns":null},
+{"node":"Join","left":0,"right":1,
+"left_on":[{"add":[{"col":"k"},{"lit":{"type":"Int64","value":1}}]}],"right_on":[{"col":"k"}],
+"how":"inner","join_nulls":false,"coalesce":"KeepColumns","suffix":"_right",
+"rows_left":[null,0],"rows_right":[null,0]}],
+"root":2}"#;
+
 /// Tells how the tables of the job of a text may be cut.
 fn parts_text<T: Threads + Sync>(rt: &T, alloc: Global, text: &str) -> Result<Ended, AllocError> {
     let mut input = reader(alloc, text, None)?;
@@ -62,6 +76,35 @@ const PARTED: &[(&str, &str)] = &[
     ("no worker, in parts", NO_WORKER),
 ];
 
+/// Words that are asked of the inner join whose key is a sum.
+const ASKED: &[(&str, &[&str])] = &[
+    ("tables without rows joined by a sum, in parts", &["parts"]),
+    ("the same for 7 and 5 rows", &["parts", "--rows", "7,5"]),
+    ("the same for 5 and 7 rows", &["parts", "--rows", "5,7"]),
+    ("the same for no rows", &["parts", "--rows", "0,000"]),
+    ("rows of one table of two", &["parts", "--rows", "5"]),
+    (
+        "rows of three tables, of two",
+        &["parts", "--rows", "5,7,5"],
+    ),
+    ("rows with a sign", &["parts", "--rows", "5,+7"]),
+    ("rows with a space", &["parts", "--rows", "5, 7"]),
+    ("no number behind a comma", &["parts", "--rows", "5,"]),
+    ("no number of rows", &["parts", "--rows", ""]),
+    ("no word behind --rows", &["parts", "--rows"]),
+    ("another option", &["parts", "--row", "5,7"]),
+    ("rows in two words", &["parts", "--rows", "5", "7"]),
+    ("rows for a check", &["check", "--rows", "5,7"]),
+    (
+        "more rows than there are numbers",
+        &["parts", "--rows", "18446744073709551616,7"],
+    ),
+    (
+        "as many rows as there are numbers",
+        &["parts", "--rows", "18446744073709551615,7"],
+    ),
+];
+
 /// How the tables of some jobs may be cut.
 pub(crate) fn tell_parted<T: Threads + Sync>(
     rt: &T,
@@ -70,6 +113,11 @@ pub(crate) fn tell_parted<T: Threads + Sync>(
 ) -> Result<(), AllocError> {
     for (shows, text) in PARTED {
         tell_text(a, answers, shows, parts_text(rt, a, text)?)?;
+    }
+    for (shows, words) in ASKED {
+        let mut input = reader(a, INNER_SUM, None)?;
+        let ended = run_words(rt, a, words, &mut input, None)?;
+        tell_text(a, answers, shows, ended)?;
     }
     Ok(())
 }
