@@ -1,0 +1,9 @@
+pub mod SortRows
+pub mod SpecAt
+pub mod JoinStands
+pub mod RowOperators
+pub mod SinkStands
+pub mod SinkLists
+pub mod LegFacts
+pub mod LineFacts
+pub mod Stand

@@ -1,0 +1,143 @@
+-- The pipelines of a plan stand for its branches.
+use Rattle.std.proofs.Common.{◌≡◌, ℕ, ◌<◌, ◌≤◌, ◌^◌, true, List, [], ◌∷◌, length, Option, Some, None, refl, ap, sym, subst, ◌∙◌, arith, slice_index_or}
+use Rattle.std.specs.List.{AllByRecursion}
+use Rattle.std.specs.declared.alloc.Global.{Global}
+use Rattle.std.specs.declared.sync.Arc.{Arc}
+use Rattle.pipe_frame.specs.Rows.{Row}
+use Rattle.pipe_frame.proofs.Weights.{SameBag}
+use Rattle.pipe_frame.specs.declared.field.Field.{Field}
+use Rattle.pipe_ops.specs.Batches.{Left}
+use Rattle.pipe_plan.specs.Faults.{IsWellFormed}
+use Rattle.pipe_rows.specs.Partition.{IsPartitionCount}
+use Rattle.pipe_source.specs.Supplies.{left_of}
+use Rattle.pipe_source.specs.declared.phys_source.PhysSource.{PhysSource}
+use Rattle.pipe_table.specs.declared.spec.JoinSpec.{JoinSpec}
+use Rattle.pipe_branches.specs.Branches.{branches}
+use Rattle.pipe_branches.specs.declared.branch.Branch.{Branch}
+use Rattle.pipe_legs.specs.Legs.{sink_node, ways_of}
+use Rattle.pipe_legs.specs.Numbers.{named_sinks, sink_number}
+use Rattle.pipe_legs.specs.Ways.{feeds, passes}
+use Rattle.pipe_legs.proofs.Sounds.{are_sound}
+use Rattle.pipe_driver.specs.declared.pipe_line.Leg.{Leg}
+use Rattle.pipe_driver.specs.Lines.{IsLine, AreLegsOf, SourceHas}
+use Rattle.pipe_driver.specs.Plans.{task_of, at_start, StandFor}
+use Rattle.pipe_driver.specs.Tables.{number_at}
+use Rattle.pipe_driver.specs.Words.{RunnerWords}
+use Rattle.pipe_engine.specs.Drives.{Line, LineRun}
+use Rattle.pipe_engine.specs.Engine.{Brings, Fits, HasSchemaLeft, HasSpec, IsIdle, MayStart, engine_words}
+use Rattle.pipe_engine.specs.Stands.{Settings}
+use Rattle.pipe_engine.specs.declared.engine.Engine.{Engine}
+use Rattle.pipe_engine.specs.declared.part.Part.{Part}
+use Rattle.pipe_check.specs.Checked.{Checked}
+use Rattle.pipe_create.specs.Joins.{AreSpecs, IsSomeSpecOf, spec_at, spec_or_none}
+use Rattle.pipe_create.specs.Nodes.{plan_in, nodes_in, meaning_in, rows_in}
+use Rattle.pipe_create.specs.Sources.{AreWhole, IsSourceAt}
+use Rattle.pipe_convert.specs.Converted.{schema_in}
+use Rattle.pipe_lines.specs.Layouts.{IsLayout, IsLayoutFor, layout_settings}
+use Rattle.pipe_lines.specs.Lines.{AreLegsMade, AreLinesOf, HasSourceOf, IsLineOf}
+use Rattle.pipe_lines.specs.Standing.{ask_in, IsRunFor}
+use Rattle.pipe_lines.specs.declared.layout.Layout.{Layout}
+use Rattle.pipe_lines.proofs.LineFacts.{lines_ways}
+
+-- ---- sources
+
+same_bag : (a b : List Row) → a ≡ b → SameBag a b
+same_bag a b e = let B : List Row → Type 0 = SameBag a in subst B e (record { sums = λ f. refl })
+
+whole_schema : (schema : List Field) (lefts : List Left) → AreWhole schema lefts → AllByRecursion (HasSchemaLeft schema) lefts
+whole_schema schema [] are = tt
+whole_schema schema (l ∷ lefts) are = (are.0.schema_is, whole_schema schema lefts are.1)
+
+brings_rows : {H : Type 0} (plan : Checked) (layout : Layout H) (n : ℕ) (source : PhysSource) → IsSourceAt plan n source → Brings source (layout_settings plan layout) (meaning_in plan) n
+brings_rows plan layout n source is = record {
+  rows = same_bag _ (rows_in plan n) is.rows;
+  schema = whole_schema (schema_in plan n) (left_of source) is.whole;
+  some = is.some;
+  few = is.few;
+}
+
+-- ---- pipelines
+
+module _ {H : Type 0} (hash_of : H → List ℕ → ℕ) (plan : Checked) (layout : Layout H) where
+  abbrev words : RunnerWords (Engine H) PhysSource (Part H)
+  words = engine_words hash_of (layout_settings plan layout)
+
+  legs_stand : (start : ℕ) (legs : List (Leg (Part H))) → AreLegsMade plan layout.specs.items layout.sinks.items layout.hasher layout.parts start legs → AreLegsOf words (task_of (ask_in plan)) start legs
+  legs_stand start [] are = tt
+  legs_stand start (leg ∷ legs) are = (
+    record { number = are.0.number; there = (let few = are.0.few in let e = are.0.number in omega arith); stands = are.0.stands },
+    legs_stand (sink_node (length (nodes_in plan)) leg.at) legs are.1,
+  )
+
+  source_stands : (n : ℕ) (o : Option PhysSource) → HasSourceOf plan n o → SourceHas words (task_of (ask_in plan)) n o
+  source_stands n None has = has
+  source_stands n (Some source) has = brings_rows plan layout n source has
+
+  line_stands : (branch : Branch) (line : Line H) → IsLineOf plan layout.specs.items layout.sinks.items layout.hasher layout.parts branch line → IsLine words (task_of (ask_in plan)) line
+  line_stands branch line is = record { legs = legs_stand line.start line.legs.items is.legs; source = source_stands line.start line.source is.source }
+
+  lines_stand : (bs : List Branch) (lines : List (Line H)) → AreLinesOf plan layout.specs.items layout.sinks.items layout.hasher layout.parts bs lines → AllByRecursion (IsLine words (task_of (ask_in plan))) lines
+  lines_stand [] [] are = tt
+  lines_stand [] (line ∷ lines) are = absurd are
+  lines_stand (b ∷ bs) [] are = absurd are
+  lines_stand (b ∷ bs) (line ∷ lines) are = (line_stands b line are.0, lines_stand bs lines are.1)
+
+  -- ---- the engine
+
+  has_spec : (n : ℕ) (o : Option (Arc JoinSpec Global)) → IsSomeSpecOf plan n o → HasSpec (spec_or_none o) o
+  has_spec n None is = is
+  has_spec n (Some arc) is = refl
+
+  may_start : (workers : ℕ) (engine : Engine H) → IsWellFormed (plan_in plan) plan.root → IsLayout plan layout → IsPartitionCount workers layout.parts → 1 ≤ workers → workers ≤ 2 ^ 31
+      → engine.hasher ≡ layout.hasher → engine.parts ≡ layout.parts → engine.specs ≡ layout.specs → engine.nodes ≡ length (nodes_in plan) → MayStart engine (layout_settings plan layout) (meaning_in plan)
+  may_start workers engine good is parts some many hasher_is parts_are specs_are nodes_are =
+      record {
+        sound = are_sound (plan_in plan) plan.root good;
+        hasher = hasher_is;
+        parts = parts_are;
+        some = (let enough = parts.enough in omega arith);
+        few = (let low = parts.smallest 31 many in omega arith);
+        specs = λ j join. (
+            let each = has_spec j (slice_index_or layout.specs.items j None) (is.specs.each j join) in
+            rw specs_are each);
+        ordered = nodes_are;
+      }
+
+  -- ---- all of it
+
+  pub stands : (run : LineRun H) (bs : List Branch) (lines : List (Line H)) → IsWellFormed (plan_in plan) plan.root → bs ≡ branches (plan_in plan) plan.root → AreLinesOf plan layout.specs.items layout.sinks.items layout.hasher layout.parts bs lines
+      → Fits hash_of run.runner (layout_settings plan layout) (meaning_in plan) at_start → IsIdle run.runner → run.parked.items ≡ []
+      → length run.counts.left.items ≡ length (named_sinks (plan_in plan) plan.root)
+      → ((s : ℕ) → number_at run.counts.left.items (sink_number (plan_in plan) plan.root s) ≡ feeds s (ways_of (plan_in plan) plan.root))
+      → ((n : ℕ) → number_at run.probers.left.items n ≡ passes n (ways_of (plan_in plan) plan.root))
+      → StandFor words (ask_in plan) run lines
+  stands run bs lines good cut are fits idle none many sinks probers =
+      let A : List Branch → Type 0 = λ xs. AreLinesOf plan layout.specs.items layout.sinks.items layout.hasher layout.parts xs lines in
+      let are_all = subst A cut are in
+      record {
+        well = good;
+        ways = lines_ways plan layout.specs.items layout.sinks.items layout.hasher layout.parts (branches (plan_in plan) plan.root) lines are_all;
+        lines = lines_stand (branches (plan_in plan) plan.root) lines are_all;
+        fits = fits;
+        idle = idle;
+        parked = none;
+        many = many;
+        sinks = sinks;
+        probers = probers;
+      }
+
+  pub run_stands : (workers : ℕ) (run : LineRun H) (bs : List Branch) (lines : List (Line H)) → IsWellFormed (plan_in plan) plan.root → IsLayout plan layout → IsPartitionCount workers layout.parts → 1 ≤ workers → workers ≤ 2 ^ 31
+      → bs ≡ branches (plan_in plan) plan.root → AreLinesOf plan layout.specs.items layout.sinks.items layout.hasher layout.parts bs lines
+      → run.runner.hasher ≡ layout.hasher → run.runner.parts ≡ layout.parts → run.runner.specs ≡ layout.specs → run.runner.nodes ≡ length (nodes_in plan) → IsIdle run.runner
+      → ((h : H → List ℕ → ℕ) (x : Settings H) (m : _) → MayStart run.runner x m → Fits h run.runner x m at_start) → run.parked.items ≡ []
+      → length run.counts.left.items ≡ length (named_sinks (plan_in plan) plan.root)
+      → ((s : ℕ) → number_at run.counts.left.items (sink_number (plan_in plan) plan.root s) ≡ feeds s (ways_of (plan_in plan) plan.root))
+      → ((n : ℕ) → number_at run.probers.left.items n ≡ passes n (ways_of (plan_in plan) plan.root))
+      → IsRunFor hash_of plan run lines
+  run_stands workers run bs lines good is parts some low cut are hasher_is parts_are specs_are nodes_are idle fits none many sinks probers =
+      record {
+        settings = layout_settings plan layout;
+        stand = stands run bs lines good cut are
+            (fits hash_of (layout_settings plan layout) (meaning_in plan) (may_start workers run.runner good is parts some low hasher_is parts_are specs_are nodes_are))
+            idle none many sinks probers;
+      }

@@ -1,0 +1,59 @@
+use Rattle.std.proofs.Common.{◌≡◌, ◌+◌, List, [], ◌∷◌, ℕ, drop, get_or, sym, subst, arith}
+use Rattle.std.proofs.lemmas.List.{drop_more, drop_all}
+use Rattle.std.specs.List.{AllByRecursion}
+use Rattle.pipe_branches.specs.declared.branch.Branch.{Branch}
+use Rattle.pipe_driver.specs.declared.pipe_line.PipeLine.{PipeLine}
+use Rattle.pipe_source.specs.declared.phys_source.PhysSource.{PhysSource}
+use Rattle.pipe_engine.specs.declared.part.Part.{Part}
+use Rattle.pipe_create.specs.Laws.{IsBranch}
+use Rattle.pipe_create.proofs.BranchStarts.{all_branches}
+use Rattle.pipe_lines.proofs.LineFacts.{LinesBehind, lines_first, lines_next, lines_done}
+use Rattle.pipe_lines.proofs.pipeline.create_pipelines.Goals as goal
+
+pub loop-branch-init : goal.loop-branch-init
+loop-branch-init g c =
+    let layout = c.args.layout.now in
+    let A : List Branch → Type 0 = AllByRecursion (IsBranch c.args.plan.now) in
+    record {
+      are = subst A (sym c.requires.cut) (all_branches c.args.plan.now c.root.ensures.good);
+      behind = lines_first c.args.plan.now layout.specs.items layout.sinks.items layout.hasher layout.parts c.args.branches.now _ c.new-lines.ensures.items;
+    }
+
+pub create_pipeline-requires-clause-layout : goal.create_pipeline-requires-clause-layout
+create_pipeline-requires-clause-layout g c = λ κs lives. c.requires.layout
+
+pub create_pipeline-requires-clause-workers : goal.create_pipeline-requires-clause-workers
+create_pipeline-requires-clause-workers g c = λ κs lives. c.requires.workers
+
+pub create_pipeline-requires-clause-branch : goal.create_pipeline-requires-clause-branch
+create_pipeline-requires-clause-branch g c = λ κs lives. (
+    let bs = c.args.branches.now in
+    let i = c.loop-branch.branch-index in
+    let A : List Branch → Type 0 = AllByRecursion (IsBranch c.args.plan.now) in
+    let are = subst A (drop_more bs i c.branch-item.result c.loop-branch-test.true) c.loop-branch.invariant.are in
+    rw c.branch-item.is are.0)
+
+pub loop-branch-preserved : goal.loop-branch-preserved
+loop-branch-preserved g c =
+    let plan = c.args.plan.now in
+    let layout = c.args.layout.now in
+    let bs = c.args.branches.now in
+    let i = c.loop-branch.branch-index in
+    let known = c.loop-branch.invariant in
+    let branch = get_or bs i c.branch-item.result in
+    let rest = drop (i + 1) bs in
+    let more = drop_more bs i c.branch-item.result c.loop-branch-test.true in
+    let A : List Branch → Type 0 = AllByRecursion (IsBranch plan) in
+    let B : List Branch → Type 0 = λ xs. LinesBehind plan layout.specs.items layout.sinks.items layout.hasher layout.parts bs xs c.loop-branch.lines.items in
+    rw c.in_ok-push.ensures.items (record {
+      are = (subst A more known.are).1;
+      behind = lines_next plan layout.specs.items layout.sinks.items layout.hasher layout.parts bs rest branch c.loop-branch.lines.items _ (rw c.branch-item.is at c.in_ok-create_pipeline.ensures) (subst B more known.behind);
+    })
+
+pub returns : goal.returns
+returns g c =
+    let layout = c.args.layout.now in
+    let bs = c.args.branches.now in
+    let i = c.loop-branch.branch-index in
+    let none : drop i bs ≡ [] = drop_all i bs (omega (arith, c.loop-branch-test.false)) in
+    lines_done c.args.plan.now layout.specs.items layout.sinks.items layout.hasher layout.parts bs (drop i bs) c.loop-branch.lines.items none c.loop-branch.invariant.behind

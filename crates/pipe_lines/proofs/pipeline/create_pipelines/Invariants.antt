@@ -1,0 +1,14 @@
+use Rattle.std.proofs.Common.{drop}
+use Rattle.std.specs.List.{AllByRecursion}
+use Rattle.pipe_create.specs.Laws.{IsBranch}
+use Rattle.pipe_lines.proofs.LineFacts.{LinesBehind}
+use Rattle.pipe_lines.proofs.pipeline.create_pipelines.Given as goal
+
+abbrev pub invariant-loop-branch : goal.invariant-loop-branch
+invariant-loop-branch g l =
+    let rest = drop l.branch-index l.branches in
+    let layout = l.layout in
+    record {
+      are : AllByRecursion (IsBranch l.plan) rest;
+      behind : LinesBehind l.plan layout.specs.items layout.sinks.items layout.hasher layout.parts l.branches rest l.lines.items;
+    }

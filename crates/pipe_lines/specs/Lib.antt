@@ -1,0 +1,10 @@
+-- what is made of nodes
+pub mod Made
+-- pipelines that stand for branches
+pub mod Lines
+-- what all pipelines of a plan are made of
+pub mod Layouts
+-- legs that are made of what a branch says
+pub mod LegsMade
+-- a run that stands for a plan
+pub mod Standing

@@ -1,0 +1,24 @@
+//! From the branches of a checked plan to its pipelines (the part of polars-pipe's `pipeline::convert` that makes
+//! pipelines).
+//!
+//! The one contract used above: the pipelines are, in order, the branches of the plan, and what is made of each node does
+//! what the node means.
+#![tactic(auto)]
+
+mod layout;
+mod leg;
+mod operator;
+mod pipeline;
+mod run;
+mod settings;
+mod sink;
+mod sinks;
+mod text;
+
+pub use layout::Layout;
+pub use operator::get_operator;
+pub use pipeline::{create_pipeline, create_pipelines};
+pub use run::{create_run, run_branches};
+pub use sink::get_sink;
+pub use sinks::plan_sinks;
+pub use text::pipeline_text;

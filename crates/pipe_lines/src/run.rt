@@ -1,0 +1,71 @@
+//! A plan's pipelines, with what runs them.
+
+ghost use Rattle.std.specs.Prelude.{IfOk};
+ghost use Rattle.pipe_frame.specs.Rows.{Same};
+ghost use Rattle.pipe_create.specs.Nodes.{rows_in};
+ghost use Rattle.pipe_lines.specs.Standing.{IsRunFor};
+
+use crate::layout::Layout;
+use crate::pipeline::create_pipelines;
+use pipe_branches::cut;
+use pipe_check::CheckedPlan;
+use pipe_create::{branch_counts, node_count};
+use pipe_driver::{Run, RunError};
+use pipe_engine::{Engine, PlanLine, PlanRun, Tools, execute_branches};
+use pipe_frame::{DataFrame, Gate, StopCheck};
+use pipe_ops::PExecutionContext;
+use pipe_rows::KeyHasher;
+use std::alloc::{AllocError, Global};
+use std::thread::Threads;
+
+/// The pipelines of a checked plan's branches, in order, and what runs them: an engine to which no leg has come, and how
+/// many legs come to each sink and each node.
+pub fn create_run<H: KeyHasher>(
+    alloc: Global,
+    plan: &CheckedPlan,
+    context: PExecutionContext,
+    hasher: H,
+) -> Result<(PlanRun<H>, Vec<PlanLine<H>>), AllocError>
+    ensures { IfOk result (λ r. IsRunFor H.hash_of plan.now r.0 r.1.items) }
+{
+    let _ = plan.root();
+    let workers = context.workers;
+    let branches = cut(alloc, plan)?;
+    let all = branches.as_slice();
+    let counts = branch_counts(alloc, plan, all)?;
+    let layout = Layout::new(alloc, plan, workers, hasher)?;
+    let pipelines = create_pipelines(alloc, all, plan, &layout, workers)?;
+    let Layout {
+        specs,
+        sinks,
+        parts,
+        hasher,
+    } = layout;
+    drop(sinks);
+    let runner = Engine::new(alloc, context, hasher, parts, specs, node_count(plan))?;
+    let parked = Vec::new(alloc);
+    let run = Run {
+        runner,
+        parked,
+        counts: counts.sinks,
+        probers: counts.probers,
+    };
+    Ok((run, pipelines))
+}
+
+/// Runs the pipelines of a checked plan: the rows of its root.
+pub fn run_branches<R: Threads + Sync, H: KeyHasher, C: StopCheck, G: Gate + Sync>(
+    alloc: Global,
+    tools: &Tools<R, G>,
+    stop: &mut C,
+    plan: &CheckedPlan,
+    context: PExecutionContext,
+    hasher: H,
+) -> Result<DataFrame, RunError>
+    ensures { IfOk result (λ frame. Same frame.rows (rows_in plan.now plan.now.root)) }
+{
+    match create_run(alloc, plan, context, hasher) {
+        Ok((run, pipelines)) => execute_branches(alloc, tools, stop, run, pipelines),
+        Err(_) => Err(RunError::Memory),
+    }
+}
