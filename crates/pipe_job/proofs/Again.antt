@@ -47,11 +47,11 @@ use Rattle.pipe_job.proofs.FrameTests.{fault_outlined}
 pub unsigned_again : (bits n : ℕ) → n < 2 ^ bits → is_unsigned bits (number (unsigned n)) ≡ true
 unsigned_again bits n h = grind (arith, nat_tests)
 
-int64_again : (z : ℤ) → FitsSigned w64 z → is_signed 63 (number (of_integer z)) ≡ true
+pub int64_again : (z : ℤ) → FitsSigned w64 z → is_signed 63 (number (of_integer z)) ≡ true
 int64_again (pos n) h = grind (arith, nat_tests)
 int64_again (negsuc n) h = grind (arith, nat_tests)
 
-int32_again : (z : ℤ) → FitsSigned w32 z → is_signed 31 (number (of_integer z)) ≡ true
+pub int32_again : (z : ℤ) → FitsSigned w32 z → is_signed 31 (number (of_integer z)) ≡ true
 int32_again (pos n) h = grind (arith, nat_tests)
 int32_again (negsuc n) h = grind (arith, nat_tests)
 
@@ -60,7 +60,7 @@ hex_again b h = hex_text b h
 
 -- ---- lists
 
-list_again : {A : Type 0} (spell : A → Data) (Fits : A → Type 0) (shape : Data → Bool) → ((x : A) → Fits x → shape (spell x) ≡ true)
+pub list_again : {A : Type 0} (spell : A → Data) (Fits : A → Type 0) (shape : Data → Bool) → ((x : A) → Fits x → shape (spell x) ≡ true)
     → (xs : List A) → AllByRecursion Fits xs → is_list shape (list spell xs) ≡ true
 list_again spell Fits shape one [] h = refl
 list_again spell Fits shape one (x ∷ xs) h = ap₂ (λ (a b : Bool). a && b) (one x h.0) (list_again spell Fits shape one xs h.1)
@@ -95,7 +95,7 @@ type_again dtype.Int128 = refl
 null_again : (t : DataType) → is_cell t (cell_spelling cell.Null) ≡ true
 null_again t = refl
 
-cell_again : (t : DataType) (c : AnyValue) → FitsType t c → is_cell t (cell_spelling c) ≡ true
+pub cell_again : (t : DataType) (c : AnyValue) → FitsType t c → is_cell t (cell_spelling c) ≡ true
 cell_again t cell.Null h = null_again t
 cell_again t (cell.Int32 z) h = ap (λ (u : DataType). is_cell u (cell_spelling (cell.Int32 z))) h.0 ∙ int32_again z h.1
 cell_again t (cell.Int64 z) h = ap (λ (u : DataType). is_cell u (cell_spelling (cell.Int64 z))) h.0 ∙ int64_again z h.1
@@ -106,7 +106,7 @@ cell_again t (cell.String s) h = ap (λ (u : DataType). is_cell u (cell_spelling
 cell_again t (cell.Binary b) h = ap (λ (u : DataType). is_cell u (cell_spelling (cell.Binary b))) h.0 ∙ hex_again b h.1
 cell_again t (cell.Int128 z) h = ap (λ (u : DataType). is_cell u (cell_spelling (cell.Int128 z))) h.0 ∙ decimal_again z h.1
 
-formula_again : (f : Formula) → FormulaFits f → is_expr (formula_spelling f) ≡ true
+pub formula_again : (f : Formula) → FormulaFits f → is_expr (formula_spelling f) ≡ true
 formula_again (Column name) h = refl
 formula_again (Literal t c) h = rw type_again (rw (cell_again t c h) refl)
 formula_again (Add l r) h = rw (formula_again l h.0, formula_again r h.1)
@@ -124,7 +124,7 @@ formula_again (Not f) h = formula_again f h
 formula_again (IsNull f) h = formula_again f h
 formula_again (IsNotNull f) h = formula_again f h
 
-named_again : (e : NamedFormula) → NamedFits e → is_named (named_spelling e) ≡ true
+pub named_again : (e : NamedFormula) → NamedFits e → is_named (named_spelling e) ≡ true
 named_again e h = rw (formula_again e.formula h)
 
 formulas_again : (es : List Formula) → AllByRecursion FormulaFits es → is_list is_expr (list formula_spelling es) ≡ true
@@ -135,14 +135,14 @@ nameds_again es h = list_again named_spelling NamedFits is_named named_again es 
 
 -- ---- nodes
 
-slice_again : (s : PlanSlice) → SliceFits s → is_slice (slice_spelling s) ≡ true
+pub slice_again : (s : PlanSlice) → SliceFits s → is_slice (slice_spelling s) ≡ true
 slice_again s h = rw (int64_again s.offset h.0, unsigned_again 64 s.len h.1)
 
 maybe_slice_again : (s : Option PlanSlice) → MaybeFits SliceFits s → is_maybe is_slice (maybe slice_spelling s) ≡ true
 maybe_slice_again None h = refl
 maybe_slice_again (Some s) h = slice_again s h
 
-how_again : (h : JoinType) → is_how (how_spelling h) ≡ true
+pub how_again : (h : JoinType) → is_how (how_spelling h) ≡ true
 how_again how.Inner = refl
 how_again how.Left = refl
 how_again how.Full = refl
@@ -150,19 +150,19 @@ how_again how.Cross = refl
 how_again how.Semi = refl
 how_again how.Anti = refl
 
-coalesce_again : (c : JoinCoalesce) → is_coalesce (coalesce_spelling c) ≡ true
+pub coalesce_again : (c : JoinCoalesce) → is_coalesce (coalesce_spelling c) ≡ true
 coalesce_again coalesce.JoinSpecific = refl
 coalesce_again coalesce.CoalesceColumns = refl
 coalesce_again coalesce.KeepColumns = refl
 
-known_again : (n : Option ℕ) → MaybeFits (λ m. m < 2 ^ 64) n → is_maybe (is_unsigned 64) (maybe whole n) ≡ true
+pub known_again : (n : Option ℕ) → MaybeFits (λ m. m < 2 ^ 64) n → is_maybe (is_unsigned 64) (maybe whole n) ≡ true
 known_again None h = refl
 known_again (Some n) h = unsigned_again 64 n h
 
-hint_again : (h : RowsHint) → HintFits h → is_hint (hint_spelling h) ≡ true
+pub hint_again : (h : RowsHint) → HintFits h → is_hint (hint_spelling h) ≡ true
 hint_again h fits = rw (known_again h.known fits.0, unsigned_again 64 h.estimate fits.1)
 
-node_again : (n : Node) → NodeFits n → is_node (node_spelling n) ≡ true
+pub node_again : (n : Node) → NodeFits n → is_node (node_spelling n) ≡ true
 node_again (node.DataFrameScan frame None) h = rw (unsigned_again 32 frame h)
 node_again (node.DataFrameScan frame (Some cs)) h = rw (texts_again cs, unsigned_again 32 frame h)
 node_again (node.Filter input e) h = rw (unsigned_again 32 input h.0, formula_again e h.1)
@@ -187,7 +187,7 @@ node_again (node.Sort input by o) h = rw (texts_again by, truths_again o.descend
 
 -- ---- frames and jobs
 
-column_again : (c : Cells) → ColumnFits c → is_column (column_spelling c) ≡ true
+pub column_again : (c : Cells) → ColumnFits c → is_column (column_spelling c) ≡ true
 column_again c h = rw (type_again c.dtype, list_again cell_spelling (FitsType c.dtype) (is_cell c.dtype) (cell_again c.dtype) c.cells h)
 
 -- the columns of a frame are of one height
