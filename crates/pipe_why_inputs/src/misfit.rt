@@ -1,5 +1,11 @@
 //! What is told of a value that spells no job.
 
+ghost use Rattle.std.specs.Prelude.{◌≡◌, IfOk};
+ghost use Rattle.pipe_value.specs.View.{view};
+ghost use Rattle.pipe_why_wants.specs.Wanted.{SpellsJob};
+ghost use Rattle.pipe_why_value.specs.Places.{kind_of};
+ghost use Rattle.pipe_why_value.specs.Telling.{TellsNoJob};
+
 use crate::edits::push_edits;
 use crate::reconciliation::push_reconciliation;
 use pipe_value::Value;
@@ -21,24 +27,42 @@ fn push_other(
     )
 }
 
+/// What is told of the value of a text that should be a job and spells none.
+fn job_text(alloc: Global, bytes: &[u8], value: &Value) -> Result<String, AllocError>
+    ensures { IfOk result (λ text.
+        (SpellsJob (view value.now) → ⊥) → TellsNoJob (view value.now) text) }
+{
+    let mut out = String::new(alloc);
+    out.push_str("not a job: ")?;
+    push_misfit(alloc, &mut out, bytes, value, InputKind::Job)?;
+    Ok(out)
+}
+
+/// What is told of the value of a text of which `reconcile` reads such ones.
+fn reconciliation_text(alloc: Global, bytes: &[u8], value: &Value) -> Result<String, AllocError> {
+    let mut out = String::new(alloc);
+    push_other(&mut out, value, InputKind::Reconciliation, "reconcile")?;
+    push_reconciliation(alloc, &mut out, bytes, value)?;
+    Ok(out)
+}
+
+/// What is told of the value of a text of which `replay-edits` reads such ones.
+fn edits_text(alloc: Global, bytes: &[u8], value: &Value) -> Result<String, AllocError> {
+    let mut out = String::new(alloc);
+    push_other(&mut out, value, InputKind::Edits, "replay-edits")?;
+    push_edits(alloc, &mut out, bytes, value)?;
+    Ok(out)
+}
+
 /// What is told of the value of a text that spells no job: the first place that isn't what it should be, or, of what
 /// another command reads, that place or its fault there, or what that command will do.
-pub fn misfit_text(alloc: Global, bytes: &[u8], value: &Value) -> Result<String, AllocError> {
-    let mut out = String::new(alloc);
-    let kind = InputKind::of(value);
-    match kind {
-        InputKind::Job => {
-            out.push_str("not a job: ")?;
-            push_misfit(alloc, &mut out, bytes, value, kind)?;
-        }
-        InputKind::Reconciliation => {
-            push_other(&mut out, value, kind, "reconcile")?;
-            push_reconciliation(alloc, &mut out, bytes, value)?;
-        }
-        InputKind::Edits => {
-            push_other(&mut out, value, kind, "replay-edits")?;
-            push_edits(alloc, &mut out, bytes, value)?;
-        }
+pub fn misfit_text(alloc: Global, bytes: &[u8], value: &Value) -> Result<String, AllocError>
+    ensures { IfOk result (λ text. kind_of (view value.now) ≡ InputKind.Job
+        → (SpellsJob (view value.now) → ⊥) → TellsNoJob (view value.now) text) }
+{
+    match InputKind::of(value) {
+        InputKind::Job => job_text(alloc, bytes, value),
+        InputKind::Reconciliation => reconciliation_text(alloc, bytes, value),
+        InputKind::Edits => edits_text(alloc, bytes, value),
     }
-    Ok(out)
 }

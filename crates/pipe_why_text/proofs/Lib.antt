@@ -1,0 +1,2 @@
+-- steps that are written one after another
+pub mod Writes

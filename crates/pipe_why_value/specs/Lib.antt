@@ -2,3 +2,5 @@
 pub mod Places
 -- what a walk through a value tells
 pub mod Walks
+-- what is written of a place
+pub mod Telling

@@ -1,14 +1,16 @@
 //! The first place of a value that isn't what a command reads, and what is told of it.
 
-ghost use Rattle.std.specs.Prelude.{◌≡◌, ◌↔◌, None, true, false, IfOk, IfSome};
+ghost use Rattle.std.specs.Prelude.{◌≡◌, ◌↔◌, None, Some, true, false, IfOk, IfSome, OnOk};
 ghost use Rattle.pipe_value.specs.View.{view};
 ghost use Rattle.pipe_why_wants.specs.Wanted.{Misspells, SpellsJob};
 ghost use Rattle.pipe_why_value.specs.Places.{IsTold, whole_want};
+ghost use Rattle.pipe_why_value.specs.Telling.{Tells};
+ghost use Rattle.pipe_why_value.specs.declared.wrong.Misfit.{Misfit};
 
 use crate::edits::Tables;
 use crate::input_kind::InputKind;
 use crate::looking::look_at;
-use crate::told::{push_first, push_further};
+use crate::told::push_told;
 use crate::walk::Walk;
 use crate::wrong::{Misfit, Misfits, Wrong};
 use pipe_value::Value;
@@ -83,6 +85,20 @@ pub fn misfits_of(
     Ok(walk.misfits())
 }
 
+/// The first place, and the whole where there is none.
+fn first_or_whole(alloc: Global, first: Option<Misfit>, kind: InputKind) -> Misfit
+    ensures { (m : Misfit) → first ≡ Some m → result ≡ m }
+{
+    match first {
+        Some(misfit) => misfit,
+        None => Misfit {
+            steps: Vec::new(alloc),
+            wrong: Wrong::Other(whole_of(kind)),
+            is_repeated: false,
+        },
+    }
+}
+
 /// Appends the first place of the bytes at which their value isn't what an input of a kind is, and how many further
 /// ones there are; the whole, where no place tells it.
 pub fn push_misfit(
@@ -91,17 +107,12 @@ pub fn push_misfit(
     bytes: &[u8],
     value: &Value,
     kind: InputKind,
-) -> Result<(), AllocError> {
+) -> Result<(), AllocError>
+    ensures { OnOk result (kind ≡ InputKind.Job → (SpellsJob (view value.now) → ⊥)
+        → Tells (whole_want kind, view value.now) out.old out.new) }
+{
     let text = simdutf8::compat::from_utf8(bytes).unwrap_or("");
     let Misfits { first, found } = misfits_of(alloc, text, value, kind)?;
-    let misfit = match first {
-        Some(misfit) => misfit,
-        None => Misfit {
-            steps: Vec::new(alloc),
-            wrong: Wrong::Other(whole_of(kind)),
-            is_repeated: false,
-        },
-    };
-    push_first(alloc, out, text, &misfit)?;
-    push_further(out, found)
+    let misfit = first_or_whole(alloc, first, kind);
+    push_told(alloc, out, text, &misfit, found)
 }

@@ -1,5 +1,9 @@
 //! What is told of a place at which something else stands than may: where it is, what may stand there, and what does.
 
+ghost use Rattle.std.specs.Prelude.{OnOk};
+ghost use Rattle.pipe_why_text.specs.Places.{Appends};
+ghost use Rattle.pipe_why_value.specs.Telling.{BeginsWithPlace};
+
 use crate::wrong::{Misfit, Wrong};
 use pipe_why_text::{
     Literal, Step, offset_of, push_count, push_place, push_quoted, push_steps, push_words,
@@ -172,30 +176,48 @@ fn push_wrong(
     }
 }
 
-/// Appends a place of a text and what is wrong there.
-pub(crate) fn push_first(
-    alloc: Global,
-    out: &mut String,
-    text: &str,
-    misfit: &Misfit,
-) -> Result<(), AllocError> {
-    let at = offset_of(alloc, text, misfit.steps.as_slice())?;
-    let bytes = text.as_bytes();
-    push_steps(out, misfit.steps.as_slice())?;
-    out.push_str(" (")?;
-    push_place(out, bytes, at)?;
-    out.push_str(")")?;
-    push_wrong(alloc, out, misfit, Literal::at(bytes, at))?;
-    if misfit.is_repeated {
-        out.push_str("hint: a member on the way there stands twice: the last one counts\n")?;
-    }
-    Ok(())
-}
-
 /// Appends how many further places are wrong.
-pub(crate) fn push_further(out: &mut String, found: usize) -> Result<(), AllocError> {
+fn push_further(out: &mut String, found: usize) -> Result<(), AllocError> {
     if 1 < found {
         write!(out, "further places: {}\n", found - 1)?;
     }
     Ok(())
+}
+
+/// What is told behind the steps to a place: where that is in the text, what is wrong there, and of how many places
+/// with something wrong it is one.
+fn told_there(
+    alloc: Global,
+    text: &str,
+    misfit: &Misfit,
+    found: usize,
+) -> Result<String, AllocError> {
+    let at = offset_of(alloc, text, misfit.steps.as_slice())?;
+    let bytes = text.as_bytes();
+    let mut out = String::new(alloc);
+    push_place(&mut out, bytes, at)?;
+    out.push_str(")")?;
+    push_wrong(alloc, &mut out, misfit, Literal::at(bytes, at))?;
+    if misfit.is_repeated {
+        out.push_str("hint: a member on the way there stands twice: the last one counts\n")?;
+    }
+    push_further(&mut out, found)?;
+    Ok(out)
+}
+
+/// Appends a place of a text, what is wrong there, and of how many such places it is one.
+pub(crate) fn push_told(
+    alloc: Global,
+    out: &mut String,
+    text: &str,
+    misfit: &Misfit,
+    found: usize,
+) -> Result<(), AllocError>
+    ensures { OnOk result
+        (Appends (BeginsWithPlace misfit.now.steps.items) out.old out.new) }
+{
+    let there = told_there(alloc, text, misfit, found)?;
+    push_steps(alloc, out, misfit.steps.as_slice())?;
+    out.push_str(" (")?;
+    out.push_str(there.as_str())
 }
