@@ -1,0 +1,13 @@
+pub mod Known
+pub mod Climbs
+pub mod Counts
+pub mod Boards
+pub mod Legs
+pub mod Sinks
+pub mod Ends
+pub mod Closes
+pub mod Whole
+pub mod Sources
+pub mod Plans
+pub mod Held
+pub mod Agreeing
