@@ -1,0 +1,4 @@
+pub mod Places
+pub mod Rounds
+pub mod Sources
+pub mod Parts

@@ -1,0 +1,15 @@
+//! The laws of what lanes noted.
+
+ghost use Rattle.pipe_takings.specs.Laws.{SourcesAreTaken, JoinsAreFlushed};
+
+/// Where the chunks of a source went through rounds of lanes until it was out, what they noted, round after round and in
+/// each lane after lane, are takes of the nodes whose rows the source has: one node after the other, each position once.
+pub fn sources_are_taken()
+    ensures { SourcesAreTaken }
+{}
+
+/// Where the partitions of a join went to lanes, what they noted, lane after lane, are flushes of it: each partition
+/// once.
+pub fn joins_are_flushed()
+    ensures { JoinsAreFlushed }
+{}

@@ -1,0 +1,13 @@
+//! What lanes noted in their rounds, in one list; and as the events of a journal.
+//!
+//! The one contract used above: where the chunks of a source went through rounds of lanes until it was out, what they
+//! noted are takes of the source, each position once; and where the partitions of a join did, flushes of it.
+#![tactic(auto)]
+
+mod draining;
+mod laws;
+mod note;
+
+pub use draining::drain_notes;
+pub use laws::{joins_are_flushed, sources_are_taken};
+pub use note::Note;
