@@ -1,5 +1,5 @@
 -- Parts of a walk one after another, and one inside another.
-use Rattle.std.proofs.Common.{◌≡◌, inl, inr, ap₂, ◌<◌, ℕ, zero, suc, List, [], ◌∷◌, ◌++◌, ◌-◌, length, take, Option, Some, None, Result, Ok, Err, refl, sym, ap, ◌∙◌, subst, arith, true≢false, rules, BTreeMap, get_or}
+use Rattle.std.proofs.Common.{◌≡◌, ◌⊎◌, inl, inr, ap₂, ◌<◌, ◌+◌, ℕ, zero, suc, List, [], ◌∷◌, ◌++◌, ◌-◌, length, take, Option, Some, None, Result, Ok, Err, refl, sym, ap, ◌∙◌, subst, arith, true, true≢false, rules, BTreeMap, get_or}
 use Rattle.std.proofs.lemmas.List.{append_assoc, length-append, take_at}
 use Rattle.std.specs.Prelude.{option_and_then, option_map, is_some, IfSome, IsSome, OnOk, slice_index_or, String, Bool, false}
 use Rattle.std.specs.Borrow.{Bor}
@@ -11,20 +11,30 @@ use Rattle.pipe_value.specs.View.{members_view, view}
 use Rattle.pipe_value.specs.declared.value.Value.{Object, Value, the_lemmas}
 use Rattle.pipe_value.specs.Items.{elements, list_of, nullable_text}
 use Rattle.pipe_frame.specs.declared.data_type.DataType.{DataType}
-use Rattle.pipe_job.specs.Shape.{is_maybe, is_single, is_text, text_in}
+use Rattle.pipe_job.specs.Shape.{is_cell, is_maybe, is_single, is_text, text_in}
 use Rattle.pipe_why_text.specs.declared.steps.Step.{Step}
 use Rattle.pipe_why_text.specs.declared.steps.Step.TheVariants as step
 use Rattle.pipe_why_wants.specs.Members.{HasMember, beside, couple_at, couple_items, edit_part, item_wanted, list_item, member_wanted, members_in, members_of, plain, type_of, want_in}
+use Rattle.pipe_why_wants.specs.Wanted.{is_wanted}
+use Rattle.pipe_why_wants.specs.declared.want.Foreign.TheVariants as foreign
 use Rattle.pipe_why_wants.specs.declared.want.Want.{Want}
-use Rattle.pipe_why_value.specs.Places.{IsBadCell, IsOwn, IsTold, IsWrong, both, last_name, part, part_at, wanted_at, wanted_part}
-use Rattle.pipe_why_value.specs.Walks.{Looked, Within, Noted, Entered, Left}
+use Rattle.pipe_why_wants.specs.declared.want.Want.TheVariants as want
+use Rattle.pipe_why_value.specs.Places.{AreGoodBefore, IsBadCell, IsFirstOfItems, IsGoodItem, IsOwn, IsTold, IsWrong, PassGoodItems, Passes, both, without_two, last_name, part, part_at, wanted_at, wanted_part}
+use Rattle.pipe_why_value.specs.Walks.{AreCellsBefore, IsFirstBad, Looked, Within, Noted, Entered, Left}
 use Rattle.pipe_why_value.specs.declared.walk.Walk.{Walk}
 use Rattle.pipe_why_value.specs.declared.wrong.Misfit.{Misfit}
 use Rattle.pipe_why_value.specs.declared.wrong.Wrong.{Wrong}
+use Rattle.pipe_why_value.specs.declared.wrong.Wrong.TheVariants as wrong
 
 abbrev text_or_none : Option (List ℕ) → List ℕ
 text_or_none None = []
 text_or_none (Some s) = s
+
+clash : (n : Misfit) → None ≡ Some n → ⊥
+clash n h = cc
+
+last_or_below : (k i : ℕ) → k < i + 1 → (k < i) ⊎ (k ≡ i)
+last_or_below k i h = grind arith
 
 further : {X : Type 0} (f g : X → Option X) (o : Option X) (d e : X) → ((x : X) → f x ≡ Some d → g x ≡ Some e)
     → option_and_then f o ≡ Some d → option_and_then g o ≡ Some e
@@ -67,6 +77,64 @@ part_of_wanted [] root p h = ap value_of h
 part_of_wanted (s ∷ steps) root p h =
     along steps p (wanted_part s root) (part s root.1) (λ q at_q. part_of_wanted steps q p at_q) (λ q at_q. both_second _ (part s root.1) q at_q) h
 
+-- ---- items that were passed
+
+pub passed_further : (steps : List Step) (s : Step) (root p : Want × Data) → wanted_at steps root ≡ Some p → PassGoodItems steps root → Passes s p → PassGoodItems (steps ++ s ∷ []) root
+passed_further [] s root p h good passes =
+    let same : root ≡ p = cc in
+    (subst (Passes s) (sym same) passes, λ q there. tt)
+passed_further (t ∷ steps) s root p h good passes =
+    (good.0, λ q there. passed_further steps s q p (ap (option_and_then (wanted_at steps)) (sym there) ∙ h) (good.1 q there) passes)
+
+passed_front : (n : ℕ) (steps : List Step) (root : Want × Data) → PassGoodItems steps root → PassGoodItems (take n steps) root
+passed_front zero steps root h = tt
+passed_front (suc n) [] root h = tt
+passed_front (suc n) (s ∷ steps) root h = (h.0, λ q there. passed_front n steps q (h.1 q there))
+
+pub passed_above : (above : List Step) (s t : Step) (root : Want × Data) → PassGoodItems above root → PassGoodItems (without_two (above ++ s ∷ t ∷ [])) root
+passed_above above s t root h =
+    let count : length above ≡ length (above ++ s ∷ t ∷ []) - 2 = omega (arith, length-append above (s ∷ t ∷ [])) in
+    subst (λ l. PassGoodItems l root) (sym (take_at above (s ∷ t ∷ []) (length (above ++ s ∷ t ∷ []) - 2) count)) h
+
+-- what is told then is in the first item that is wrong
+pub first_of_items : (wrong : Wrong) (steps : List Step) (root : Want × Data) → PassGoodItems steps root → IsFirstOfItems root wrong steps
+first_of_items (wrong.Other w) steps root h = h
+first_of_items (wrong.Missing name w) steps root h = h
+first_of_items (wrong.Unknown known) steps root h = h
+first_of_items wrong.UnknownForm steps root h = h
+first_of_items (wrong.Members count) steps root h = h
+first_of_items (wrong.Cell t column count) steps root h = h
+first_of_items wrong.Wide steps root h = h
+first_of_items wrong.NoColumns steps root h = h
+first_of_items (wrong.SecondName earlier) steps root h = passed_front (length steps - 2) steps root h
+first_of_items (wrong.Height cells wanted) steps root h = passed_front (length steps - 2) steps root h
+first_of_items (wrong.Frames count) steps root h = h
+first_of_items (wrong.Parts count) steps root h = h
+first_of_items (wrong.Width cells columns) steps root h = h
+
+-- nothing was told before
+pub was_untold : (old new : Option Misfit) → ((m : Misfit) → old ≡ Some m → new ≡ Some m) → new ≡ None → old ≡ None
+was_untold None new kept none = refl
+was_untold (Some m) new kept none = absurd (clash m (sym none ∙ kept m refl))
+
+pub none_before : (p : Want × Data) → AreGoodBefore p 0
+none_before p j h = absurd (omega (arith, h))
+
+at_last : (p : Want × Data) (i j : ℕ) → AreGoodBefore p i → IsGoodItem p i → (j < i) ⊎ (j ≡ i) → IsGoodItem p j
+at_last p i j before here (inl below) = before j below
+at_last p i j before here (inr same) = subst (IsGoodItem p) (sym same) here
+
+pub one_more_good : (p : Want × Data) (i : ℕ) → AreGoodBefore p i → IsGoodItem p i → AreGoodBefore p (i + 1)
+one_more_good p i before here j h = at_last p i j before here (last_or_below j i h)
+
+-- what may stand where something does is all that may
+pub good_part : (s : Step) (p q : Want × Data) → wanted_part s p ≡ Some q → is_wanted q.0 q.1 ≡ true
+    → (r : Want × Data) → wanted_part s p ≡ Some r → is_wanted r.0 r.1 ≡ true
+good_part s p q there good r here =
+    let same : Some r ≡ Some q = sym here ∙ there in
+    let is : r ≡ q = cc in
+    ap (λ (t : Want × Data). is_wanted t.0 t.1) is ∙ good
+
 pub wanted_member : (w v : Want) (d e : Data) (name : List ℕ) → member_wanted w d name ≡ Some v → get name d ≡ Some e → wanted_part (step.Member name) (w, d) ≡ Some (v, e)
 wanted_member w v d e name h k = ap₂ (λ (a : Option Want) (b : Option Data). both a b) h k
 
@@ -100,21 +168,21 @@ pub looked_none : (p : Want × Data) (old new : Walk) → new.steps.items ≡ ol
 looked_none p old new back first = record {
   back = back;
   kept = λ m was. first ∙ was;
-  told = λ root here told. subst (λ f. IfSome f (IsTold root)) (sym first) told;
+  told = λ root here passed told. subst (λ f. IfSome f (IsTold root)) (sym first) told;
 }
 
 pub within_none : (p : Want × Data) (s : Step) (old new : Walk) → new.steps.items ≡ old.steps.items → new.first ≡ old.first → Within p s old new
 within_none p s old new back first = record {
   back = back;
   kept = λ m was. first ∙ was;
-  told = λ root above was here told. subst (λ f. IfSome f (IsTold root)) (sym first) told;
+  told = λ root above was here passed told. subst (λ f. IfSome f (IsTold root)) (sym first) told;
 }
 
 pub noted_none : (wrong : Wrong) (old new : Walk) → new.steps.items ≡ old.steps.items → new.first ≡ old.first → Noted wrong old new
 noted_none wrong old new back first = record {
   back = back;
   kept = λ m was. first ∙ was;
-  told = λ root d here bad own told. subst (λ f. IfSome f (IsTold root)) (sym first) told;
+  told = λ root d here bad own items told. subst (λ f. IfSome f (IsTold root)) (sym first) told;
 }
 
 -- one part after another
@@ -122,16 +190,21 @@ pub looked_twice : (p : Want × Data) (old mid new : Walk) → Looked p old mid 
 looked_twice p old mid new a b = record {
   back = b.back ∙ a.back;
   kept = λ m was. b.kept m (a.kept m was);
-  told = λ root here told. b.told root (ap (λ (s : List Step). wanted_at s root) a.back ∙ here) (a.told root here told);
+  told = λ root here passed told.
+      b.told root (ap (λ (s : List Step). wanted_at s root) a.back ∙ here)
+      (λ none. subst (λ (s : List Step). PassGoodItems s root) (sym a.back) (passed (was_untold old.first mid.first a.kept none)))
+      (a.told root here passed told);
 }
 
 -- a part that stands a step further
-pub within_looked : (s : Step) (p q : Want × Data) (old new : Walk) → wanted_part s p ≡ Some q → Looked q old new → Within p s old new
-within_looked s p q old new there look = record {
+pub within_looked : (s : Step) (p q : Want × Data) (old new : Walk) → wanted_part s p ≡ Some q → (old.first ≡ None → Passes s p) → Looked q old new → Within p s old new
+within_looked s p q old new there passes look = record {
   back = look.back;
   kept = look.kept;
-  told = λ root above was here told.
-      look.told root (ap (λ (t : List Step). wanted_at t root) was ∙ wanted_further above s root p q here there) told;
+  told = λ root above was here passed told.
+      look.told root (ap (λ (t : List Step). wanted_at t root) was ∙ wanted_further above s root p q here there)
+      (λ none. subst (λ (t : List Step). PassGoodItems t root) (sym was) (passed_further above s root p here (passed none) (passes none)))
+      told;
 }
 
 -- a part behind a step, and back
@@ -140,15 +213,15 @@ pub looked_behind : (s : Step) (p : Want × Data) (old entered looked new : Walk
 looked_behind s p old entered looked new enter look leave = record {
   back = leave.steps old.steps.items s (look.back ∙ enter.steps);
   kept = λ m was. leave.first ∙ look.kept m (enter.first ∙ was);
-  told = λ root here told.
+  told = λ root here passed told.
       subst (λ f. IfSome f (IsTold root)) (sym leave.first)
-      (look.told root old.steps.items enter.steps here (subst (λ f. IfSome f (IsTold root)) (sym enter.first) told));
+      (look.told root old.steps.items enter.steps here (λ none. passed (sym enter.first ∙ none)) (subst (λ f. IfSome f (IsTold root)) (sym enter.first) told));
 }
 
 pub looked_inside : (s : Step) (p q : Want × Data) (old entered looked new : Walk)
-    → wanted_part s p ≡ Some q → Entered s old entered → Looked q entered looked → Left looked new → Looked p old new
-looked_inside s p q old entered looked new there enter look leave =
-    looked_behind s p old entered looked new enter (within_looked s p q entered looked there look) leave
+    → wanted_part s p ≡ Some q → (old.first ≡ None → Passes s p) → Entered s old entered → Looked q entered looked → Left looked new → Looked p old new
+looked_inside s p q old entered looked new there passes enter look leave =
+    looked_behind s p old entered looked new enter (within_looked s p q entered looked there (λ none. passes (sym enter.first ∙ none)) look) leave
 
 -- something wrong noted where the walk stands, or a step further
 pub noted_here : (p : Want × Data) (wrong : Wrong) (old new : Walk) → Noted wrong old new → IsWrong wrong old.steps.items p.1
@@ -156,37 +229,42 @@ pub noted_here : (p : Want × Data) (wrong : Wrong) (old new : Walk) → Noted w
 noted_here p wrong old new note bad own = record {
   back = note.back;
   kept = note.kept;
-  told = λ root here told. note.told root p.1 (part_of_wanted old.steps.items root p here) bad (own root here) told;
+  told = λ root here passed told.
+      note.told root p.1 (part_of_wanted old.steps.items root p here) bad (own root here) (λ none. first_of_items wrong old.steps.items root (passed none)) told;
 }
 
-pub noted_within : (s : Step) (p : Want × Data) (e : Data) (wrong : Wrong) (old new : Walk) → Noted wrong old new → part s p.1 ≡ Some e
+pub noted_within : (s : Step) (p : Want × Data) (e : Data) (wrong : Wrong) (old new : Walk) → Noted wrong old new → part s p.1 ≡ Some e → (old.first ≡ None → Passes s p)
     → ((above : List Step) → old.steps.items ≡ above ++ s ∷ [] → IsWrong wrong old.steps.items e)
     → ((root : Want × Data) (above : List Step) → old.steps.items ≡ above ++ s ∷ [] → wanted_at above root ≡ Some p → IsOwn root wrong old.steps.items)
     → Within p s old new
-noted_within s p e wrong old new note there bad own = record {
+noted_within s p e wrong old new note there passes bad own = record {
   back = note.back;
   kept = note.kept;
-  told = λ root above was here told.
+  told = λ root above was here passed told.
       note.told root e
       (ap (λ (t : List Step). part_at t root.1) was ∙ one_further above s root.1 p.1 e (part_of_wanted above root p here) there)
-      (bad above was) (own root above was here) told;
+      (bad above was) (own root above was here)
+      (λ none. first_of_items wrong old.steps.items root (subst (λ (t : List Step). PassGoodItems t root) (sym was) (passed_further above s root p here (passed none) (passes none))))
+      told;
 }
 
 -- something wrong noted two steps further
 pub noted_deeper : (s t : Step) (p : Want × Data) (e f : Data) (wrong : Wrong) (old a b n c d : Walk)
     → Entered s old a → Entered t a b → Noted wrong b n → Left n c → Left c d → part s p.1 ≡ Some e → part t e ≡ Some f
     → ((steps : List Step) → IsWrong wrong steps f)
-    → ((root : Want × Data) (above : List Step) → wanted_at above root ≡ Some p → IsOwn root wrong (above ++ s ∷ t ∷ [])) → Looked p old d
-noted_deeper s t p e f wrong old a b n c d one two note leave leave_again there inner bad own = record {
+    → ((root : Want × Data) (above : List Step) → wanted_at above root ≡ Some p → IsOwn root wrong (above ++ s ∷ t ∷ []))
+    → ((root : Want × Data) (above : List Step) → PassGoodItems above root → IsFirstOfItems root wrong (above ++ s ∷ t ∷ [])) → Looked p old d
+noted_deeper s t p e f wrong old a b n c d one two note leave leave_again there inner bad own first = record {
   back = leave_again.steps old.steps.items s (leave.steps a.steps.items t (note.back ∙ two.steps) ∙ one.steps);
   kept = λ m was. leave_again.first ∙ leave.first ∙ note.kept m (two.first ∙ one.first ∙ was);
-  told = λ root here told.
+  told = λ root here passed told.
       let at_a : part_at a.steps.items root.1 ≡ Some e =
       ap (λ (l : List Step). part_at l root.1) one.steps ∙ one_further old.steps.items s root.1 p.1 e (part_of_wanted old.steps.items root p here) there in
       let at_b : part_at b.steps.items root.1 ≡ Some f = ap (λ (l : List Step). part_at l root.1) two.steps ∙ one_further a.steps.items t root.1 e f at_a inner in
       let steps : b.steps.items ≡ old.steps.items ++ s ∷ t ∷ [] = two.steps ∙ ap (λ (l : List Step). l ++ t ∷ []) one.steps ∙ append_assoc old.steps.items (s ∷ []) (t ∷ []) in
       subst (λ g. IfSome g (IsTold root)) (sym (leave_again.first ∙ leave.first))
       (note.told root f at_b (bad b.steps.items) (subst (λ l. IsOwn root wrong l) (sym steps) (own root old.steps.items here))
+      (λ none. subst (λ l. IsFirstOfItems root wrong l) (sym steps) (first root old.steps.items (passed (sym one.first ∙ sym two.first ∙ none))))
       (subst (λ g. IfSome g (IsTold root)) (sym (two.first ∙ one.first)) told));
 }
 
@@ -227,9 +305,6 @@ pub empty : {X : Type 0} (xs : List X) → length xs ≡ 0 → xs ≡ []
 empty [] h = refl
 empty (x ∷ xs) h = absurd (omega (arith, h))
 
-clash : (n : Misfit) → None ≡ Some n → ⊥
-clash n h = cc
-
 -- what is noted where the walk stands
 pub noted : (wrong : Wrong) (m : Misfit) (old new : Walk)
     → m.steps.items ≡ old.steps.items → m.wrong ≡ wrong → new.steps.items ≡ old.steps.items → old.first ≡ None → new.first ≡ Some m
@@ -237,12 +312,13 @@ pub noted : (wrong : Wrong) (m : Misfit) (old new : Walk)
 noted wrong m old new steps same back before first = record {
   back = back;
   kept = λ n was. absurd (clash n (sym before ∙ was));
-  told = λ root d here bad own told. subst (λ f. IfSome f (IsTold root)) (sym first) (
-    d,
-    ap (λ (t : List Step). part_at t root.1) steps ∙ here,
-    subst (λ w. IsWrong w m.steps.items d) (sym same) (subst (λ t. IsWrong wrong t d) (sym steps) bad),
-    subst (λ w. IsOwn root w m.steps.items) (sym same) (subst (λ t. IsOwn root wrong t) (sym steps) own),
-  );
+  told = λ root d here bad own items told. subst (λ f. IfSome f (IsTold root)) (sym first) (record {
+    value = d;
+    stands = ap (λ (t : List Step). part_at t root.1) steps ∙ here;
+    wrong = subst (λ w. IsWrong w m.steps.items d) (sym same) (subst (λ t. IsWrong wrong t d) (sym steps) bad);
+    own = subst (λ w. IsOwn root w m.steps.items) (sym same) (subst (λ t. IsOwn root wrong t) (sym steps) own);
+    first = subst (λ w. IsFirstOfItems root w m.steps.items) (sym same) (subst (λ t. IsFirstOfItems root wrong t) (sym steps) (items before));
+  });
 }
 
 -- the members of a table are among its members
@@ -264,10 +340,35 @@ pub member_by_slice : (known : List (Bor (List ℕ) × Want)) (table : List (Lis
     → members_in known ≡ table → i < length known → HasMember table (plain (slice_index_or known i other))
 member_by_slice known table i other is h = subst (λ (t : List (List ℕ × Want)). HasMember t (plain (slice_index_or known i other))) is (among_slice known i other h)
 
--- a bad cell is the first one, or an earlier one is
-pub bad_found : (t : DataType) (d : Data) (row : ℕ) (old : Option ℕ) → IsBadCell t d row → IfSome old (IsBadCell t d) → IfSome (option_or old (Some row)) (IsBadCell t d)
-bad_found t d row None bad were = bad
-bad_found t d row (Some n) bad were = were
+-- a further cell, which is bad or isn't
+pub bad_found : (t : DataType) (d : Data) (row : ℕ) (old : Option ℕ) → IsBadCell t d row → IsFirstBad t d row old → IsFirstBad t d (row + 1) (option_or old (Some row))
+bad_found t d row None bad before = (bad, before)
+bad_found t d row (Some n) bad first = first
+
+one_more_cell : (t : DataType) (d : Data) (row j : ℕ) → AreCellsBefore t d row → is_cell t (slice_index_or (elements d) row null) ≡ true
+    → (j < row) ⊎ (j ≡ row) → is_cell t (slice_index_or (elements d) j null) ≡ true
+one_more_cell t d row j before here (inl below) = before j below
+one_more_cell t d row j before here (inr same) = ap (λ (k : ℕ). is_cell t (slice_index_or (elements d) k null)) same ∙ here
+
+pub none_found : (t : DataType) (d : Data) (row : ℕ) (old : Option ℕ) → is_cell t (slice_index_or (elements d) row null) ≡ true → IsFirstBad t d row old → IsFirstBad t d (row + 1) old
+none_found t d row None here before = λ j h. one_more_cell t d row j before here (last_or_below j row h)
+none_found t d row (Some n) here first = first
+
+pub none_looked_at : (t : DataType) (d : Data) → AreCellsBefore t d 0
+none_looked_at t d j h = absurd (omega (arith, h))
+
+-- the cells of a column before a place
+pub good_cells : (t : DataType) (d : Data) (row : ℕ) → row < length (elements d) → AreCellsBefore t d row → AreGoodBefore (want.Cells t, d) row
+good_cells t d row inside before j h =
+    good_part (step.Item j) (want.Cells t, d) (want.Cell t, slice_index_or (elements d) j null)
+    (wanted_item (want.Cells t) (want.Cell t) d (slice_index_or (elements d) j null) j refl (item_there d j (omega (arith, inside, h)))) (before j h)
+
+-- nothing is said of the cells of an edit's row
+nothing_wanted : (b : Option Data) (q : Want × Data) → both None b ≡ Some q → ⊥
+nothing_wanted b q h = cc
+
+pub row_cells : (d : Data) (place : ℕ) → AreGoodBefore (want.Foreign foreign.Row, d) place
+row_cells d place j h q there = absurd (nothing_wanted (at j d) q there)
 
 -- taking the last step back leaves those before it
 pub left_steps : (steps : List Step) (s : Step) (old new : List Step) → new ≡ take (length old - 1) old → old ≡ steps ++ s ∷ [] → new ≡ steps
@@ -284,6 +385,15 @@ pub not_single : (ms : List (String Global × Value)) → (length ms ≡ 1 → �
 not_single [] h = refl
 not_single (m ∷ []) h = absurd (h refl)
 not_single (m ∷ n ∷ ms) h = refl
+
+-- what is null or a text is a cell of texts
+pub text_found : (d : Data) → is_some (nullable_text d) ≡ true → is_maybe is_text d ≡ true
+text_found null h = refl
+text_found (boolean b) h = absurd (true≢false (sym h))
+text_found (number n) h = absurd (true≢false (sym h))
+text_found (string s) h = refl
+text_found (array ds) h = absurd (true≢false (sym h))
+text_found (object ms) h = absurd (true≢false (sym h))
 
 -- what is neither null nor a text is no cell of texts
 pub no_text : (d : Data) → nullable_text d ≡ None → is_maybe is_text d ≡ false

@@ -1,5 +1,5 @@
 -- The places of a value, and what is told of one: that something else stands there than may.
-use Rattle.std.specs.Prelude.{◌≡◌, ◌≢◌, ◌<◌, ◌⊎◌, ℕ, List, [], ◌∷◌, ◌++◌, codes, length, slice_index_or, ◌||◌, if◌then◌else◌, is_some, Option, Some, None, option_and_then, Bool, false}
+use Rattle.std.specs.Prelude.{◌≡◌, ◌≢◌, ◌<◌, ◌⊎◌, ℕ, List, [], ◌∷◌, ◌++◌, codes, length, take, ◌-◌, slice_index_or, ◌||◌, if◌then◌else◌, is_some, Option, Some, None, option_and_then, Bool, true, false}
 use Rattle.serde_json.specs.Data.{Data, null, string}
 use Rattle.serde_json.specs.Find.{at, get}
 use Rattle.pipe_value.specs.Items.{elements}
@@ -8,7 +8,7 @@ use Rattle.pipe_job.specs.Shape.{contains_text, is_cell, is_single, text_in}
 use Rattle.pipe_why_text.specs.declared.steps.Step.{Step}
 use Rattle.pipe_why_text.specs.declared.steps.Step.TheVariants as step
 use Rattle.pipe_why_wants.specs.Members.{HasMember, item_wanted, member_wanted, members_in, members_of, want_in}
-use Rattle.pipe_why_wants.specs.Wanted.{Misspells, form_words}
+use Rattle.pipe_why_wants.specs.Wanted.{Misspells, form_words, is_wanted}
 use Rattle.pipe_why_wants.specs.declared.want.Foreign.TheVariants as foreign
 use Rattle.pipe_why_wants.specs.declared.want.Want.{Want}
 use Rattle.pipe_why_wants.specs.declared.want.Want.TheVariants as want
@@ -61,6 +61,26 @@ wanted_part s p = both (wanted s p) (part s p.1)
 abbrev pub wanted_at : List Step → Want × Data → Option (Want × Data)
 wanted_at [] p = Some p
 wanted_at (s ∷ steps) p = option_and_then (wanted_at steps) (wanted_part s p)
+
+-- ---- what stands before a place
+
+-- what stands at an item spells what may stand there
+abbrev pub IsGoodItem : Want × Data → ℕ → Type 0
+IsGoodItem p i = (q : Want × Data) → wanted_part (step.Item i) p ≡ Some q → is_wanted q.0 q.1 ≡ true
+
+-- so does what stands at each item before a place
+abbrev pub AreGoodBefore : Want × Data → ℕ → Type 0
+AreGoodBefore p i = (j : ℕ) → j < i → IsGoodItem p j
+
+-- a step leads to a member, or to an item before which each spells what may stand there
+abbrev pub Passes : Step → Want × Data → Type 0
+Passes (step.Member name) p = Unit {0}
+Passes (step.Item i) p = AreGoodBefore p i
+
+-- each step does, where something may stand before it
+abbrev pub PassGoodItems : List Step → Want × Data → Type 0
+PassGoodItems [] p = Unit {0}
+PassGoodItems (s ∷ steps) p = Passes s p × ((q : Want × Data) → wanted_part s p ≡ Some q → PassGoodItems steps q)
 
 -- whether a value has a member
 abbrev pub has_member : List ℕ → Data → Bool
@@ -163,8 +183,32 @@ IsOwn root (wrong.Frames count) steps = MayStand root steps (want.Foreign foreig
 IsOwn root (wrong.Parts count) steps = MayStand root steps (want.Foreign foreign.Edit)
 IsOwn root (wrong.Width cells columns) steps = MayStand root steps (want.Foreign foreign.Row)
 
--- a value stands where the steps of what is told lead in the whole, what is told is wrong with it, and what is told to be
--- wanted there is what may stand there
-abbrev pub IsTold : Want × Data → Misfit → Type 0
-IsTold root m =
-    (d : Data) × (part_at m.steps.items root.1 ≡ Some d) × IsWrong m.wrong m.steps.items d × IsOwn root m.wrong m.steps.items
+-- the steps but the last two
+abbrev pub without_two : List Step → List Step
+without_two steps = take (length steps - 2) steps
+
+-- of each array on the way what is told is in the first item that doesn't spell what may stand there; of the names and the
+-- heights of columns, which are looked at behind all columns, it is said of the arrays on the way to these
+abbrev pub IsFirstOfItems : Want × Data → Wrong → List Step → Type 0
+IsFirstOfItems root (wrong.Other w) steps = PassGoodItems steps root
+IsFirstOfItems root (wrong.Missing name w) steps = PassGoodItems steps root
+IsFirstOfItems root (wrong.Unknown known) steps = PassGoodItems steps root
+IsFirstOfItems root wrong.UnknownForm steps = PassGoodItems steps root
+IsFirstOfItems root (wrong.Members count) steps = PassGoodItems steps root
+IsFirstOfItems root (wrong.Cell t column count) steps = PassGoodItems steps root
+IsFirstOfItems root wrong.Wide steps = PassGoodItems steps root
+IsFirstOfItems root wrong.NoColumns steps = PassGoodItems steps root
+IsFirstOfItems root (wrong.SecondName earlier) steps = PassGoodItems (without_two steps) root
+IsFirstOfItems root (wrong.Height cells wanted) steps = PassGoodItems (without_two steps) root
+IsFirstOfItems root (wrong.Frames count) steps = PassGoodItems steps root
+IsFirstOfItems root (wrong.Parts count) steps = PassGoodItems steps root
+IsFirstOfItems root (wrong.Width cells columns) steps = PassGoodItems steps root
+
+-- a value stands where the steps of what is told lead in the whole, what is told is wrong with it, what is told to be wanted
+-- there is what may stand there, and in each array on the way it is in the first item that is wrong
+pub record IsTold (root : Want × Data) (m : Misfit) : Type 0 where
+  pub value : Data
+  pub stands : part_at m.steps.items root.1 ≡ Some value
+  pub wrong : IsWrong m.wrong m.steps.items value
+  pub own : IsOwn root m.wrong m.steps.items
+  pub first : IsFirstOfItems root m.wrong m.steps.items

@@ -1,14 +1,16 @@
 -- What a walk through a value tells, and what a part of it leaves.
-use Rattle.std.specs.Prelude.{◌≡◌, ◌<◌, ℕ, List, [], ◌∷◌, ◌++◌, Option, Some, None, option_and_then, IfSome, String}
+use Rattle.std.specs.Prelude.{◌≡◌, ◌<◌, ℕ, List, [], ◌∷◌, ◌++◌, Option, Some, None, option_and_then, IfSome, String, slice_index_or, true}
 use Rattle.std.specs.BTreeMap.{BTreeMap, get_by_text}
 use Rattle.std.specs.declared.alloc.Global.{Global}
-use Rattle.serde_json.specs.Data.{Data}
+use Rattle.serde_json.specs.Data.{Data, null}
+use Rattle.pipe_value.specs.Items.{elements}
+use Rattle.pipe_job.specs.Shape.{is_cell}
 use Rattle.pipe_frame.specs.declared.data_type.DataType.{DataType}
 use Rattle.pipe_why_text.specs.declared.steps.Step.{Step}
 use Rattle.pipe_why_wants.specs.Members.{beside}
 use Rattle.pipe_why_wants.specs.declared.want.Want.{Want}
 use Rattle.pipe_why_wants.specs.declared.want.Want.TheVariants as want
-use Rattle.pipe_why_value.specs.Places.{IsOwn, IsTold, IsWrong, name_at, part_at, wanted_at}
+use Rattle.pipe_why_value.specs.Places.{IsBadCell, IsFirstOfItems, IsOwn, IsTold, IsWrong, PassGoodItems, name_at, part_at, wanted_at}
 use Rattle.pipe_why_value.specs.declared.looking.MemberWant.{MemberWant}
 use Rattle.pipe_why_value.specs.declared.looking.MemberWant.TheVariants as member
 use Rattle.pipe_why_value.specs.declared.walk.Walk.{Walk}
@@ -19,25 +21,30 @@ use Rattle.pipe_why_value.specs.declared.wrong.Wrong.{Wrong}
 abbrev pub StaysTold : Want × Data → (old new : Walk) → Type 0
 StaysTold root old new = IfSome old.first (IsTold root) → IfSome new.first (IsTold root)
 
+-- as long as nothing is told, the items that were passed on the way are good
+abbrev pub Passed : Want × Data → List Step → Walk → Type 0
+Passed root steps walk = walk.first ≡ None → PassGoodItems steps root
+
 -- a part of a walk that stands at a value, in whose place this may stand, ends where it began, what was told first is
 -- told still, and what is told then is wrong where it is told
 pub record Looked (p : Want × Data) (old new : Walk) : Type 0 where
   pub back : new.steps.items ≡ old.steps.items
   pub kept : (m : Misfit) → old.first ≡ Some m → new.first ≡ Some m
-  pub told : (root : Want × Data) → wanted_at old.steps.items root ≡ Some p → StaysTold root old new
+  pub told : (root : Want × Data) → wanted_at old.steps.items root ≡ Some p → Passed root old.steps.items old → StaysTold root old new
 
 -- so does one that stands a step behind it
 pub record Within (p : Want × Data) (s : Step) (old new : Walk) : Type 0 where
   pub back : new.steps.items ≡ old.steps.items
   pub kept : (m : Misfit) → old.first ≡ Some m → new.first ≡ Some m
-  pub told : (root : Want × Data) (above : List Step) → old.steps.items ≡ above ++ s ∷ [] → wanted_at above root ≡ Some p → StaysTold root old new
+  pub told : (root : Want × Data) (above : List Step) → old.steps.items ≡ above ++ s ∷ [] → wanted_at above root ≡ Some p
+      → Passed root above old → StaysTold root old new
 
 -- something wrong was noted where the walk stands
 pub record Noted (wrong : Wrong) (old new : Walk) : Type 0 where
   pub back : new.steps.items ≡ old.steps.items
   pub kept : (m : Misfit) → old.first ≡ Some m → new.first ≡ Some m
   pub told : (root : Want × Data) (d : Data) → part_at old.steps.items root.1 ≡ Some d → IsWrong wrong old.steps.items d
-      → IsOwn root wrong old.steps.items → StaysTold root old new
+      → IsOwn root wrong old.steps.items → (old.first ≡ None → IsFirstOfItems root wrong old.steps.items) → StaysTold root old new
 
 -- a step was made
 pub record Entered (s : Step) (old new : Walk) : Type 0 where
@@ -48,6 +55,15 @@ pub record Entered (s : Step) (old new : Walk) : Type 0 where
 pub record Left (old new : Walk) : Type 0 where
   pub steps : (steps : List Step) (s : Step) → old.steps.items ≡ steps ++ s ∷ [] → new.steps.items ≡ steps
   pub first : new.first ≡ old.first
+
+-- each cell before a place is one of the type
+abbrev pub AreCellsBefore : DataType → Data → ℕ → Type 0
+AreCellsBefore t d n = (j : ℕ) → j < n → is_cell t (slice_index_or (elements d) j null) ≡ true
+
+-- of the cells before a place the first that is none of the type, if there is one
+abbrev pub IsFirstBad : DataType → Data → ℕ → Option ℕ → Type 0
+IsFirstBad t d n None = AreCellsBefore t d n
+IsFirstBad t d n (Some row) = IsBadCell t d row × AreCellsBefore t d row
 
 -- the names of the columns before a place, each with the place of one
 abbrev pub AreNames : Data → ℕ → BTreeMap (String Global) ℕ → Type 0

@@ -1,11 +1,11 @@
 //! The bad cells of a column.
 
-ghost use Rattle.std.specs.Prelude.{◌≡◌, ◌<◌, ◌≤◌, false, length, IfOk, IfSome, OnOk, slice_index_or};
+ghost use Rattle.std.specs.Prelude.{◌≡◌, ◌+◌, ◌<◌, ◌≤◌, true, false, length, IfOk, OnOk, slice_index_or};
 ghost use Rattle.serde_json.specs.Data.{null};
 ghost use Rattle.pipe_value.specs.Items.{elements};
 ghost use Rattle.pipe_value.specs.View.{view};
 ghost use Rattle.pipe_job.specs.Shape.{is_cell};
-ghost use Rattle.pipe_why_value.specs.Places.{IsBadCell};
+ghost use Rattle.pipe_why_value.specs.Walks.{IsFirstBad};
 
 use pipe_frame::DataType;
 use pipe_value::Value;
@@ -27,8 +27,10 @@ fn is_cell_at(
     row: usize,
 ) -> Result<bool, AllocError>
     requires { row < length (elements (view values.now)) }
-    ensures { IfOk result (λ holds. holds ≡ false
+    ensures no { IfOk result (λ holds. holds ≡ false
         → is_cell dtype (slice_index_or (elements (view values.now)) row null) ≡ false) }
+    ensures yes { IfOk result (λ holds. holds ≡ true
+        → is_cell dtype (slice_index_or (elements (view values.now)) row null) ≡ true) }
 {
     match dtype {
         DataType::String => Ok(values.item_as_nullable_str(row).is_some()),
@@ -49,8 +51,8 @@ impl BadCells {
         row: usize,
     ) -> Result<(), AllocError>
         requires { row < length (elements (view values.now)) }
-        ensures { OnOk result (IfSome self.old.first (IsBadCell dtype (view values.now))
-            → IfSome self.new.first (IsBadCell dtype (view values.now))) }
+        ensures { OnOk result (IsFirstBad dtype (view values.now) row self.old.first
+            → IsFirstBad dtype (view values.now) (row + 1) self.new.first) }
     {
         if is_cell_at(alloc, dtype, values, row)? {
             return Ok(());
@@ -69,7 +71,7 @@ pub(crate) fn bad_cells(
     count: usize,
 ) -> Result<BadCells, AllocError>
     requires { count ≤ length (elements (view values.now)) }
-    ensures { IfOk result (λ bad. IfSome bad.first (IsBadCell dtype (view values.now))) }
+    ensures { IfOk result (λ bad. IsFirstBad dtype (view values.now) count bad.first) }
 {
     let mut bad = BadCells {
         first: None,

@@ -1,10 +1,10 @@
 //! The rows of edits beside the columns of the tables that they edit.
 
-ghost use Rattle.std.specs.Prelude.{◌≡◌, ◌<◌, ◌≤◌, Some, IfOk, IfSome, OnOk, length};
+ghost use Rattle.std.specs.Prelude.{◌≡◌, ◌<◌, ◌≤◌, None, Some, IfOk, IfSome, OnOk, length};
 ghost use Rattle.pipe_value.specs.Items.{elements};
 ghost use Rattle.pipe_value.specs.View.{view};
 ghost use Rattle.pipe_why_wants.specs.Members.{item_wanted};
-ghost use Rattle.pipe_why_value.specs.Places.{IsBadPair};
+ghost use Rattle.pipe_why_value.specs.Places.{AreGoodBefore, IsBadPair, IsGoodItem};
 ghost use Rattle.pipe_why_value.specs.Walks.{Looked};
 
 use crate::walk::{Walk, type_in, word_in};
@@ -180,8 +180,15 @@ fn look_at_word(
     want: Foreign,
 ) -> Result<(), AllocError>
     requires { place < length (elements (view edit.now)) }
-    ensures { OnOk result (item_wanted (Want.Foreign Foreign.Edit) place ≡ Some (Want.Foreign want)
+    ensures looked { OnOk result
+        (item_wanted (Want.Foreign Foreign.Edit) place ≡ Some (Want.Foreign want)
+        → (walk.old.first ≡ None
+        → AreGoodBefore (Want.Foreign Foreign.Edit, view edit.now) place)
         → Looked (Want.Foreign Foreign.Edit, view edit.now) walk.old walk.new) }
+    ensures good { OnOk result
+        (item_wanted (Want.Foreign Foreign.Edit) place ≡ Some (Want.Foreign want)
+        → walk.new.first ≡ None
+        → IsGoodItem (Want.Foreign Foreign.Edit, view edit.now) place) }
 {
     let word = edit.item(walk.alloc, place)?;
     walk.enter_item(place)?;
@@ -193,7 +200,9 @@ fn look_at_word(
 /// Looks at the row of an edit.
 fn look_at_third(walk: &mut Walk, edit: &Value) -> Result<(), AllocError>
     requires { length (elements (view edit.now)) ≡ 3 }
-    ensures { OnOk result (Looked (Want.Foreign Foreign.Edit, view edit.now) walk.old walk.new) }
+    ensures { OnOk result ((walk.old.first ≡ None
+        → AreGoodBefore (Want.Foreign Foreign.Edit, view edit.now) 2)
+        → Looked (Want.Foreign Foreign.Edit, view edit.now) walk.old walk.new) }
 {
     let alloc = walk.alloc;
     let side = edit.item(alloc, 0)?;

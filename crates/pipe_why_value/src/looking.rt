@@ -1,14 +1,15 @@
 //! The walk through a value that should spell a job, or what another command reads, in the order of its text: the first
 //! place at which something else stands than may, and how many further ones there are.
 
-ghost use Rattle.std.specs.Prelude.{◌≡◌, ◌<◌, ◌≤◌, ℕ, Some, None, length, OnOk, string_bytes};
+ghost use Rattle.std.specs.Prelude.{◌≡◌, ◌<◌, ◌≤◌, ℕ, Some, None, true, length, OnOk, string_bytes};
 ghost use Rattle.serde_json.specs.Data.{Data};
 ghost use Rattle.serde_json.specs.Find.{get};
 ghost use Rattle.pipe_value.specs.Items.{elements};
 ghost use Rattle.pipe_value.specs.View.{view};
 ghost use Rattle.pipe_why_text.specs.declared.steps.Step.TheVariants as step;
 ghost use Rattle.pipe_why_wants.specs.Members.{item_wanted, members_in, members_of, type_of, want_in};
-ghost use Rattle.pipe_why_wants.specs.Wanted.{SpellsJob};
+ghost use Rattle.pipe_why_wants.specs.Wanted.{SpellsJob, is_wanted};
+ghost use Rattle.pipe_why_value.specs.Places.{AreGoodBefore, IsGoodItem};
 ghost use Rattle.pipe_why_value.specs.Walks.{IsWantBy, Looked, Within};
 
 use crate::edits::look_at_edit;
@@ -69,6 +70,8 @@ pub(crate) fn look_at(
     depth: usize,
 ) -> Result<(), AllocError>
     ensures looked { OnOk result (Looked (want, view value.now) walk.old walk.new) }
+    ensures good { OnOk result
+        (walk.new.first ≡ None → is_wanted want (view value.now) ≡ true) }
     ensures job { OnOk result
         (walk.new.first ≡ None → want ≡ Want.Job → SpellsJob (view value.now)) }
 {
@@ -393,8 +396,11 @@ fn item(
     depth: usize,
 ) -> Result<(), AllocError>
     requires { i < length (elements (view value.now)) }
-    ensures { OnOk result ((w : Want) → item_wanted w i ≡ Some want
+    ensures looked { OnOk result ((w : Want) → item_wanted w i ≡ Some want
+        → (walk.old.first ≡ None → AreGoodBefore (w, view value.now) i)
         → Looked (w, view value.now) walk.old walk.new) }
+    ensures good { OnOk result ((w : Want) → item_wanted w i ≡ Some want
+        → walk.new.first ≡ None → IsGoodItem (w, view value.now) i) }
 {
     let found = value.item(walk.alloc, i)?;
     walk.enter_item(i)?;

@@ -6,8 +6,8 @@ ghost use Rattle.serde_json.specs.Find.{at, get};
 ghost use Rattle.pipe_value.specs.View.{view};
 ghost use Rattle.pipe_job.specs.Shape.{text_in};
 ghost use Rattle.pipe_why_wants.specs.Members.{HasMember, members_in, members_of, plain, type_of};
-ghost use Rattle.pipe_why_wants.specs.Wanted.{SpellsJob};
-ghost use Rattle.pipe_why_value.specs.Places.{IsOwn, IsWrong, wanted_at};
+ghost use Rattle.pipe_why_wants.specs.Wanted.{SpellsJob, is_wanted};
+ghost use Rattle.pipe_why_value.specs.Places.{AreGoodBefore, IsFirstOfItems, IsOwn, IsWrong, PassGoodItems, wanted_at};
 ghost use Rattle.pipe_why_value.specs.Walks.{Entered, Left, Looked, Noted};
 
 use crate::cells::{BadCells, bad_cells};
@@ -161,6 +161,8 @@ impl Walk {
     /// Takes note of a value that doesn't spell what is wanted, of whose parts nothing was noted.
     pub(crate) fn judge(&mut self, want: Want, value: &Value) -> Result<(), AllocError>
         ensures looked { OnOk result (Looked (want, view value.now) self.old self.new) }
+        ensures good { OnOk result
+            (self.new.first ≡ None → is_wanted want (view value.now) ≡ true) }
         ensures job { OnOk result
             (self.new.first ≡ None → want ≡ Want.Job → SpellsJob (view value.now)) }
     {
@@ -196,6 +198,7 @@ impl Walk {
     /// Takes note of something wrong with an item.
     pub(crate) fn note_item(&mut self, i: usize, wrong: Wrong) -> Result<(), AllocError>
         ensures { OnOk result ((p : Want × Data) (e : Data) → at i p.1 ≡ Some e
+            → (self.old.first ≡ None → AreGoodBefore p i)
             → ((steps : List Step) → IsWrong wrong steps e)
             → ((root : Want × Data) (above : List Step) → wanted_at above root ≡ Some p
             → IsOwn root wrong (above ++ Step.Item i ∷ [])) → Looked p self.old self.new) }
@@ -213,6 +216,8 @@ impl Walk {
             → ((steps : List Step) → IsWrong wrong steps f)
             → ((root : Want × Data) (above : List Step) → wanted_at above root ≡ Some p
             → IsOwn root wrong (above ++ Step.Item i ∷ Step.Member name.now ∷ []))
+            → ((root : Want × Data) (above : List Step) → PassGoodItems above root
+            → IsFirstOfItems root wrong (above ++ Step.Item i ∷ Step.Member name.now ∷ []))
             → Looked p self.old self.new) }
     {
         self.enter_item(i)?;

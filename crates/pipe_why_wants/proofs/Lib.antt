@@ -1,0 +1,2 @@
+-- what spells what is wanted has its shape
+pub mod Shapes

@@ -1,5 +1,5 @@
 -- What may stand at a place of a job: the test of the spelling of each part, by the definitions of the reader of jobs.
-use Rattle.std.specs.Prelude.{◌≡◌, Bool, false, is_some, codes, List, ℕ, [], ◌∷◌, ◌++◌}
+use Rattle.std.specs.Prelude.{◌≡◌, Bool, true, false, is_some, codes, List, ℕ, [], ◌∷◌, ◌++◌}
 use Rattle.serde_json.specs.Data.{Data}
 use Rattle.serde_json.specs.Find.{as_array}
 use Rattle.pipe_job.specs.JobSpelling.{Spells, Task}
@@ -64,6 +64,10 @@ is_wanted want.NamedExprs d = is_list is_named d
 is_wanted want.Pair d = is_pair d
 is_wanted want.Pairs d = is_list is_pair d
 is_wanted (want.Foreign f) d = is_foreign f d
+
+-- the spelling of each that fits has the shape
+abbrev pub HasShape : {X : Type 0} → (Data → Bool) → (X → Data) → (X → Type 0) → Type 0
+HasShape {X = X} shape spell Fits = (x : X) → Fits x → shape (spell x) ≡ true
 
 -- the value spells a job
 abbrev pub SpellsJob : Data → Type 0

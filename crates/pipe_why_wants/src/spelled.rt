@@ -5,7 +5,7 @@ ghost use Rattle.serde_json.specs.Find.{as_array};
 ghost use Rattle.pipe_value.specs.View.{view};
 ghost use Rattle.pipe_job.specs.Kinds.{is_version};
 ghost use Rattle.pipe_job.specs.Shape.{is_cell, is_couple, is_exactly};
-ghost use Rattle.pipe_why_wants.specs.Wanted.{Misspells, SpellsJob, is_wanted};
+ghost use Rattle.pipe_why_wants.specs.Wanted.{HasShape, Misspells, SpellsJob, is_wanted};
 
 use crate::want::{Foreign, Want};
 use pipe_expr::{Expr, JoinCoalesce, JoinType, NamedExpr, RenamePair};
@@ -17,7 +17,9 @@ use std::alloc::{AllocError, Global};
 
 /// Whether a value is read as a `T`.
 fn is_read<T: Spelled>(alloc: Global, value: &Value) -> Result<bool, AllocError>
-    ensures { IfOk result (λ read. read ≡ false → T.shape (view value.now) ≡ false) }
+    requires { HasShape T.shape T.spelling T.fits }
+    ensures no { IfOk result (λ read. read ≡ false → T.shape (view value.now) ≡ false) }
+    ensures yes { IfOk result (λ read. read ≡ true → T.shape (view value.now) ≡ true) }
 {
     match T::read(alloc, value) {
         Ok(read) => {
@@ -31,7 +33,8 @@ fn is_read<T: Spelled>(alloc: Global, value: &Value) -> Result<bool, AllocError>
 
 /// Whether a value is a cell of a type.
 pub fn is_cell(alloc: Global, dtype: DataType, value: &Value) -> Result<bool, AllocError>
-    ensures { IfOk result (λ holds. holds ≡ false → is_cell dtype (view value.now) ≡ false) }
+    ensures no { IfOk result (λ holds. holds ≡ false → is_cell dtype (view value.now) ≡ false) }
+    ensures yes { IfOk result (λ holds. holds ≡ true → is_cell dtype (view value.now) ≡ true) }
 {
     match dtype {
         DataType::Int32 => is_read::<Option<i32>>(alloc, value),
@@ -47,7 +50,8 @@ pub fn is_cell(alloc: Global, dtype: DataType, value: &Value) -> Result<bool, Al
 
 /// Whether a value is the word of a kind of nodes.
 fn is_kind(value: &Value) -> bool
-    ensures { result ≡ false → is_wanted Want.Kind (view value.now) ≡ false }
+    ensures no { result ≡ false → is_wanted Want.Kind (view value.now) ≡ false }
+    ensures yes { result ≡ true → is_wanted Want.Kind (view value.now) ≡ true }
 {
     match value.as_str() {
         Some("DataFrameScan") => true,
@@ -66,7 +70,8 @@ fn is_kind(value: &Value) -> bool
 
 /// Whether a value is the word of a join's kind.
 fn is_join_word(value: &Value) -> bool
-    ensures { result ≡ false → is_wanted (Want.Foreign Foreign.JoinWord) (view value.now) ≡ false }
+    ensures no { result ≡ false → is_wanted (Want.Foreign Foreign.JoinWord) (view value.now) ≡ false }
+    ensures yes { result ≡ true → is_wanted (Want.Foreign Foreign.JoinWord) (view value.now) ≡ true }
 {
     match value.as_str() {
         Some("Join") => true,
@@ -76,7 +81,8 @@ fn is_join_word(value: &Value) -> bool
 
 /// Whether a value is the word of a side.
 fn is_side(value: &Value) -> bool
-    ensures { result ≡ false → is_wanted (Want.Foreign Foreign.Side) (view value.now) ≡ false }
+    ensures no { result ≡ false → is_wanted (Want.Foreign Foreign.Side) (view value.now) ≡ false }
+    ensures yes { result ≡ true → is_wanted (Want.Foreign Foreign.Side) (view value.now) ≡ true }
 {
     match value.as_str() {
         Some("left") => true,
@@ -87,7 +93,8 @@ fn is_side(value: &Value) -> bool
 
 /// Whether a value is the word of what an edit does.
 fn is_word(value: &Value) -> bool
-    ensures { result ≡ false → is_wanted (Want.Foreign Foreign.Word) (view value.now) ≡ false }
+    ensures no { result ≡ false → is_wanted (Want.Foreign Foreign.Word) (view value.now) ≡ false }
+    ensures yes { result ≡ true → is_wanted (Want.Foreign Foreign.Word) (view value.now) ≡ true }
 {
     match value.as_str() {
         Some("insert") => true,
@@ -98,7 +105,8 @@ fn is_word(value: &Value) -> bool
 
 /// Whether a value is the number of a table.
 fn is_table(value: &Value, table: u64) -> bool
-    ensures { result ≡ false → is_exactly table (view value.now) ≡ false }
+    ensures no { result ≡ false → is_exactly table (view value.now) ≡ false }
+    ensures yes { result ≡ true → is_exactly table (view value.now) ≡ true }
 {
     match value.as_u64() {
         Some(n) => n == table,
@@ -108,7 +116,8 @@ fn is_table(value: &Value, table: u64) -> bool
 
 /// Whether a value is the number of a version.
 fn is_version(value: &Value) -> bool
-    ensures { result ≡ false → is_version (view value.now) ≡ false }
+    ensures no { result ≡ false → is_version (view value.now) ≡ false }
+    ensures yes { result ≡ true → is_version (view value.now) ≡ true }
 {
     match value.as_u64() {
         Some(1) => true,
@@ -119,15 +128,19 @@ fn is_version(value: &Value) -> bool
 
 /// Whether a value is an object.
 fn is_object(value: &Value) -> bool
-    ensures { result ≡ false → is_wanted Want.Literal (view value.now) ≡ false }
+    ensures no { result ≡ false → is_wanted Want.Literal (view value.now) ≡ false }
+    ensures yes { result ≡ true → is_wanted Want.Literal (view value.now) ≡ true }
 {
     matches!(value, Value::Object(_))
 }
 
 /// Whether a value spells a job.
+#[tactic(auto, using(crate::proofs::Shapes::job_object))]
 fn is_job(alloc: Global, value: &Value) -> Result<bool, AllocError>
     ensures no { IfOk result (λ holds. holds ≡ false → Misspells Want.Job (view value.now)) }
     ensures yes { IfOk result (λ holds. holds ≡ true → SpellsJob (view value.now)) }
+    ensures object { IfOk result (λ holds.
+        holds ≡ true → is_wanted Want.Job (view value.now) ≡ true) }
 {
     match job_of(alloc, value)? {
         Some(job) => {
@@ -140,7 +153,8 @@ fn is_job(alloc: Global, value: &Value) -> Result<bool, AllocError>
 
 /// Whether a value is an array of two.
 fn is_couple(alloc: Global, value: &Value) -> Result<bool, AllocError>
-    ensures { IfOk result (λ holds. holds ≡ false → is_couple (view value.now) ≡ false) }
+    ensures no { IfOk result (λ holds. holds ≡ false → is_couple (view value.now) ≡ false) }
+    ensures yes { IfOk result (λ holds. holds ≡ true → is_couple (view value.now) ≡ true) }
 {
     match two_items(alloc, value) {
         Ok(_) => Ok(true),
@@ -151,7 +165,8 @@ fn is_couple(alloc: Global, value: &Value) -> Result<bool, AllocError>
 
 /// Whether a value is an array.
 fn is_array(value: &Value) -> Result<bool, AllocError>
-    ensures { IfOk result (λ holds. holds ≡ false → is_some (as_array (view value.now)) ≡ false) }
+    ensures no { IfOk result (λ holds. holds ≡ false → is_some (as_array (view value.now)) ≡ false) }
+    ensures yes { IfOk result (λ holds. holds ≡ true → is_some (as_array (view value.now)) ≡ true) }
 {
     match value.array_len()? {
         Some(_) => Ok(true),
@@ -161,8 +176,10 @@ fn is_array(value: &Value) -> Result<bool, AllocError>
 
 /// Whether a value spells a part of what another command reads.
 fn is_foreign_spelled(alloc: Global, foreign: Foreign, value: &Value) -> Result<bool, AllocError>
-    ensures { IfOk result (λ holds.
+    ensures no { IfOk result (λ holds.
         holds ≡ false → is_wanted (Want.Foreign foreign) (view value.now) ≡ false) }
+    ensures yes { IfOk result (λ holds.
+        holds ≡ true → is_wanted (Want.Foreign foreign) (view value.now) ≡ true) }
 {
     match foreign {
         Foreign::Reconciliation | Foreign::Replay => Ok(is_object(value)),
@@ -181,6 +198,7 @@ fn is_foreign_spelled(alloc: Global, foreign: Foreign, value: &Value) -> Result<
 /// outermost form is looked at.
 pub fn is_spelled(alloc: Global, want: Want, value: &Value) -> Result<bool, AllocError>
     ensures no { IfOk result (λ holds. holds ≡ false → Misspells want (view value.now)) }
+    ensures yes { IfOk result (λ holds. holds ≡ true → is_wanted want (view value.now) ≡ true) }
     ensures job { IfOk result
         (λ holds. holds ≡ true → want ≡ Want.Job → SpellsJob (view value.now)) }
 {

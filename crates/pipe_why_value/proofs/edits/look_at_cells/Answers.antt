@@ -6,7 +6,7 @@ use Rattle.std.specs.Prelude.{IfSome, slice_index_or}
 use Rattle.serde_json.specs.Data.{null}
 use Rattle.pipe_value.specs.Items.{elements}
 use Rattle.pipe_why_value.specs.Places.{IsBadPair}
-use Rattle.pipe_why_value.proofs.Looks.{item_there, on_ok}
+use Rattle.pipe_why_value.proofs.Looks.{item_there, on_ok, row_cells}
 use Rattle.pipe_why_value.proofs.edits.look_at_cells.Goals as goal
 
 pub returns : goal.returns
@@ -15,6 +15,6 @@ returns c =
     let place = c.in-Some.place in
     let bad = subst (λ f. IfSome f (IsBadPair d)) c.in-Some.is c.in_ok-place.ensures in
     on_ok c.note_item.result
-    (λ looked. looked (want.Foreign foreign.Row, d) (slice_index_or (elements d) place null) (item_there d place bad.0) (λ steps. bad.1)
+    (λ looked. looked (want.Foreign foreign.Row, d) (slice_index_or (elements d) place null) (item_there d place bad.0) (λ none. row_cells d place) (λ steps. bad.1)
     (λ root above here. record { above = above; place = place; steps_are = refl; stands = inr (d, here) }))
     c.note_item.ensures

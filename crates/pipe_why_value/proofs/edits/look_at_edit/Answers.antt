@@ -7,15 +7,21 @@ use Rattle.pipe_why_wants.specs.declared.want.Foreign.TheVariants as foreign
 use Rattle.std.specs.Prelude.{MatchOption}
 use Rattle.serde_json.specs.Find.{as_array}
 use Rattle.pipe_value.specs.Items.{IsArrayOf}
-use Rattle.pipe_why_value.proofs.Looks.{looked_twice, noted_here, on_ok}
+use Rattle.pipe_why_value.specs.Places.{AreGoodBefore}
+use Rattle.pipe_why_value.proofs.Looks.{looked_twice, none_before, noted_here, on_ok, one_more_good, was_untold}
 use Rattle.pipe_why_value.proofs.edits.look_at_edit.Goals as goal
 
 pub returns : goal.returns
 returns c =
     let p : Want × Data = (want.Foreign foreign.Edit, view c.args.value.now) in
+    let none : AreGoodBefore p 0 = none_before p in
+    let side = c.in_ok-look_at_word.ensures.looked refl (λ untold. none) in
+    let one : c.look_at_word.new.walk.first ≡ None → AreGoodBefore p 1 = λ untold. one_more_good p 0 none (c.in_ok-look_at_word.ensures.good refl untold) in
+    let word = c.in_ok-look_at_word-2.ensures.looked refl one in
     on_ok c.look_at_third.result
-    (looked_twice p c.args.walk.now c.look_at_word-2.new.walk c.look_at_third.new.walk
-    (looked_twice p c.args.walk.now c.look_at_word.new.walk c.look_at_word-2.new.walk (c.in_ok-look_at_word.ensures refl) (c.in_ok-look_at_word-2.ensures refl)))
+    (λ third. looked_twice p c.args.walk.now c.look_at_word-2.new.walk c.look_at_third.new.walk
+    (looked_twice p c.args.walk.now c.look_at_word.new.walk c.look_at_word-2.new.walk side word)
+    (third (λ untold. one_more_good p 1 (one (was_untold c.look_at_word.new.walk.first c.look_at_word-2.new.walk.first word.kept untold)) (c.in_ok-look_at_word-2.ensures.good refl untold))))
     c.look_at_third.ensures
 
 pub returns-then-count-ne3 : goal.returns-then-count-ne3

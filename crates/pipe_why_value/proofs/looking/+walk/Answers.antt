@@ -15,7 +15,7 @@ use Rattle.pipe_why_wants.specs.declared.want.Want.TheVariants as want
 use Rattle.pipe_why_value.specs.Places.{last_name}
 use Rattle.pipe_why_value.specs.Walks.{IsWantBy}
 use Rattle.pipe_why_value.specs.declared.wrong.Wrong.TheVariants as wrong
-use Rattle.pipe_why_value.proofs.Looks.{couple_first, couple_second, item_there, last_of, list_wanted, looked_behind, looked_inside, looked_none, looked_twice, not_single, noted_here, noted_within, object-view, on_ok, some_none, wanted_by, wanted_item, wanted_member, within_looked, within_none}
+use Rattle.pipe_why_value.proofs.Looks.{couple_first, couple_second, good_part, item_there, last_of, list_wanted, looked_behind, looked_inside, looked_none, looked_twice, none_before, not_single, noted_here, noted_within, object-view, on_ok, one_more_good, some_none, wanted_by, wanted_item, wanted_member, was_untold, within_looked, within_none}
 use Rattle.pipe_why_value.proofs.looking.+walk.Goals as goal
 
 pub array_items-returns-then-count-eq2 : goal.array_items-returns-then-count-eq2
@@ -24,8 +24,10 @@ array_items-returns-then-count-eq2 t c =
     let p : Want × Data = (w, view c.args.value.now) in
     let couple = sym c.couple_wants.ensures ∙ c.in-Some-couple_wants.is in
     on_ok c.item-then-count-eq2.result
-    (λ looked. looked_twice p c.args.walk.now c.item.new.walk c.item-then-count-eq2.new.walk (c.in_ok-item.ensures w (couple_first w _ couple)) (looked w (couple_second w _ couple)))
-    c.item-then-count-eq2.ensures
+    (λ looked. looked_twice p c.args.walk.now c.item.new.walk c.item-then-count-eq2.new.walk
+    (c.in_ok-item.ensures.looked w (couple_first w _ couple) (λ untold. none_before p))
+    (looked w (couple_second w _ couple) (λ untold. one_more_good p 0 (none_before p) (c.in_ok-item.ensures.good w (couple_first w _ couple) untold))))
+    c.item-then-count-eq2.ensures.looked
 
 pub expr-returns-then-len-ne1 : goal.expr-returns-then-len-ne1
 expr-returns-then-len-ne1 t c =
@@ -37,8 +39,25 @@ expr-returns-then-len-ne1 t c =
 pub expr-loop-name-preserved : goal.expr-loop-name-preserved
 expr-loop-name-preserved t c = looked_twice (want.Expr, view c.args.value.now) c.args.walk.now c.loop-name.walk _ c.loop-name.invariant c.in_ok-form_member.ensures
 
+pub items-loop-i-init : goal.items-loop-i-init
+items-loop-i-init t c = λ w may. record {
+  looked = looked_none (w, view c.args.value.now) c.args.walk.now _ refl refl;
+  good = λ untold. none_before (w, view c.args.value.now);
+}
+
 pub items-loop-i-preserved : goal.items-loop-i-preserved
-items-loop-i-preserved t c = λ w may. looked_twice (w, view c.args.value.now) c.args.walk.now c.loop-i.walk _ (c.loop-i.invariant w may) (c.in_ok-item.ensures w (may c.loop-i.i))
+items-loop-i-preserved t c = λ w may.
+    let p : Want × Data = (w, view c.args.value.now) in
+    let i = c.loop-i.i in
+    let before = c.loop-i.invariant w may in
+    let here = c.in_ok-item.ensures.looked w (may i) before.good in
+    record {
+      looked = looked_twice p c.args.walk.now c.loop-i.walk _ before.looked here;
+      good = λ untold. one_more_good p i (before.good (was_untold c.loop-i.walk.first c.item.new.walk.first here.kept untold)) (c.in_ok-item.ensures.good w (may i) untold);
+    }
+
+pub items-returns : goal.items-returns
+items-returns t c = λ w may. (c.loop-i.invariant w may).looked
 
 pub placed_members-loop-placed-preserved : goal.placed_members-loop-placed-preserved
 placed_members-loop-placed-preserved t c = λ w table. looked_twice (w, view c.args.value.now) c.args.walk.now c.loop-placed.walk _ (c.loop-placed.invariant w table) (c.in_ok-member.ensures w table)
@@ -58,7 +77,7 @@ form_value-returns-in-Some t c =
     (λ looked d there.
     let plain : beside (type_of d) w ≡ Some w = subst (λ f. IfSome f (λ v. (u : Option DataType) → beside u v ≡ Some v)) c.in-Some.is c.form.ensures.beside (type_of d) in
     within_looked (step.Member name) (want.Expr, d) (w, e) c.args.walk.now c.look_at.new.walk
-    (wanted_member want.Expr w d e name (ap (option_and_then (beside (type_of d))) (sym c.form.ensures.want ∙ c.in-Some.is) ∙ plain) there) looked)
+    (wanted_member want.Expr w d e name (ap (option_and_then (beside (type_of d))) (sym c.form.ensures.want ∙ c.in-Some.is) ∙ plain) there) (λ untold. tt) looked)
     c.look_at.ensures.looked
 
 pub form_value-returns-in-None : goal.form_value-returns-in-None
@@ -66,21 +85,32 @@ form_value-returns-in-None t c =
     let name = c.args.name.now in
     let none : contains_text form_words name ≡ false = subst (λ f. IfNone f (contains_text form_words name ≡ false)) c.in-None.is c.form.ensures.none in
     on_ok c.note.result
-    (λ noted d there. noted_within (step.Member name) (want.Expr, d) (view c.args.value.now) wrong.UnknownForm c.args.walk.now c.note.new.self noted there
+    (λ noted d there. noted_within (step.Member name) (want.Expr, d) (view c.args.value.now) wrong.UnknownForm c.args.walk.now c.note.new.self noted there (λ untold. tt)
     (λ above was. ap (contains_text form_words) (ap last_name was ∙ last_of above name) ∙ none)
     (λ root above was here. (above, name, was, (d, here))))
     c.note.ensures.noted
 
-pub item-returns : goal.item-returns
-item-returns t c = λ w may.
+pub item-returns-clause-looked : goal.item-returns-clause-looked
+item-returns-clause-looked t c = λ w may good.
     let d = view c.args.value.now in
     let e = view c.value.result.now in
     looked_inside (step.Item c.args.i) (w, d) (c.args.want, e) c.args.walk.now c.enter_item.new.self c.look_at.new.walk c.leave.new.self
     (wanted_item w c.args.want d e c.args.i may (item_there d c.args.i c.requires ∙ ap Some (sym (c.value.ensures ∙ c.in_ok-found.ensures))))
-    c.in_ok-enter_item.ensures c.in_ok-look_at.ensures.looked c.leave.ensures
+    good c.in_ok-enter_item.ensures c.in_ok-look_at.ensures.looked c.leave.ensures
+
+pub item-returns-clause-good : goal.item-returns-clause-good
+item-returns-clause-good t c = λ w may untold.
+    let d = view c.args.value.now in
+    let e = view c.value.result.now in
+    good_part (step.Item c.args.i) (w, d) (c.args.want, e)
+    (wanted_item w c.args.want d e c.args.i may (item_there d c.args.i c.requires ∙ ap Some (sym (c.value.ensures ∙ c.in_ok-found.ensures))))
+    (c.in_ok-look_at.ensures.good (sym c.leave.ensures.first ∙ untold))
 
 pub look_at-returns-then-is_some-clause-job : goal.look_at-returns-then-is_some-clause-job
 look_at-returns-then-is_some-clause-job t c = λ none want. absurd (some_none c.parts.new.walk.first (sym c.is_some.ensures ∙ c.if-is_some.true) none)
+
+pub look_at-returns-then-is_some-clause-good : goal.look_at-returns-then-is_some-clause-good
+look_at-returns-then-is_some-clause-good t c = λ none. absurd (some_none c.parts.new.walk.first (sym c.is_some.ensures ∙ c.if-is_some.true) none)
 
 pub look_at-returns-clause-looked : goal.look_at-returns-clause-looked
 look_at-returns-clause-looked t c =
@@ -102,7 +132,7 @@ member_value-returns-in-Cells t c =
     let said : option_and_then (beside (type_of d)) (want_in known c.as_str.result.now) ≡ Some v = subst (λ r. IsWantBy (want_in known c.as_str.result.now) (type_of d) r) c.in-Cells.is c.member_want.ensures in
     on_ok c.cells.result
     (λ looked w table there.
-    within_looked (step.Member name) (w, d) (v, e) c.args.walk.now c.cells.new.self (wanted_by w v d e known name c.as_str.result.now table c.as_str.ensures.value said there) looked)
+    within_looked (step.Member name) (w, d) (v, e) c.args.walk.now c.cells.new.self (wanted_by w v d e known name c.as_str.result.now table c.as_str.ensures.value said there) (λ untold. tt) looked)
     c.cells.ensures
 
 pub member_value-returns-in-Is : goal.member_value-returns-in-Is
@@ -115,7 +145,7 @@ member_value-returns-in-Is t c =
     let said : option_and_then (beside (type_of d)) (want_in known c.as_str.result.now) ≡ Some v = subst (λ r. IsWantBy (want_in known c.as_str.result.now) (type_of d) r) c.in-Is.is c.member_want.ensures in
     on_ok c.look_at.result
     (λ looked w table there.
-    within_looked (step.Member name) (w, d) (v, e) c.args.walk.now c.look_at.new.walk (wanted_by w v d e known name c.as_str.result.now table c.as_str.ensures.value said there) looked)
+    within_looked (step.Member name) (w, d) (v, e) c.args.walk.now c.look_at.new.walk (wanted_by w v d e known name c.as_str.result.now table c.as_str.ensures.value said there) (λ untold. tt) looked)
     c.look_at.ensures.looked
 
 pub member_value-returns-in-Untold : goal.member_value-returns-in-Untold
@@ -128,7 +158,7 @@ member_value-returns-then-known-gt1 t c =
     let known = members_in c.args.known.now in
     let said : want_in known c.as_str.result.now ≡ None = subst (λ r. IsWantBy (want_in known c.as_str.result.now) (type_of d) r) c.in-Unknown.is c.member_want.ensures in
     on_ok c.note.result
-    (λ noted w table there. noted_within (step.Member name) (w, d) (view c.args.value.now) (wrong.Unknown c.args.known) c.args.walk.now c.note.new.self noted there
+    (λ noted w table there. noted_within (step.Member name) (w, d) (view c.args.value.now) (wrong.Unknown c.args.known) c.args.walk.now c.note.new.self noted there (λ untold. tt)
     (λ above was. ap (want_in known) (ap last_name was ∙ last_of above name ∙ sym c.as_str.ensures.value) ∙ said)
     (λ root above was here. record { above = above; name = name; object = (w, d); steps_are = was; stands = here; table_is = table }))
     c.note.ensures.noted

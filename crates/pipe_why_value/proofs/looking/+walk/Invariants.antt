@@ -1,8 +1,9 @@
-use Rattle.std.proofs.Common.{◌≡◌, ◌+◌, ◌*◌, ℕ, Some}
+use Rattle.std.proofs.Common.{◌≡◌, ◌+◌, ◌*◌, ℕ, Some, None}
 use Rattle.pipe_value.specs.View.{view}
 use Rattle.pipe_why_wants.specs.Members.{item_wanted, members_in, members_of}
 use Rattle.pipe_why_wants.specs.declared.want.Want.{Want}
 use Rattle.pipe_why_wants.specs.declared.want.Want.TheVariants as want
+use Rattle.pipe_why_value.specs.Places.{AreGoodBefore}
 use Rattle.pipe_why_value.specs.Walks.{Looked}
 use Rattle.pipe_why_value.proofs.looking.+walk.Given as goal
 
@@ -52,7 +53,10 @@ abbrev pub decreases-member_value : goal.decreases-member_value
 decreases-member_value l = 20 * l.depth + 11
 
 abbrev pub invariant-items-loop-i : goal.invariant-items-loop-i
-invariant-items-loop-i l = (w : Want) → ((i : ℕ) → item_wanted w i ≡ Some l.want) → Looked (w, view l.value) l.fn.walk l.walk
+invariant-items-loop-i l = (w : Want) → ((i : ℕ) → item_wanted w i ≡ Some l.want) → record {
+  looked : Looked (w, view l.value) l.fn.walk l.walk;
+  good : l.walk.first ≡ None → AreGoodBefore (w, view l.value) l.i;
+}
 
 abbrev pub invariant-placed_members-loop-placed : goal.invariant-placed_members-loop-placed
 invariant-placed_members-loop-placed l = (w : Want) → members_in l.known ≡ members_of w (view l.value) → Looked (w, view l.value) l.fn.walk l.walk

@@ -8,7 +8,7 @@ use Rattle.pipe_value.specs.View.{view}
 use Rattle.pipe_job.specs.Shape.{text_in}
 use Rattle.pipe_why_wants.specs.declared.want.Want.TheVariants as want
 use Rattle.pipe_why_value.specs.Places.{name_at}
-use Rattle.pipe_why_value.proofs.Looks.{item_there, ok_all, on_ok}
+use Rattle.pipe_why_value.proofs.Looks.{item_there, ok_all, on_ok, passed_above}
 use Rattle.pipe_why_value.proofs.Names.{names_kept, names_put}
 use Rattle.pipe_why_value.proofs.table.look_at_name.Goals as goal
 
@@ -33,7 +33,8 @@ returns-in-Some-2-clause-looked c =
       stands = at;
       before = was.0;
       same = was.1 ∙ sym here;
-    }))
+    })
+    (λ root above passed. passed_above above _ _ root passed))
     c.note_at.ensures
 
 pub returns-in-Some-2-clause-names : goal.returns-in-Some-2-clause-names

@@ -14,7 +14,7 @@ returns c =
     let p : Want × Data = (want.Columns, e) in
     let entered = c.enter.new.self in
     looked_inside _ (want.Frame, d) p c.args.walk.now entered c.look_at_heights.new.walk c.leave.new.self
-    (wanted_member want.Frame want.Columns d e (codes "columns") refl (sym c.in-Some.ensures)) c.in_ok-enter.ensures
+    (wanted_member want.Frame want.Columns d e (codes "columns") refl (sym c.in-Some.ensures)) (λ none. tt) c.in_ok-enter.ensures
     (looked_twice p entered c.look_at_names.new.walk c.look_at_heights.new.walk
     (looked_twice p entered c.look_at_count.new.walk c.look_at_names.new.walk c.in_ok-look_at_count.ensures c.in_ok-look_at_names.ensures)
     c.in_ok-look_at_heights.ensures)

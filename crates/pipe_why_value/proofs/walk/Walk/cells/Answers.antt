@@ -3,12 +3,13 @@ use Rattle.pipe_value.specs.View.{view}
 use Rattle.pipe_why_wants.specs.declared.want.Want.{Want}
 use Rattle.pipe_why_wants.specs.declared.want.Want.TheVariants as want
 use Rattle.pipe_why_value.specs.declared.wrong.Wrong.TheVariants as wrong
-use Rattle.std.specs.Prelude.{IfSome, MatchOption, is_some, false, slice_index_or}
+use Rattle.std.specs.Prelude.{MatchOption, is_some, false, slice_index_or}
 use Rattle.serde_json.specs.Find.{as_array}
 use Rattle.serde_json.specs.Data.{Data, null}
 use Rattle.pipe_value.specs.Items.{IsArrayOf, elements}
 use Rattle.pipe_why_value.specs.Places.{IsBadCell}
-use Rattle.pipe_why_value.proofs.Looks.{item_there, looked_none, looked_twice, noted_here, on_ok}
+use Rattle.pipe_why_value.specs.Walks.{AreCellsBefore, IsFirstBad}
+use Rattle.pipe_why_value.proofs.Looks.{good_cells, item_there, looked_none, looked_twice, noted_here, on_ok}
 use Rattle.pipe_why_value.proofs.walk.Walk.cells.Goals as goal
 
 pub returns : goal.returns
@@ -19,9 +20,9 @@ returns c =
     let was = c.in_ok-first.first-is in
     let is = c.in-Some-first.is in
     let found : c.in_ok-first.field-0.first ≡ Some row = cc in
-    let bad : IsBadCell c.args.dtype d row = subst (λ f. IfSome f (IsBadCell c.args.dtype d)) found c.in_ok-first.ensures in
+    let bad : IsBadCell c.args.dtype d row × AreCellsBefore c.args.dtype d row = subst (λ f. IsFirstBad c.args.dtype d c.in-Some.count f) found c.in_ok-first.ensures in
     looked_twice p c.args.self.now c.note_item.new.self _
-    (c.in_ok-note_item.ensures p (slice_index_or (elements d) row null) (item_there d row bad.0) (λ steps. bad.1)
+    (c.in_ok-note_item.ensures p (slice_index_or (elements d) row null) (item_there d row bad.0.0) (λ none. good_cells c.args.dtype d row bad.0.0 bad.1) (λ steps. bad.0.1)
     (λ root above here. record { above = above; place = row; steps_are = refl; stands = inl (d, here) }))
     (looked_none p c.note_item.new.self _ refl refl)
 

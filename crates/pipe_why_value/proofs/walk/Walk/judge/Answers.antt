@@ -16,6 +16,15 @@ returns-then-is_too_wide-clause-looked c =
 pub returns-then-is_too_wide-clause-job : goal.returns-then-is_too_wide-clause-job
 returns-then-is_too_wide-clause-job c = on_ok c.note.result (λ some none want. absurd (some_none c.note.new.self.first some none)) c.note.ensures.some
 
+pub returns-then-is_too_wide-clause-good : goal.returns-then-is_too_wide-clause-good
+returns-then-is_too_wide-clause-good c = on_ok c.note.result (λ some none. absurd (some_none c.note.new.self.first some none)) c.note.ensures.some
+
+pub returns-then-holds-clause-good : goal.returns-then-holds-clause-good
+returns-then-holds-clause-good c = λ none. c.in_ok-holds.ensures.yes c.if-holds.true
+
+pub returns-clause-good : goal.returns-clause-good
+returns-clause-good c = on_ok c.note-2.result (λ some none. absurd (some_none c.note-2.new.self.first some none)) c.note-2.ensures.some
+
 pub returns-then-holds-clause-looked : goal.returns-then-holds-clause-looked
 returns-then-holds-clause-looked c = looked_none (c.args.want, view c.args.value.now) c.args.self.now _ refl refl
 

@@ -1,14 +1,14 @@
-use Rattle.std.proofs.Common.{sym, subst}
+use Rattle.std.proofs.Common.{sym, subst, ◌∙◌}
 use Rattle.pipe_why_text.specs.declared.steps.Step.TheVariants as step
 use Rattle.pipe_why_value.specs.Places.{IsOwn}
 use Rattle.pipe_why_value.proofs.Looks.{looked_behind, noted_within}
 use Rattle.pipe_why_value.proofs.walk.Walk.note_item.Goals as goal
 
 pub returns : goal.returns
-returns c = λ p e there bad own.
+returns c = λ p e there good bad own.
     let s = step.Item c.args.i in
     let entered = c.enter_item.new.self in
     looked_behind s p c.args.self.now entered c.note.new.self c.leave.new.self c.in_ok-enter_item.ensures
-    (noted_within s p e c.args.wrong entered c.note.new.self c.in_ok-note.ensures.noted there (λ above was. bad entered.steps.items)
+    (noted_within s p e c.args.wrong entered c.note.new.self c.in_ok-note.ensures.noted there (λ none. good (sym c.in_ok-enter_item.ensures.first ∙ none)) (λ above was. bad entered.steps.items)
     (λ root above was here. subst (λ t. IsOwn root c.args.wrong t) (sym was) (own root above here)))
     c.leave.ensures
