@@ -2,3 +2,4 @@ pub mod Places
 pub mod Rounds
 pub mod Sources
 pub mod Parts
+pub mod Kept

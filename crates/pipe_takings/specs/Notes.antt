@@ -27,20 +27,23 @@ notes_from worker (entries ∷ lanes) = notes_of worker entries ++ notes_from (s
 abbrev pub entries_in : {O K : Type 0} → Lane O K → List Entry
 entries_in lane = lane.entries.items
 
--- a lane keeps nothing of what it noted
-pub record IsDrained {O K : Type 0} (old new : Lane O K) : Type 0 where
+-- a lane is as it was, but for what it noted
+pub record IsKept {O K : Type 0} (old new : Lane O K) : Type 0 where
   pub stages : new.stages ≡ old.stages
   pub flushers : new.flushers ≡ old.flushers
   pub basin : new.basin ≡ old.basin
   pub seat : new.seat ≡ old.seat
   pub refused : new.refused ≡ old.refused
-  pub entries : new.entries.items ≡ []
 
-abbrev pub AllDrained : {O K : Type 0} → (old new : List (Lane O K)) → Type 0
-AllDrained [] [] = Unit {0}
-AllDrained [] (y ∷ new) = ⊥
-AllDrained (x ∷ old) [] = ⊥
-AllDrained (x ∷ old) (y ∷ new) = IsDrained x y × AllDrained old new
+abbrev pub AllKept : {O K : Type 0} → (old new : List (Lane O K)) → Type 0
+AllKept [] [] = Unit {0}
+AllKept [] (y ∷ new) = ⊥
+AllKept (x ∷ old) [] = ⊥
+AllKept (x ∷ old) (y ∷ new) = IsKept x y × AllKept old new
+
+-- a lane has noted nothing
+abbrev pub HasNothing : {O K : Type 0} → Lane O K → Type 0
+HasNothing lane = lane.entries.items ≡ []
 
 -- ---- what lanes note of what they claim
 

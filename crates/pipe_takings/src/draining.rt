@@ -1,7 +1,8 @@
 //! What lanes noted goes into one list, lane after lane.
 
 ghost use Rattle.std.specs.Prelude.{◌≡◌, ◌+◌, ◌≤◌, ◌++◌, length, map, OnOk};
-ghost use Rattle.pipe_takings.specs.Notes.{entries_in, notes_of, notes_from, IsDrained, AllDrained};
+ghost use Rattle.std.specs.List.{AllByRecursion};
+ghost use Rattle.pipe_takings.specs.Notes.{entries_in, notes_of, notes_from, IsKept, AllKept, HasNothing};
 
 use crate::note::Note;
 use pipe_run::Lane;
@@ -15,7 +16,8 @@ fn drain_lane<O, K>(
 ) -> Result<(), AllocError>
     ensures notes { OnOk result (notes.new.items
         ≡ notes.old.items ++ notes_of worker lane.old.entries.items) }
-    ensures drained { OnOk result (IsDrained lane.old lane.new) }
+    ensures kept { IsKept lane.old lane.new }
+    ensures none { OnOk result (HasNothing lane.new) }
 {
     for entry in lane.entries.as_slice() {
         notes.push(Note {
@@ -28,6 +30,7 @@ fn drain_lane<O, K>(
 }
 
 /// What lanes noted goes behind other notes, where the first of them has a place among more.
+#[tactic(auto, using(crate::proofs::Kept::kept_head))]
 fn drain_from<O, K>(
     lanes: &mut [Lane<O, K>],
     worker: u32,
@@ -36,12 +39,15 @@ fn drain_from<O, K>(
     requires few { worker + length lanes.old ≤ 256 }
     ensures notes { OnOk result (notes.new.items
         ≡ notes.old.items ++ notes_from worker (map entries_in lanes.old)) }
-    ensures drained { OnOk result (AllDrained lanes.old lanes.new) }
+    ensures kept { AllKept lanes.old lanes.new }
+    ensures none { OnOk result (AllByRecursion HasNothing lanes.new) }
 {
     let Some((lane, others)) = lanes.split_first_mut() else {
         return Ok(());
     };
-    drain_lane(lane, worker, notes)?;
+    let Ok(()) = drain_lane(lane, worker, notes) else {
+        return Err(AllocError);
+    };
     drain_from(others, worker + 1, notes)
 }
 
@@ -51,7 +57,8 @@ pub fn drain_notes<O, K>(lanes: &mut [Lane<O, K>], notes: &mut Vec<Note>) -> Res
     requires few { length lanes.old ≤ 256 }
     ensures notes { OnOk result (notes.new.items
         ≡ notes.old.items ++ notes_from 0 (map entries_in lanes.old)) }
-    ensures drained { OnOk result (AllDrained lanes.old lanes.new) }
+    ensures kept { AllKept lanes.old lanes.new }
+    ensures none { OnOk result (AllByRecursion HasNothing lanes.new) }
 {
     drain_from(lanes, 0, notes)
 }

@@ -7,7 +7,9 @@
 mod draining;
 mod laws;
 mod note;
+mod noting;
 
 pub use draining::drain_notes;
 pub use laws::{joins_are_flushed, sources_are_taken};
 pub use note::Note;
+pub use noting::{noted_flush, noted_round};
