@@ -59,7 +59,7 @@ fn node_frame(plan: &CheckedPlan, n: u32, node: &IR) -> Result<DataFrame, AllocE
     }
 }
 
-/// The source of a scan that has no more than the rows that are left for it.
+/// The source of a scan that has no more than the rows that are left for it. Its chunks share its memory.
 fn source_at(plan: &CheckedPlan, n: u32, rows_left: &mut u64) -> Result<DataFrameSource, AllocError>
     requires under { IsUnder plan.now n }
     requires scan { is_scan_at (nodes_in plan.now) n ≡ true }
@@ -72,7 +72,8 @@ fn source_at(plan: &CheckedPlan, n: u32, rows_left: &mut u64) -> Result<DataFram
         return Err(AllocError);
     }
     *rows_left -= rows;
-    Ok(DataFrameSource::from_df(frame))
+    let shared = frame.shared()?;
+    Ok(DataFrameSource::from_df(shared))
 }
 
 /// The sources of scans, one after another. More than 32 bits count, of scans or twice of rows, is want of memory.

@@ -8,4 +8,4 @@ node_frame-requires-clause-scan c = ap is_scan c.numbered.ensures ∙ c.requires
 pub returns-clause-source : goal.returns-clause-source
 returns-clause-source c =
     let made = c.in_ok-frame.ensures in
-    rw c.from_df.ensures (record { whole = refl; gives_output = made.gives_output; rows = made.rows })
+    rw c.from_df.ensures (rw c.in_ok-shared.ensures (record { whole = refl; gives_output = made.gives_output; rows = made.rows }))
