@@ -3,3 +3,4 @@ pub mod Rounds
 pub mod Sources
 pub mod Parts
 pub mod Kept
+pub mod GoingOn

@@ -9,7 +9,7 @@ use Rattle.pipe_words.proofs.SumLemmas.{total-append}
 use Rattle.pipe_words.proofs.OnceLemmas.{one_draw, no_draw}
 use Rattle.pipe_events.specs.Stages.{Stages}
 use Rattle.pipe_events.specs.Worlds as worlds
-use Rattle.pipe_events.specs.Worlds.{Event, count}
+use Rattle.pipe_events.specs.Worlds.{count}
 use Rattle.pipe_schedules.specs.Rounds.{Flushed, part_in, flushing, IsPart}
 use Rattle.pipe_journal.specs.Runs.{AreAllParts}
 use Rattle.pipe_journal.proofs.Members.{either}

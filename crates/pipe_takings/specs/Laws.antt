@@ -1,14 +1,28 @@
 -- Rounds of lanes as events: a source that went through them was taken, and a join flushed.
-use Rattle.std.specs.Prelude.{◌≡◌, ℕ, ◌<◌, ◌≤◌, List, [], ◌∷◌, length}
+use Rattle.std.specs.Prelude.{◌≡◌, ℕ, ◌<◌, ◌≤◌, List, [], ◌∷◌, ◌++◌, length}
 use Rattle.pipe_ops.specs.Batches.{Left}
 use Rattle.pipe_ops.specs.declared.source.Morsel.{Morsel}
 use Rattle.pipe_events.specs.Stages.{Stages}
 use Rattle.pipe_events.specs.Worlds.{Close, OfProbe}
 use Rattle.pipe_journal.specs.Runs.{SourcesTaken, IsFlushed}
+use Rattle.pipe_run.specs.Claimed.{entries_at}
 use Rattle.pipe_run.specs.declared.entry.Entry.{Entry}
 use Rattle.pipe_takings.specs.declared.note.Note.{Note}
 use Rattle.pipe_takings.specs.Notes.{events_of, notes_from, AreNoted, entries_of_parts}
-use Rattle.pipe_takings.specs.Rounds.{rows_left, Gives, AreNotedInTurn, AreSupplied}
+use Rattle.pipe_takings.specs.Noted.{IsNotedSince}
+use Rattle.pipe_takings.specs.Rounds.{rows_left, Gives, AreNotedInTurn, AreNotedBehind, AreSupplied}
+
+-- Before the first round nothing was noted behind older notes
+abbrev pub NotesBegin : Type 0
+NotesBegin = (workers : ℕ) (old : List Note) → AreNotedBehind workers [] old old
+
+-- What a further round noted stands behind the notes of those before it
+abbrev pub NotesGoOn : Type 0
+NotesGoOn =
+    (workers : ℕ) (batches : List (List Morsel)) (ms : List Morsel) (old now new : List Note)
+    → AreNotedBehind workers batches old now
+    → IsNotedSince workers (length ms) (entries_at ms) now new
+    → AreNotedBehind workers (batches ++ ms ∷ []) old new
 
 -- Where the chunks of a source went through rounds of lanes until it was out, what these noted, round
 -- after round, are takes of its nodes, one node after the other: each position once

@@ -42,6 +42,13 @@ AreNotedInTurn workers [] notes = notes ≡ []
 AreNotedInTurn workers (ms ∷ batches) notes =
     IsNotedFirst workers ms (AreNotedInTurn workers batches) notes
 
+-- and they stand behind older notes
+pub record AreNotedBehind (workers : ℕ) (batches : List (List Morsel)) (old new : List Note) : Type 0
+  where
+    pub since : List Note
+    pub whole : new ≡ old ++ since
+    pub noted : AreNotedInTurn workers batches since
+
 -- frames from their first row on, each with as many rows as its node has positions
 abbrev pub AreSupplied : Stages → List ℕ → List Left → Type 0
 AreSupplied plan [] [] = Unit {0}

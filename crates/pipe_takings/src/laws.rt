@@ -1,6 +1,16 @@
 //! The laws of what lanes noted.
 
-ghost use Rattle.pipe_takings.specs.Laws.{SourcesAreTaken, JoinsAreFlushed};
+ghost use Rattle.pipe_takings.specs.Laws.{NotesBegin, NotesGoOn, SourcesAreTaken, JoinsAreFlushed};
+
+/// Before the first round nothing is noted.
+pub fn notes_begin()
+    ensures { NotesBegin }
+{}
+
+/// What a further round noted stands behind what those before it did.
+pub fn notes_go_on()
+    ensures { NotesGoOn }
+{}
 
 /// Where the chunks of a source went through rounds of lanes until it was out, what they noted, round after round and in
 /// each lane after lane, are takes of the nodes whose rows the source has: one node after the other, each position once.

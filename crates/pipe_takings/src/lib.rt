@@ -10,6 +10,6 @@ mod note;
 mod noting;
 
 pub use draining::drain_notes;
-pub use laws::{joins_are_flushed, sources_are_taken};
+pub use laws::{joins_are_flushed, notes_begin, notes_go_on, sources_are_taken};
 pub use note::Note;
 pub use noting::{noted_flush, noted_round};
