@@ -4,6 +4,7 @@ use Rattle.std.specs.List.{flat_map}
 use Rattle.pipe_frame.specs.Rows.{Row, Same}
 use Rattle.pipe_frame.specs.Weights.{total}
 use Rattle.pipe_frame.proofs.Weights.{SameBag, total-append, total-flat_map, total-same, SameBag-from_rows, Same-from_bag, SameBag-pieces}
+use Rattle.pipe_chain.specs.Counts.{counts_of}
 use Rattle.pipe_chain.specs.Keys.{SameKeys}
 use Rattle.pipe_chain.specs.Flow.{Work, Acts, made, Flows}
 use Rattle.pipe_chain.proofs.Weighing.{keys-trans, asks-same}
@@ -12,7 +13,7 @@ use Rattle.pipe_legs.specs.Ways.{one, occurs, IsSound}
 use Rattle.pipe_legs.proofs.Tests.{by_test, eq-is, eq-true, eq-false, eq-not, some-left}
 use Rattle.pipe_legs.proofs.Totals.{comes_add, comes_none, comes_same}
 use Rattle.pipe_driver.specs.State.{AreAlike, spread}
-use Rattle.pipe_along.specs.Along.{MakesOf, AllMakeOf, more_of, come_to, AllMarked}
+use Rattle.pipe_along.specs.Along.{MakesOf, AllMakeOf, more_of, come_to, AllMarked, counted_at}
 use Rattle.pipe_along.specs.Laws.{Arrived}
 
 -- ---- a chain's nodes are different
@@ -189,6 +190,42 @@ marked m there n s (op ∷ ops) (w ∷ ws) (a ∷ acts) rows out are none makes 
       marked m there op s ops ws acts (made w a.won rows) out are.2 (first_apart m s op ops are) makes.1 flows.1 (λ f. holds_next f m there n s op ops w ws a acts rows none (holds f)),
     )
 
+-- ---- how many
+
+abbrev one_each : Row → ℕ
+one_each row = 1
+
+pub ones : (rows : List Row) → total one_each rows ≡ length rows
+ones [] = refl
+ones (row ∷ rows) = let r = ones rows in omega arith
+
+-- as many rows
+pub same_many : (a b : List Row) → SameBag a b → length a ≡ length b
+same_many a b same = sym (ones a) ∙ same.sums one_each ∙ ones b
+
+-- as many rows in all
+pub both_many : (a b : List Row) → length (a ++ b) ≡ length a + length b
+both_many [] b = omega arith
+both_many (row ∷ a) b = let r = both_many a b in omega arith
+
+where_many : (b : Bool) (rows : List Row) → total one_each (rows_where b rows) ≡ cond b (length rows) 0
+where_many true rows = ones rows
+where_many false rows = refl
+
+came_many : (n s t : ℕ) (ops : List ℕ) (ws : List Work) (acts : List Acts) (rows out : List Row) (m : Meaning) → AllMakeOf m ops ws → Flows ws acts rows out → total one_each (came (OutOf t) n ops ws acts s rows) ≡ counted_at t (n ∷ ops) (counts_of ws acts rows)
+came_many n s t [] [] [] rows out m makes flows =
+    let a = total-append one_each (rows_where (n == t) rows) [] in
+    let b = where_many (n == t) rows in omega arith
+came_many n s t [] [] (a ∷ acts) rows out m makes flows = absurd flows
+came_many n s t [] (w ∷ ws) acts rows out m makes flows = absurd makes
+came_many n s t (op ∷ ops) [] acts rows out m makes flows = absurd makes
+came_many n s t (op ∷ ops) (w ∷ ws) [] rows out m makes flows = absurd flows
+came_many n s t (op ∷ ops) (w ∷ ws) (a ∷ acts) rows out m makes flows =
+    let more = made w a.won rows in
+    let e = total-append one_each (rows_where (n == t) rows) (came (OutOf t) op ops ws acts s more) in
+    let b = where_many (n == t) rows in
+    let r = came_many op s t ops ws acts more out m makes.1 flows.1 in omega arith
+
 -- ---- all of it
 
 pub arrived : (m : Meaning) (n s : ℕ) (ops : List ℕ) (ws : List Work) (acts : List Acts) (rows out : List Row) → IsSound m → m.above n ≡ ops → m.above_sink n ≡ s → AreAlike m s ops → AllMakeOf m ops ws → Flows ws acts rows out
@@ -205,4 +242,5 @@ arrived m n s ops ws acts rows out sound above above_sink are makes flows =
       elsewhere = λ t ne. record { sums = λ f. sym (came_elsewhere f n s t ops ws acts rows ne) ∙ all f (Into t) };
       apart = λ t ne off. record { sums = λ f. sym (came_apart f n s t ops ws acts rows ne off) ∙ all f (OutOf t) };
       marked = marked m (come_to m n rows more) n s ops ws acts rows out are none makes flows (λ f t on. sym (all f (OutOf t)));
+      counted = λ t. sym (came_many n s t ops ws acts rows out m makes flows) ∙ all one_each (OutOf t) ∙ ones (come_to m n rows more (OutOf t));
     }

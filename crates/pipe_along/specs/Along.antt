@@ -1,5 +1,5 @@
 -- Rows that went along a chain of operators, some of which gave rows for keys besides.
-use Rattle.std.specs.Prelude.{◌≡◌, ℕ, List, [], ◌∷◌, ◌++◌, false, ◌==◌, if◌then◌else◌}
+use Rattle.std.specs.Prelude.{◌≡◌, ℕ, ◌+◌, List, [], ◌∷◌, ◌++◌, false, ◌==◌, if◌then◌else◌}
 use Rattle.std.specs.List.{flat_map}
 use Rattle.pipe_frame.specs.Rows.{Row}
 use Rattle.pipe_frame.proofs.Weights.{SameBag}
@@ -40,3 +40,9 @@ AllMarked there given (n ∷ ops) [] acts = ⊥
 AllMarked there given (n ∷ ops) (w ∷ ws) [] = ⊥
 AllMarked there given (n ∷ ops) (w ∷ ws) (a ∷ acts) =
     SameKeys a.marked (flat_map w.asks (there (OutOf given))) × AllMarked there n ops ws acts
+
+-- what is counted of a node, where nodes and their counts stand beside each other
+abbrev pub counted_at : ℕ → (nodes counts : List ℕ) → ℕ
+counted_at t [] counts = 0
+counted_at t (n ∷ nodes) [] = 0
+counted_at t (n ∷ nodes) (c ∷ counts) = (if n == t then c else 0) + counted_at t nodes counts

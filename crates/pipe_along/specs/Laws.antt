@@ -1,14 +1,15 @@
 -- The laws of rows that go along chains of operators, and of joins over rows in another order.
-use Rattle.std.specs.Prelude.{◌≡◌, ℕ, List, [], Bool}
+use Rattle.std.specs.Prelude.{◌≡◌, ℕ, List, [], ◌∷◌, Bool, length}
 use Rattle.pipe_frame.specs.Rows.{Row}
 use Rattle.pipe_frame.proofs.Weights.{SameBag}
 use Rattle.pipe_expr.specs.Joins.{Join}
 use Rattle.pipe_expr.specs.Shares.{share_by, own_by}
 use Rattle.pipe_expr.specs.declared.join_words.JoinType.{JoinType}
+use Rattle.pipe_chain.specs.Counts.{counts_of}
 use Rattle.pipe_chain.specs.Flow.{Work, Acts, Flows}
 use Rattle.pipe_legs.specs.Meaning.{Meaning, OutOf, Into}
 use Rattle.pipe_legs.specs.Ways.{occurs, IsSound}
-use Rattle.pipe_along.specs.Along.{AllMakeOf, more_of, come_to, AllMarked}
+use Rattle.pipe_along.specs.Along.{AllMakeOf, more_of, come_to, AllMarked, counted_at}
 
 -- rows of node n that flowed through the operators of its chain
 pub record Arrived (m : Meaning) (n s : ℕ) (ops : List ℕ) (ws : List Work) (acts : List Acts)
@@ -21,6 +22,9 @@ pub record Arrived (m : Meaning) (n s : ℕ) (ops : List ℕ) (ws : List Work) (
   pub apart : (t : ℕ) → (n ≡ t → ⊥) → occurs t ops ≡ 0 →
       SameBag [] (come_to m n rows (more_of ops ws acts) (OutOf t))
   pub marked : AllMarked (come_to m n rows (more_of ops ws acts)) n ops ws acts
+  -- what was counted of a node came out of it
+  pub counted : (t : ℕ) → counted_at t (n ∷ ops) (counts_of ws acts rows)
+      ≡ length (come_to m n rows (more_of ops ws acts) (OutOf t))
 
 abbrev pub RowsArrive : Type 0
 RowsArrive =

@@ -3,8 +3,8 @@
 ghost use Rattle.pipe_along.specs.Laws.{RowsArrive, SharesHeedNoOrder, OwnRowsHeedNoOrder};
 
 /// Rows that flowed through the operators of their node's chain came, with what was given for keys, to the places of
-/// the chain: into its sink, and out of each node; and the keys that were marked are those asked for by the rows that
-/// came out of the node before.
+/// the chain: into its sink, and out of each node, as many as were counted of it; and the keys that were marked are those
+/// asked for by the rows that came out of the node before.
 pub fn rows_come_along_chains()
     ensures { RowsArrive }
 {}

@@ -9,3 +9,5 @@ pub mod Drives
 pub mod Fronts
 pub mod FrontSteps
 pub mod Bounds
+pub mod Reached
+pub mod RunNodes

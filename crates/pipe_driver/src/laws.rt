@@ -1,6 +1,7 @@
 //! The laws of a run's steps.
 
-ghost use Rattle.pipe_driver.specs.Within.{RowsStayWithin};
+ghost use Rattle.pipe_driver.specs.Within.{RowsStayWithin, JoinsGiveOwn, RowsAreThere, RunNodesTellAll, RunNodesAreLow};
+ghost use Rattle.pipe_driver.specs.Within.{ChainsAreRun, LegsBeginAtRunNodes};
 ghost use Rattle.pipe_driver.specs.Steps.{BranchesBegin, JoinsAreBuilt, LegsPass, LegsAreCounted, ProbeSidesAreSeen, JoinsAreClosed, SinksAreFed, SinksStayOpen, SinksAreClosed, WaysGoOn, NoneIsOpen, BranchesStart, PlansStart};
 
 /// Before the first of them runs, branches that can be run are all that is left to run.
@@ -73,4 +74,27 @@ pub fn none_is_open()
 /// no more than they have of their own. So a node that gave more rows than a limit has more than that.
 pub fn rows_stay_within()
     ensures { RowsStayWithin }
+{}
+
+/// Joins give no more than they have of their own where each does that no more rows probed than its probe side has.
+pub fn joins_give_own()
+    ensures { JoinsGiveOwn }
+{}
+
+/// Where no branch is left, all rows of each node that is run have come out of it.
+pub fn rows_are_there()
+    ensures { RowsAreThere }
+{}
+
+/// All nodes under the root are within a limit where those are that are run, which are nodes of the plan. Any other is a
+/// scan that a union of scans reads.
+pub fn run_nodes_tell_all()
+    ensures all { RunNodesTellAll }
+    ensures low { RunNodesAreLow }
+{}
+
+/// The nodes that legs begin at are run, and those behind them on their chains, sorts and joins among them.
+pub fn legs_go_through_run_nodes()
+    ensures chains { ChainsAreRun }
+    ensures begin { LegsBeginAtRunNodes }
 {}
