@@ -11,3 +11,4 @@ pub mod Sources
 pub mod Plans
 pub mod Held
 pub mod Agreeing
+pub mod Supplies

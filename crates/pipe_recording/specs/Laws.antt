@@ -1,13 +1,16 @@
 -- The journal of a run, leg by leg, as statements: what each step writes is allowed where it stands,
 -- and beside the state that the step leaves the journal tells what it did before.
-use Rattle.std.specs.Prelude.{◌≡◌, ℕ, ◌<◌, List, [], ◌∷◌, ◌++◌, Bool, true, false, Some}
-use Rattle.pipe_frame.specs.Rows.{Same}
+use Rattle.std.specs.Prelude.{◌≡◌, ℕ, ◌<◌, List, [], ◌∷◌, ◌++◌, Bool, true, false, Some, length}
+use Rattle.pipe_frame.specs.Rows.{Row, Same}
 use Rattle.pipe_plan.specs.Plan.{Plan}
+use Rattle.pipe_plan.specs.Under.{is_under}
+use Rattle.pipe_plan.specs.PlanRows.{rows_of}
 use Rattle.pipe_plan.specs.Faults.{IsWellFormed}
-use Rattle.pipe_events.specs.Stages.{JoinStage, Joined, IsStages, flushes, rows}
+use Rattle.pipe_events.specs.Stages.{JoinStage, Scan, Sort, Joined, IsStages, flushes, rows}
 use Rattle.pipe_events.specs.Worlds.{Event, Side, OfSort, OfBuild, OfProbe, start, side_below}
 use Rattle.pipe_events.specs.Schedules.{AllAllowed, run, IsComplete, FlagsAreMatches}
 use Rattle.pipe_events.specs.PlanStages.{Setting, stage_at, stages_of}
+use Rattle.pipe_journal.specs.Runs.{supply}
 use Rattle.pipe_branches.specs.declared.branch.SinkAt.{SinkAt}
 use Rattle.pipe_legs.specs.Shape.{kind_at}
 use Rattle.pipe_legs.specs.Meaning.{meaning_of}
@@ -31,6 +34,18 @@ LegsTakeTheirSources =
     (plan : Plan) (root n : ℕ) (setting : Setting) → IsWellFormed plan root
     → (meaning_of plan root).is_run n ≡ true → begins_leg (kind_at plan.nodes n) ≡ true
     → held_at (board_of plan root setting) n ≡ may_hold n (stage_at plan root n)
+
+-- a scan and a sort have as many positions as rows
+pub record HasItsSupply (plan : Plan) (root n : ℕ) (setting : Setting) : Type 0 where
+  pub scan : (list : List Row) → stage_at plan root n ≡ Scan list →
+      supply (stages_of plan root setting) n ≡ length (rows_of plan n)
+  pub sort : (input : ℕ) (sorted : List Row → List Row) → stage_at plan root n ≡ Sort input sorted →
+      supply (stages_of plan root setting) n ≡ length (rows_of plan n)
+
+abbrev pub SuppliesAreRows : Type 0
+SuppliesAreRows =
+    (plan : Plan) (root n : ℕ) (setting : Setting) → IsWellFormed plan root
+    → is_under plan.nodes root n ≡ true → HasItsSupply plan root n setting
 
 -- before the first branch runs the empty journal tells what it should
 abbrev pub JournalsStart : Type 0

@@ -1,6 +1,6 @@
 //! The laws of the steps of a run, leg by leg, on what they write.
 
-ghost use Rattle.pipe_recording.specs.Laws.{PlansHaveBoards, LegsTakeTheirSources, WorldsAgree, JournalsStart, BranchesAreNoted, LegsAreNoted, LeavesAreNoted, EndsAreNoted, FeedsAreNoted, OpenSinksAreNoted, ClosesAreNoted, WaysAreNoted, JournalsEnd};
+ghost use Rattle.pipe_recording.specs.Laws.{PlansHaveBoards, LegsTakeTheirSources, SuppliesAreRows, WorldsAgree, JournalsStart, BranchesAreNoted, LegsAreNoted, LeavesAreNoted, EndsAreNoted, FeedsAreNoted, OpenSinksAreNoted, ClosesAreNoted, WaysAreNoted, JournalsEnd};
 
 /// The stages of a well-formed plan and what it means to who runs its legs fit together.
 pub fn plans_have_boards()
@@ -11,6 +11,11 @@ pub fn plans_have_boards()
 /// scans that it reads, in order.
 pub fn legs_take_their_sources()
     ensures { LegsTakeTheirSources }
+{}
+
+/// A scan and a sort have as many positions as their node has rows.
+pub fn supplies_are_rows()
+    ensures { SuppliesAreRows }
 {}
 
 /// Before the first branch runs, nothing was written.

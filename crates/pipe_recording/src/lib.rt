@@ -10,5 +10,5 @@ mod laws;
 pub use laws::{
     branches_are_noted, closes_are_noted, ends_are_noted, feeds_are_noted, journals_end,
     journals_start, leaves_are_noted, legs_are_noted, legs_take_their_sources,
-    open_sinks_are_noted, plans_have_boards, ways_are_noted, worlds_agree,
+    open_sinks_are_noted, plans_have_boards, supplies_are_rows, ways_are_noted, worlds_agree,
 };
