@@ -9,7 +9,7 @@ use Rattle.pipe_why_text.specs.Writing.{Writing}
 use Rattle.pipe_why_text.specs.declared.steps.Step.{Step}
 
 pub begun : (out : String Global) (all : List Step) → Writing out out true all all
-begun out all = record { text = []; bytes = sym (append-nil (string_bytes out)); more = λ t h. h; }
+begun out all = record { text = []; bytes = sym (append-nil (string_bytes out)); more = λ t h. h }
 
 pub one_step : (old mid new : String Global) (is_first : Bool) (s : Step) (left all : List Step)
     → Writing old mid is_first (s ∷ left) all → Appends (IsStepText is_first s) mid new → Writing old new false left all

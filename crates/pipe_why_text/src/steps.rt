@@ -121,12 +121,7 @@ fn push_member(
 }
 
 /// Appends a step.
-fn push_step(
-    alloc: Global,
-    out: &mut String,
-    step: &Step,
-    is_first: bool,
-) -> Result<(), AllocError>
+fn push_step(alloc: Global, out: &mut String, step: &Step, is_first: bool) -> Result<(), AllocError>
     ensures { OnOk result (Appends (IsStepText is_first step.now) out.old out.new) }
 {
     match step {

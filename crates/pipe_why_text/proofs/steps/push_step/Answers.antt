@@ -14,6 +14,10 @@ returns-in-Item c =
 pub returns-in-Member : goal.returns-in-Member
 returns-in-Member c =
     on_ok c.push_member.result
-    (λ wrote. (wrote.0, wrote.1, subst (λ s. IsStepText c.args.is_first s wrote.0) (sym c.in-Member.is)
-    (subst (λ n. IsNameText c.args.is_first n (is_plain n) wrote.0) c.as_str.ensures wrote.2)))
+    (λ wrote. (
+      wrote.0,
+      wrote.1,
+      subst (λ s. IsStepText c.args.is_first s wrote.0) (sym c.in-Member.is)
+          (subst (λ n. IsNameText c.args.is_first n (is_plain n) wrote.0) c.as_str.ensures wrote.2),
+    ))
     c.push_member.ensures

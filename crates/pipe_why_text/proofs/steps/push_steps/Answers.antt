@@ -26,6 +26,8 @@ returns c =
     (omega (arith, c.loop-step-test.false)) c.loop-step.invariant
 
 pub returns-then-is_empty : goal.returns-then-is_empty
-returns-then-is_empty c =
-    (codes "the whole text", c.in_ok-push_str.ensures.bytes,
-    subst (λ all. IsPlaceText all (codes "the whole text")) (none_of c.args.steps.now (sym c.is_empty.ensures ∙ c.if-is_empty.true)) refl)
+returns-then-is_empty c = (
+  codes "the whole text",
+  c.in_ok-push_str.ensures.bytes,
+  subst (λ all. IsPlaceText all (codes "the whole text")) (none_of c.args.steps.now (sym c.is_empty.ensures ∙ c.if-is_empty.true)) refl,
+)
