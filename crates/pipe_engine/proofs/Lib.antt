@@ -23,3 +23,6 @@ pub mod SinkSends
 pub mod Driven
 pub mod SpecFound
 pub mod SourceSends
+pub mod Asked
+pub mod Paces
+pub mod Schemas

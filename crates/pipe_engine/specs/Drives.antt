@@ -1,5 +1,5 @@
 -- What the driver's steps do, for each plan of which the run may be.
-use Rattle.std.specs.Prelude.{◌≡◌, ℕ, ◌<◌, List, [], Option}
+use Rattle.std.specs.Prelude.{◌≡◌, ℕ, ◌<◌, List, [], Option, Some, None}
 use Rattle.pipe_frame.specs.Frame.{Table}
 use Rattle.pipe_frame.specs.Rows.{Same}
 use Rattle.pipe_plan.specs.PlanRows.{rows_of}
@@ -9,13 +9,15 @@ use Rattle.pipe_driver.specs.declared.pipe_line.PipeLine.{PipeLine}
 use Rattle.pipe_driver.specs.declared.run.Run.{Run}
 use Rattle.pipe_driver.specs.declared.run.Fed.{Fed}
 use Rattle.pipe_driver.specs.declared.run.Next.{Next}
+use Rattle.pipe_driver.specs.declared.run.Next.TheVariants as next
 use Rattle.pipe_driver.specs.declared.run.Passing.{Passing}
 use Rattle.pipe_driver.specs.Lines.{counts_as}
-use Rattle.pipe_driver.specs.Runs.{sink_of, Between, Ready, Passes, Feeds, HasLed, HasRun, IsNext, KeepsRoot, HasStopped}
+use Rattle.pipe_driver.specs.Runs.{sink_of, Between, Ready, Passes, Feeds, HasLed, HasRun, IsNext, IsAnswer, KeepsRoot, HasStopped}
 use Rattle.pipe_driver.specs.Fronts.{FedMore, FedOn, HasRunFront, IsOnTheWayBy}
 use Rattle.pipe_driver.specs.Plans.{StandFor}
 use Rattle.pipe_source.specs.declared.phys_source.PhysSource.{PhysSource}
 use Rattle.pipe_engine.specs.Engine.{engine_words}
+use Rattle.pipe_engine.specs.Finished.{IsRootFrame}
 use Rattle.pipe_engine.specs.Known.{Known, words_of, Asked}
 use Rattle.pipe_engine.specs.declared.engine.Engine.{Engine}
 use Rattle.pipe_engine.specs.declared.part.Part.{Part}
@@ -124,9 +126,33 @@ pub record CanRun {H : Type 0} (hash_of : H → List ℕ → ℕ) (run : LineRun
   pub between : Between (words_of hash_of k) k.task run todo
   pub root : 0 < (counts_as k.task run).sinks k.task.m.ordered
 
+-- all branches have run but these
+pub record HasRunTo {H : Type 0} (hash_of : H → List ℕ → ℕ) (old run : LineRun H)
+    (todo : List (Line H)) (answer : Option Table) (k : Known H) : Type 0 where
+  pub sound : IsSound k.task.m
+  pub between : Between (words_of hash_of k) k.task run todo
+  pub root : IsAnswer k.task old run answer
+
 -- the rows of the root
 abbrev pub HasRoot : {H : Type 0} → Table → Known H → Type 0
 HasRoot frame k = Same frame.rows (k.task.m.below k.task.m.ordered)
+
+-- ---- the schema of the answer
+
+-- an answer, where it is there, has the schema of the root's sink
+abbrev pub IsRootAnswer : {H : Type 0} → Option Table → Known H → Type 0
+IsRootAnswer None k = Unit {0}
+IsRootAnswer (Some frame) k = IsRootFrame k.settings frame
+
+abbrev pub IsRootNext : {H : Type 0} → Next PhysSource (Part H) → Known H → Type 0
+IsRootNext (next.GoOn p) k = Unit {0}
+IsRootNext next.Stay k = Unit {0}
+IsRootNext (next.Answer frame) k = IsRootFrame k.settings frame
+
+abbrev pub HasRootSchema : {H : Type 0} → Table → Known H → Type 0
+HasRootSchema frame k = IsRootFrame k.settings frame
+
+-- ---- a plan
 
 -- pipelines stand for the branches of a plan
 pub record ForPlan {H : Type 0} (hash_of : H → List ℕ → ℕ) (run : LineRun H)
@@ -140,3 +166,10 @@ abbrev pub AnswersPlan : {H : Type 0} → (hash_of : H → List ℕ → ℕ) →
 AnswersPlan {H = H} hash_of run pipelines frame =
     (asked : Asked H) → StandFor (engine_words hash_of asked.settings) asked.ask run pipelines
     → Same frame.rows (rows_of asked.ask.plan asked.ask.root)
+
+-- it has the schema of the root's sink
+abbrev pub AnswersSchema : {H : Type 0} → (hash_of : H → List ℕ → ℕ) → LineRun H → List (Line H) →
+    Table → Type 0
+AnswersSchema {H = H} hash_of run pipelines frame =
+    (asked : Asked H) → StandFor (engine_words hash_of asked.settings) asked.ask run pipelines
+    → IsRootFrame asked.settings frame

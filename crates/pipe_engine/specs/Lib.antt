@@ -16,3 +16,7 @@ pub mod Carried
 pub mod Calls
 -- what the driver's steps do
 pub mod Drives
+-- what a stop check was asked
+pub mod Asked
+-- how many rows are taken to a question
+pub mod Paced

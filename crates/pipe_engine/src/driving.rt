@@ -2,8 +2,10 @@
 
 ghost use Rattle.std.specs.Prelude.{◌≡◌, ◌+◌, ◌<◌, [], length, drop, IfOk, OnOk};
 ghost use Rattle.pipe_driver.specs.Tables.{number_at};
+ghost use Rattle.pipe_engine.specs.Asked.{WasAsked, stops};
 ghost use Rattle.pipe_engine.specs.Engine.{IsIdle};
-ghost use Rattle.pipe_engine.specs.Drives.{ForSome, ForEach, CanGo, Led, CanPass, IsLeftAt, Ran, CanClose, ComesNext};
+ghost use Rattle.pipe_engine.specs.Drives.{ForSome, ForEach, CanGo, Led, CanPass, IsLeftAt, Ran, CanClose, ComesNext, IsRootNext};
+ghost use Rattle.pipe_engine.specs.Paced.{TakesPaced, most_of, rows_due_from};
 
 use crate::engine::{PlanLine, PlanRun, Tools};
 use crate::finishing::finish;
@@ -16,6 +18,7 @@ use pipe_ops::FinalizedSink;
 use pipe_rows::KeyHasher;
 use pipe_source::PhysSource;
 use std::alloc::Global;
+use std::collections::VecDeque;
 use std::thread::Threads;
 
 /// The rows of a leg go into its sink, and what is left of the pipeline waits there.
@@ -24,13 +27,17 @@ fn pass<R: Threads + Sync, H: KeyHasher, C: StopCheck, G: Gate + Sync>(
     tools: &Tools<R, G>,
     stop: &mut C,
     run: &mut PlanRun<H>,
-    pipelines: &[PlanLine<H>],
+    pipelines: &VecDeque<PlanLine<H>>,
     current: PlanLine<H>,
 ) -> Result<Passing, RunError>
     requires idle { IsIdle run.old.runner }
-    requires can { ForSome (CanGo H.hash_of run.old current pipelines.now) }
-    ensures { IfOk result (λ leg. ForEach (CanGo H.hash_of run.old current pipelines.now)
-        (Led H.hash_of current run.old run.new pipelines.now leg)) }
+    requires can { ForSome (CanGo H.hash_of run.old current pipelines.now.items) }
+    ensures led { IfOk result (λ leg. ForEach (CanGo H.hash_of run.old current pipelines.now.items)
+        (Led H.hash_of current run.old run.new pipelines.now.items leg)) }
+    ensures asked { WasAsked C.StopCheck 0 stop.old stop.new result }
+    ensures paced { OnOk result (TakesPaced (most_of run.old.runner.context)
+        (rows_due_from current.source) 0 (C.asked stop.old) (C.asked stop.new)) }
+    ensures context { run.new.runner.context ≡ run.old.runner.context }
 {
     let PipeLine {
         start: _,
@@ -61,18 +68,21 @@ fn leave<R: Threads + Sync, H: KeyHasher, C: StopCheck, G: Gate + Sync>(
     tools: &Tools<R, G>,
     stop: &mut C,
     run: &mut PlanRun<H>,
-    pipelines: &[PlanLine<H>],
+    pipelines: &VecDeque<PlanLine<H>>,
     operators: &[u32],
     place: usize,
     at: SinkAt,
 ) -> Result<(), RunError>
     requires there { place < length operators.now }
-    requires can { ForSome (CanPass H.hash_of run.old (drop place operators.now) at pipelines.now) }
+    requires can { ForSome
+        (CanPass H.hash_of run.old (drop place operators.now) at pipelines.now.items) }
     ensures passes { OnOk result (ForEach
-        (CanPass H.hash_of run.old (drop place operators.now) at pipelines.now)
-        (IsLeftAt H.hash_of run.new (drop (place + 1) operators.now) at pipelines.now)) }
+        (CanPass H.hash_of run.old (drop place operators.now) at pipelines.now.items)
+        (IsLeftAt H.hash_of run.new (drop (place + 1) operators.now) at pipelines.now.items)) }
     ensures parked { OnOk result (run.new.parked ≡ run.old.parked) }
     ensures counts { OnOk result (run.new.counts ≡ run.old.counts) }
+    ensures asked { WasAsked C.StopCheck 0 stop.old stop.new result }
+    ensures context { run.new.runner.context ≡ run.old.runner.context }
 {
     let node = operators[place];
     if run.probers.lower(node) == 0 {
@@ -88,13 +98,17 @@ pub(crate) fn feed<R: Threads + Sync, H: KeyHasher, C: StopCheck, G: Gate + Sync
     tools: &Tools<R, G>,
     stop: &mut C,
     run: &mut PlanRun<H>,
-    pipelines: &[PlanLine<H>],
+    pipelines: &VecDeque<PlanLine<H>>,
     current: PlanLine<H>,
 ) -> Result<Fed, RunError>
     requires idle { IsIdle run.old.runner }
-    requires can { ForSome (CanGo H.hash_of run.old current pipelines.now) }
-    ensures { IfOk result (λ fed. ForEach (CanGo H.hash_of run.old current pipelines.now)
-        (Ran H.hash_of current run.old run.new pipelines.now fed)) }
+    requires can { ForSome (CanGo H.hash_of run.old current pipelines.now.items) }
+    ensures ran { IfOk result (λ fed. ForEach (CanGo H.hash_of run.old current pipelines.now.items)
+        (Ran H.hash_of current run.old run.new pipelines.now.items fed)) }
+    ensures asked { WasAsked C.StopCheck 1 stop.old stop.new result }
+    ensures paced { OnOk result (TakesPaced (most_of run.old.runner.context)
+        (rows_due_from current.source) 0 (C.asked stop.old) (C.asked stop.new)) }
+    ensures context { run.new.runner.context ≡ run.old.runner.context }
 {
     let leg = pass(alloc, tools, stop, run, pipelines, current)?;
     leave_all(
@@ -121,16 +135,19 @@ fn leave_all<R: Threads + Sync, H: KeyHasher, C: StopCheck, G: Gate + Sync>(
     tools: &Tools<R, G>,
     stop: &mut C,
     run: &mut PlanRun<H>,
-    pipelines: &[PlanLine<H>],
+    pipelines: &VecDeque<PlanLine<H>>,
     operators: &[u32],
     at: SinkAt,
 ) -> Result<(), RunError>
     requires runs { IsIdle run.old.runner → ⊥ }
-    requires can { ForSome (CanPass H.hash_of run.old operators.now at pipelines.now) }
-    ensures passes { OnOk result (ForEach (CanPass H.hash_of run.old operators.now at pipelines.now)
-        (IsLeftAt H.hash_of run.new [] at pipelines.now)) }
+    requires can { ForSome (CanPass H.hash_of run.old operators.now at pipelines.now.items) }
+    ensures passes { OnOk result (ForEach
+        (CanPass H.hash_of run.old operators.now at pipelines.now.items)
+        (IsLeftAt H.hash_of run.new [] at pipelines.now.items)) }
     ensures parked { OnOk result (run.new.parked ≡ run.old.parked) }
     ensures counts { OnOk result (run.new.counts ≡ run.old.counts) }
+    ensures asked { WasAsked C.StopCheck 0 stop.old stop.new result }
+    ensures context { run.new.runner.context ≡ run.old.runner.context }
 {
     for place in 0..operators.len() {
         leave(alloc, tools, stop, run, pipelines, operators, place, at)?;
@@ -144,13 +161,17 @@ pub(crate) fn close<R: Threads + Sync, H: KeyHasher, G: Gate + Sync>(
     alloc: Global,
     tools: &Tools<R, G>,
     run: &mut PlanRun<H>,
-    pipelines: &[PlanLine<H>],
+    pipelines: &VecDeque<PlanLine<H>>,
     fed: Fed,
 ) -> Result<Next<PhysSource, Part<H>>, RunError>
-    requires can { ForSome (CanClose H.hash_of run.old fed pipelines.now) }
+    requires can { ForSome (CanClose H.hash_of run.old fed pipelines.now.items) }
     requires last { number_at run.old.counts.left.items fed.count ≡ 0 }
-    ensures { IfOk result (λ next. ForEach (CanClose H.hash_of run.old fed pipelines.now)
-        (ComesNext H.hash_of run.old run.new fed pipelines.now next)) }
+    ensures next { IfOk result (λ next. ForEach (CanClose H.hash_of run.old fed pipelines.now.items)
+        (ComesNext H.hash_of run.old run.new fed pipelines.now.items next)) }
+    ensures calm { stops result ≡ 0 }
+    ensures schema { IfOk result (λ next. ForEach
+        (CanClose H.hash_of run.old fed pipelines.now.items) (IsRootNext next)) }
+    ensures context { run.new.runner.context ≡ run.old.runner.context }
 {
     match finish(alloc, tools, &mut run.runner, fed.at)? {
         FinalizedSink::Finished(frame) => Ok(Next::Answer(frame)),

@@ -1,8 +1,12 @@
 //! Front parts of branches, one after another.
 
-ghost use Rattle.std.specs.Prelude.{◌≡◌, [], ◌∷◌, IfOk, OnOk};
+ghost use Rattle.std.specs.Prelude.{◌≡◌, [], ◌∷◌, IfOk, OnOk, Err, true};
+ghost use Rattle.pipe_frame.specs.Counts.{Counts, Rises};
+ghost use Rattle.pipe_engine.specs.Asked.{WasAsked, stops};
 ghost use Rattle.pipe_engine.specs.Engine.{IsIdle};
 ghost use Rattle.pipe_engine.specs.Drives.{ForSome, ForEach, CanGo, Stopped, FedSinks, CanBegin, RanFront, CanRun, HasRoot};
+ghost use Rattle.pipe_engine.specs.Drives.{IsRootAnswer, HasRootSchema};
+ghost use Rattle.pipe_engine.specs.Paced.{TakesPaced, most_of, rows_due_from, rows_due_of};
 
 use crate::driving::{close, feed};
 use crate::engine::{PlanLine, PlanRun, Tools};
@@ -10,6 +14,7 @@ use pipe_driver::{Next, RunError, are_closed, newer};
 use pipe_frame::{DataFrame, Gate, StopCheck};
 use pipe_rows::KeyHasher;
 use std::alloc::Global;
+use std::collections::VecDeque;
 use std::thread::Threads;
 
 /// Runs a pipeline and each one that goes on, up to a sink that isn't closed or that of a build or the root. The
@@ -19,16 +24,23 @@ fn run_way<R: Threads + Sync, H: KeyHasher, C: StopCheck, G: Gate + Sync>(
     tools: &Tools<R, G>,
     stop: &mut C,
     run: &mut PlanRun<H>,
-    pipelines: &[PlanLine<H>],
+    pipelines: &VecDeque<PlanLine<H>>,
     first: PlanLine<H>,
     fed: &mut Vec<u32>,
 ) -> Result<Option<DataFrame>, RunError>
     requires idle { IsIdle run.old.runner }
-    requires can { ForSome (CanGo H.hash_of run.old first pipelines.now) }
-    ensures stopped { IfOk result (λ answer. ForEach (CanGo H.hash_of run.old first pipelines.now)
-        (Stopped H.hash_of run.old run.new pipelines.now answer)) }
-    ensures fed { OnOk result (ForEach (CanGo H.hash_of run.old first pipelines.now)
+    requires can { ForSome (CanGo H.hash_of run.old first pipelines.now.items) }
+    ensures stopped { IfOk result (λ answer. ForEach
+        (CanGo H.hash_of run.old first pipelines.now.items)
+        (Stopped H.hash_of run.old run.new pipelines.now.items answer)) }
+    ensures fed { OnOk result (ForEach (CanGo H.hash_of run.old first pipelines.now.items)
         (FedSinks first run.old run.new fed.old.items fed.new.items)) }
+    ensures schema { IfOk result (λ answer. ForEach
+        (CanGo H.hash_of run.old first pipelines.now.items) (IsRootAnswer answer)) }
+    ensures asked { WasAsked C.StopCheck 1 stop.old stop.new result }
+    ensures paced { OnOk result (TakesPaced (most_of run.old.runner.context)
+        (rows_due_from first.source) 0 (C.asked stop.old) (C.asked stop.new)) }
+    ensures context { run.new.runner.context ≡ run.old.runner.context }
 {
     let mut current = first;
     'ways: loop {
@@ -49,62 +61,74 @@ fn run_way<R: Threads + Sync, H: KeyHasher, C: StopCheck, G: Gate + Sync>(
 
 /// Runs the shortest front part of the branches, the first pipeline among them, such that no later branch feeds a sink
 /// that a branch of the part feeds. The others stay, in order. The answer is there where the root's sink was closed.
+/// `Stopped` where the stop check said yes, after which it isn't asked again; else it said no each time.
 pub fn run_pipeline<R: Threads + Sync, H: KeyHasher, C: StopCheck, G: Gate + Sync>(
     alloc: Global,
     tools: &Tools<R, G>,
     stop: &mut C,
     run: &mut PlanRun<H>,
     first: PlanLine<H>,
-    pipelines: &mut Vec<PlanLine<H>>,
+    pipelines: &mut VecDeque<PlanLine<H>>,
 ) -> Result<Option<DataFrame>, RunError>
     requires can { ForSome (CanBegin H.hash_of run.old (first ∷ pipelines.old.items)) }
     requires parked { run.old.parked.items ≡ [] }
-    ensures { IfOk result (λ answer. ForEach
+    ensures front { IfOk result (λ answer. ForEach
         (CanBegin H.hash_of run.old (first ∷ pipelines.old.items))
         (RanFront H.hash_of (first ∷ pipelines.old.items) run.old run.new pipelines.new.items
         answer)) }
+    ensures schema { IfOk result (λ answer. ForEach
+        (CanBegin H.hash_of run.old (first ∷ pipelines.old.items)) (IsRootAnswer answer)) }
+    ensures asked { OnOk result (Rises (C.asked stop.old) (C.asked stop.new)) }
+    ensures yes { Counts (stops result) (C.yes stop.old) (C.yes stop.new) }
+    ensures last { result ≡ Err RunError.Stopped → C.last_answer stop.new ≡ true }
+    ensures paced { OnOk result (TakesPaced (most_of run.old.runner.context)
+        (rows_due_of (first ∷ pipelines.old.items))
+        (rows_due_of pipelines.new.items) (C.asked stop.old) (C.asked stop.new)) }
+    ensures context { run.new.runner.context ≡ run.old.runner.context }
 {
     let mut fed = Vec::new(alloc);
     let mut answer = None;
     let mut current = first;
     'branches: loop {
-        let more = run_way(
-            alloc,
-            tools,
-            stop,
-            run,
-            pipelines.as_slice(),
-            current,
-            &mut fed,
-        )?;
+        let more = run_way(alloc, tools, stop, run, pipelines, current, &mut fed)?;
         answer = newer(answer, more);
         if are_closed(&run.counts, fed.as_slice()) {
             return Ok(answer);
         }
-        current = pipelines.remove(0);
+        let Some(next) = pipelines.pop_front() else {
+            unreachable!()
+        };
+        current = next;
     }
 }
 
-/// Runs pipelines that stand for the branches of a plan, in order: the rows of the root.
+/// Runs pipelines that stand for the branches of a plan, in order, to the last: the rows of the root. `Stopped` where the
+/// stop check said yes, after which it isn't asked again; else it said no each time.
 pub fn execute_pipeline<R: Threads + Sync, H: KeyHasher, C: StopCheck, G: Gate + Sync>(
     alloc: Global,
     tools: &Tools<R, G>,
     stop: &mut C,
     mut run: PlanRun<H>,
-    mut pipelines: Vec<PlanLine<H>>,
+    pipelines: Vec<PlanLine<H>>,
 ) -> Result<DataFrame, RunError>
     requires can { ForSome (CanRun H.hash_of run pipelines.items) }
     requires parked { run.parked.items ≡ [] }
-    ensures { IfOk result (λ frame. ForEach (CanRun H.hash_of run pipelines.items)
+    ensures root { IfOk result (λ frame. ForEach (CanRun H.hash_of run pipelines.items)
         (HasRoot frame)) }
+    ensures schema { IfOk result (λ frame. ForEach (CanRun H.hash_of run pipelines.items)
+        (HasRootSchema frame)) }
+    ensures asked { OnOk result (Rises (C.asked stop.old) (C.asked stop.new)) }
+    ensures yes { Counts (stops result) (C.yes stop.old) (C.yes stop.new) }
+    ensures last { result ≡ Err RunError.Stopped → C.last_answer stop.new ≡ true }
+    ensures paced { OnOk result (TakesPaced (most_of run.runner.context)
+        (rows_due_of pipelines.items) 0 (C.asked stop.old) (C.asked stop.new)) }
 {
-    'fronts: loop {
-        if pipelines.is_empty() {
-            unreachable!()
-        }
-        let first = pipelines.remove(0);
-        if let Some(frame) = run_pipeline(alloc, tools, stop, &mut run, first, &mut pipelines)? {
-            return Ok(frame);
-        }
+    let mut left = VecDeque::from_vec(pipelines);
+    let mut answer = None;
+    'fronts: while let Some(first) = left.pop_front() {
+        let more = run_pipeline(alloc, tools, stop, &mut run, first, &mut left)?;
+        answer = newer(answer, more);
     }
+    let Some(frame) = answer else { unreachable!() };
+    Ok(frame)
 }

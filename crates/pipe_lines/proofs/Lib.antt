@@ -7,3 +7,5 @@ pub mod SinkLists
 pub mod LegFacts
 pub mod LineFacts
 pub mod Stand
+pub mod Due
+pub mod RootSink

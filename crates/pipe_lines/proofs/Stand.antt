@@ -38,6 +38,7 @@ use Rattle.pipe_lines.specs.Lines.{AreLegsMade, AreLinesOf, HasSourceOf, IsLineO
 use Rattle.pipe_lines.specs.Standing.{ask_in, IsRunFor}
 use Rattle.pipe_lines.specs.declared.layout.Layout.{Layout}
 use Rattle.pipe_lines.proofs.LineFacts.{lines_ways}
+use Rattle.pipe_lines.proofs.RootSink.{root_setting}
 
 -- ---- sources
 
@@ -140,4 +141,5 @@ module _ {H : Type 0} (hash_of : H → List ℕ → ℕ) (plan : Checked) (layou
         stand = stands run bs lines good cut are
             (fits hash_of (layout_settings plan layout) (meaning_in plan) (may_start workers run.runner good is parts some low hasher_is parts_are specs_are nodes_are))
             idle none many sinks probers;
+        root = root_setting plan layout is;
       }

@@ -1,9 +1,13 @@
 //! A plan's pipelines, with what runs them.
 
-ghost use Rattle.std.specs.Prelude.{IfOk};
+ghost use Rattle.std.specs.Prelude.{◌≡◌, IfOk, OnOk, Err, true};
+ghost use Rattle.pipe_frame.specs.Counts.{Counts, Rises};
 ghost use Rattle.pipe_frame.specs.Rows.{Same};
+ghost use Rattle.pipe_convert.specs.Converted.{schema_in};
 ghost use Rattle.pipe_create.specs.Nodes.{rows_in};
-ghost use Rattle.pipe_lines.specs.Standing.{IsRunFor};
+ghost use Rattle.pipe_engine.specs.Asked.{stops};
+ghost use Rattle.pipe_engine.specs.Paced.{TakesPaced, most_of};
+ghost use Rattle.pipe_lines.specs.Standing.{IsRunFor, rows_scanned};
 
 use crate::layout::Layout;
 use crate::pipeline::create_pipelines;
@@ -26,7 +30,8 @@ pub fn create_run<H: KeyHasher>(
     context: PExecutionContext,
     hasher: H,
 ) -> Result<(PlanRun<H>, Vec<PlanLine<H>>), AllocError>
-    ensures { IfOk result (λ r. IsRunFor H.hash_of plan.now r.0 r.1.items) }
+    ensures stand { IfOk result (λ r. IsRunFor H.hash_of plan.now r.0 r.1.items) }
+    ensures context { IfOk result (λ r. r.0.runner.context ≡ context) }
 {
     let _ = plan.root();
     let workers = context.workers;
@@ -53,7 +58,9 @@ pub fn create_run<H: KeyHasher>(
     Ok((run, pipelines))
 }
 
-/// Runs the pipelines of a checked plan: the rows of its root.
+/// Runs the pipelines of a checked plan: the rows of its root, under its schema. To each question of the stop check the
+/// workers take at most four chunks each of the scans under the root. `Stopped` where it said yes, after which it isn't
+/// asked again; else it said no each time.
 pub fn run_branches<R: Threads + Sync, H: KeyHasher, C: StopCheck, G: Gate + Sync>(
     alloc: Global,
     tools: &Tools<R, G>,
@@ -62,7 +69,13 @@ pub fn run_branches<R: Threads + Sync, H: KeyHasher, C: StopCheck, G: Gate + Syn
     context: PExecutionContext,
     hasher: H,
 ) -> Result<DataFrame, RunError>
-    ensures { IfOk result (λ frame. Same frame.rows (rows_in plan.now plan.now.root)) }
+    ensures rows { IfOk result (λ frame. Same frame.rows (rows_in plan.now plan.now.root)) }
+    ensures schema { IfOk result (λ frame. frame.schema ≡ schema_in plan.now plan.now.root) }
+    ensures asked { OnOk result (Rises (C.asked stop.old) (C.asked stop.new)) }
+    ensures yes { Counts (stops result) (C.yes stop.old) (C.yes stop.new) }
+    ensures last { result ≡ Err RunError.Stopped → C.last_answer stop.new ≡ true }
+    ensures paced { OnOk result (TakesPaced (most_of context) (rows_scanned plan.now) 0
+        (C.asked stop.old) (C.asked stop.new)) }
 {
     match create_run(alloc, plan, context, hasher) {
         Ok((run, pipelines)) => execute_branches(alloc, tools, stop, run, pipelines),

@@ -1,9 +1,12 @@
-use Rattle.std.proofs.Common.{List, ℕ, sym, subst}
+use Rattle.std.proofs.Common.{List, ℕ, sym, subst, arith, ◌∙◌}
+use Rattle.pipe_engine.specs.Paced.{most_of}
 use Rattle.pipe_engine.specs.Known.{words_of}
 use Rattle.pipe_driver.specs.Runs.{Passes}
 use Rattle.pipe_engine.proofs.Driven.{leg_runs}
 use Rattle.pipe_engine.proofs.Feeds.{sink_some, has_run}
 use Rattle.pipe_engine.proofs.Mays.{may_end}
+use Rattle.pipe_engine.proofs.Asked.{asked-made, asked-then, asked_passed, asked_passed_then}
+use Rattle.pipe_engine.proofs.Paces.{paced-asked, paced-then}
 use Rattle.pipe_engine.proofs.driving.feed.Goals as goal
 
 pub pass-requires-clause-idle : goal.pass-requires-clause-idle
@@ -16,32 +19,32 @@ pub leave_all-requires-clause-runs : goal.leave_all-requires-clause-runs
 leave_all-requires-clause-runs g c = λ κs lives. (
     let can = c.requires.can in
     let leg = c.in_ok-leg.leg in
-    leg_runs c.pass.new.run.runner leg.operators.items leg.at (c.in_ok-leg.ensures can.k can.is).passes.before)
+    leg_runs c.pass.new.run.runner leg.operators.items leg.at (c.in_ok-leg.ensures.led can.k can.is).passes.before)
 
 pub leave_all-requires-clause-can : goal.leave_all-requires-clause-can
 leave_all-requires-clause-can g c = λ κs lives. (
     let can = c.requires.can in
     let k = can.k in
-    let Q : List ℕ → Type 0 = λ ops. Passes (words_of g.H.KeyHasher.hash_of k) k.task c.pass.new.run ops c.in_ok-leg.leg.at c.args.pipelines.now in
-    record { k = k; is = record { sound = can.is.sound; passes = subst Q (sym c.as_slice.ensures.value) (c.in_ok-leg.ensures k can.is).passes } })
+    let Q : List ℕ → Type 0 = λ ops. Passes (words_of g.H.KeyHasher.hash_of k) k.task c.pass.new.run ops c.in_ok-leg.leg.at c.args.pipelines.now.items in
+    record { k = k; is = record { sound = can.is.sound; passes = subst Q (sym c.as_slice.ensures.value) (c.in_ok-leg.ensures.led k can.is).passes } })
 
 pub lower-left-requires : goal.lower-left-requires
 lower-left-requires g c =
     let can = c.requires.can in
     let k = can.k in
     let leg = c.in_ok-leg.leg in
-    let led = c.in_ok-leg.ensures k can.is in
-    let Q : List ℕ → Type 0 = λ ops. Passes (words_of g.H.KeyHasher.hash_of k) k.task c.pass.new.run ops leg.at c.args.pipelines.now in
+    let led = c.in_ok-leg.ensures.led k can.is in
+    let Q : List ℕ → Type 0 = λ ops. Passes (words_of g.H.KeyHasher.hash_of k) k.task c.pass.new.run ops leg.at c.args.pipelines.now.items in
     let passes = c.in_ok-leave_all.ensures.passes k (record { sound = can.is.sound; passes = subst Q (sym c.as_slice.ensures.value) led.passes }) in
-    record { some = sink_some (words_of g.H.KeyHasher.hash_of k) k.task c.leave_all.new.run leg.at leg.count c.args.pipelines.now passes led.number }
+    record { some = sink_some (words_of g.H.KeyHasher.hash_of k) k.task c.leave_all.new.run leg.at leg.count c.args.pipelines.now.items passes led.number }
 
 pub end_leg-requires-clause-runs : goal.end_leg-requires-clause-runs
 end_leg-requires-clause-runs g c = λ κs lives. (
     let can = c.requires.can in
     let k = can.k in
     let leg = c.in_ok-leg.leg in
-    let Q : List ℕ → Type 0 = λ ops. Passes (words_of g.H.KeyHasher.hash_of k) k.task c.pass.new.run ops leg.at c.args.pipelines.now in
-    let passes = c.in_ok-leave_all.ensures.passes k (record { sound = can.is.sound; passes = subst Q (sym c.as_slice.ensures.value) (c.in_ok-leg.ensures k can.is).passes }) in
+    let Q : List ℕ → Type 0 = λ ops. Passes (words_of g.H.KeyHasher.hash_of k) k.task c.pass.new.run ops leg.at c.args.pipelines.now.items in
+    let passes = c.in_ok-leave_all.ensures.passes k (record { sound = can.is.sound; passes = subst Q (sym c.as_slice.ensures.value) (c.in_ok-leg.ensures.led k can.is).passes }) in
     leg_runs c.leave_all.new.run.runner _ leg.at passes.before)
 
 pub end_leg-requires-clause-may : goal.end_leg-requires-clause-may
@@ -49,16 +52,45 @@ end_leg-requires-clause-may g c = λ κs lives. (
     let can = c.requires.can in
     let k = can.k in
     let leg = c.in_ok-leg.leg in
-    let Q : List ℕ → Type 0 = λ ops. Passes (words_of g.H.KeyHasher.hash_of k) k.task c.pass.new.run ops leg.at c.args.pipelines.now in
-    let passes = c.in_ok-leave_all.ensures.passes k (record { sound = can.is.sound; passes = subst Q (sym c.as_slice.ensures.value) (c.in_ok-leg.ensures k can.is).passes }) in
-    record { x = k.settings; m = k.task.m; may = may_end (words_of g.H.KeyHasher.hash_of k) k.task c.leave_all.new.run leg.at c.args.pipelines.now passes })
+    let Q : List ℕ → Type 0 = λ ops. Passes (words_of g.H.KeyHasher.hash_of k) k.task c.pass.new.run ops leg.at c.args.pipelines.now.items in
+    let passes = c.in_ok-leave_all.ensures.passes k (record { sound = can.is.sound; passes = subst Q (sym c.as_slice.ensures.value) (c.in_ok-leg.ensures.led k can.is).passes }) in
+    record { x = k.settings; m = k.task.m; may = may_end (words_of g.H.KeyHasher.hash_of k) k.task c.leave_all.new.run leg.at c.args.pipelines.now.items passes })
 
-pub returns : goal.returns
-returns g c = λ k can. (
+pub returns-clause-ran : goal.returns-clause-ran
+returns-clause-ran g c = λ k can. (
     let leg = c.in_ok-leg.leg in
-    let led = c.in_ok-leg.ensures k can in
-    let Q : List ℕ → Type 0 = λ ops. Passes (words_of g.H.KeyHasher.hash_of k) k.task c.pass.new.run ops leg.at c.args.pipelines.now in
+    let led = c.in_ok-leg.ensures.led k can in
+    let Q : List ℕ → Type 0 = λ ops. Passes (words_of g.H.KeyHasher.hash_of k) k.task c.pass.new.run ops leg.at c.args.pipelines.now.items in
     let passes = c.in_ok-leave_all.ensures.passes k (record { sound = can.sound; passes = subst Q (sym c.as_slice.ensures.value) led.passes }) in
-    has_run (words_of g.H.KeyHasher.hash_of k) k.task c.args.current c.args.run.now c.pass.new.run c.leave_all.new.run c.end_leg.new.engine c.lower-left.new.self c.args.pipelines.now leg c.lower-left.result
+    has_run (words_of g.H.KeyHasher.hash_of k) k.task c.args.current c.args.run.now c.pass.new.run c.leave_all.new.run c.end_leg.new.engine c.lower-left.new.self c.args.pipelines.now.items leg c.lower-left.result
     can.sound led passes c.in_ok-leave_all.ensures.parked c.in_ok-leave_all.ensures.counts (c.in_ok-end_leg.ensures.ended k.settings) c.lower-left.ensures.length
     (record { here = c.lower-left.ensures.here; all = c.lower-left.ensures.all }))
+
+pub returns-in_err-leg-clause-asked : goal.returns-in_err-leg-clause-asked
+returns-in_err-leg-clause-asked g c = asked_passed g.C.StopCheck 0 1 _ _ _ _ c.from_residual.ensures.1 c.in_err-leg.ensures.asked
+
+pub returns-in_err-leave_all-clause-asked : goal.returns-in_err-leave_all-clause-asked
+returns-in_err-leave_all-clause-asked g c = asked_passed_then g.C.StopCheck 0 0 1 _ _ _ _ _ _ c.from_residual-in_err-leave_all.ensures.1 c.in_ok-leg.ensures.asked c.in_err-leave_all.ensures.asked
+
+pub returns-in_err-end_leg-clause-asked : goal.returns-in_err-end_leg-clause-asked
+returns-in_err-end_leg-clause-asked g c = asked_passed_then g.C.StopCheck 0 1 1 _ _ _ _ _ _ c.from_residual-in_err-end_leg.ensures.1 (asked-then g.C.StopCheck 0 0 0 _ _ _ _ _ (omega arith) c.in_ok-leg.ensures.asked c.in_ok-leave_all.ensures.asked) c.in_err-end_leg.ensures.asked
+
+pub returns-clause-asked : goal.returns-clause-asked
+returns-clause-asked g c = asked-made g.C.StopCheck 1 1 _ _ _ _ (omega arith) (asked-then g.C.StopCheck 0 1 1 _ _ _ _ _ (omega arith) (asked-then g.C.StopCheck 0 0 0 _ _ _ _ _ (omega arith) c.in_ok-leg.ensures.asked c.in_ok-leave_all.ensures.asked) c.in_ok-end_leg.ensures.asked)
+
+pub returns-clause-paced : goal.returns-clause-paced
+returns-clause-paced g c = (
+    let most = most_of c.args.run.now.runner.context in
+    paced-then most _ 0 0 _ _ _ c.in_ok-leg.ensures.paced (paced-then most 0 0 0 _ _ _ (paced-asked 0 most 0 _ _ c.in_ok-leave_all.ensures.asked.asked) (paced-asked 1 most 0 _ _ c.in_ok-end_leg.ensures.asked.asked)))
+
+pub returns-in_err-leg-clause-context : goal.returns-in_err-leg-clause-context
+returns-in_err-leg-clause-context g c = c.pass.ensures.context
+
+pub returns-in_err-leave_all-clause-context : goal.returns-in_err-leave_all-clause-context
+returns-in_err-leave_all-clause-context g c = c.leave_all.ensures.context ∙ c.pass.ensures.context
+
+pub returns-in_err-end_leg-clause-context : goal.returns-in_err-end_leg-clause-context
+returns-in_err-end_leg-clause-context g c = c.end_leg.ensures.context ∙ c.leave_all.ensures.context ∙ c.pass.ensures.context
+
+pub returns-clause-context : goal.returns-clause-context
+returns-clause-context g c = c.end_leg.ensures.context ∙ c.leave_all.ensures.context ∙ c.pass.ensures.context

@@ -1,9 +1,10 @@
-use Rattle.std.proofs.Common.{◌+◌, ℕ, List, drop, get_or, subst}
+use Rattle.std.proofs.Common.{◌+◌, ℕ, List, drop, get_or, subst, arith}
 use Rattle.pipe_engine.specs.Known.{words_of}
 use Rattle.pipe_driver.specs.Runs.{Passes}
 use Rattle.pipe_driver.proofs.Drives.{node_counted, left_behind, settled_behind, drop_at, on_ok}
 use Rattle.pipe_engine.proofs.Mays.{may_leave, may_settle}
 use Rattle.pipe_engine.proofs.Driven.{leg_runs}
+use Rattle.pipe_engine.proofs.Asked.{asked-all, asked-less}
 use Rattle.pipe_engine.proofs.driving.leave.Goals as goal
 
 pub lower-requires : goal.lower-requires
@@ -11,9 +12,9 @@ lower-requires g c =
     let can = c.requires.can in
     let k = can.k in
     let node = get_or c.args.operators.now c.args.place 0 in
-    let Q : List ℕ → Type 0 = λ ops. Passes (words_of g.H.KeyHasher.hash_of k) k.task c.args.run.now ops c.args.at c.args.pipelines.now in
+    let Q : List ℕ → Type 0 = λ ops. Passes (words_of g.H.KeyHasher.hash_of k) k.task c.args.run.now ops c.args.at c.args.pipelines.now.items in
     record {
-      some = node_counted (words_of g.H.KeyHasher.hash_of k) k.task c.args.run.now node (drop (c.args.place + 1) c.args.operators.now) c.args.at c.args.pipelines.now
+      some = node_counted (words_of g.H.KeyHasher.hash_of k) k.task c.args.run.now node (drop (c.args.place + 1) c.args.operators.now) c.args.at c.args.pipelines.now.items
           (subst Q (drop_at c.args.operators.now c.args.place 0 c.requires.there) can.is.passes);
     }
 
@@ -21,7 +22,7 @@ pub settle_node-requires-clause-runs : goal.settle_node-requires-clause-runs
 settle_node-requires-clause-runs g c = λ κs lives. (
     let can = c.requires.can in
     let k = can.k in
-    let Q : List ℕ → Type 0 = λ ops. Passes (words_of g.H.KeyHasher.hash_of k) k.task c.args.run.now ops c.args.at c.args.pipelines.now in
+    let Q : List ℕ → Type 0 = λ ops. Passes (words_of g.H.KeyHasher.hash_of k) k.task c.args.run.now ops c.args.at c.args.pipelines.now.items in
     let passes = subst Q (drop_at c.args.operators.now c.args.place 0 c.requires.there) can.is.passes in
     leg_runs c.args.run.now.runner _ c.args.at passes.before)
 
@@ -30,15 +31,15 @@ settle_node-requires-clause-may g c = λ κs lives. (
     let can = c.requires.can in
     let k = can.k in
     let node = get_or c.args.operators.now c.args.place 0 in
-    let Q : List ℕ → Type 0 = λ ops. Passes (words_of g.H.KeyHasher.hash_of k) k.task c.args.run.now ops c.args.at c.args.pipelines.now in
+    let Q : List ℕ → Type 0 = λ ops. Passes (words_of g.H.KeyHasher.hash_of k) k.task c.args.run.now ops c.args.at c.args.pipelines.now.items in
     let passes = subst Q (drop_at c.args.operators.now c.args.place 0 c.requires.there) can.is.passes in
-    record { x = k.settings; m = k.task.m; may = may_settle (words_of g.H.KeyHasher.hash_of k) k.task c.args.run.now node c.lower.result (drop (c.args.place + 1) c.args.operators.now) c.args.at c.args.pipelines.now can.is.sound passes c.lower.ensures.here c.if-lower-eq0.true })
+    record { x = k.settings; m = k.task.m; may = may_settle (words_of g.H.KeyHasher.hash_of k) k.task c.args.run.now node c.lower.result (drop (c.args.place + 1) c.args.operators.now) c.args.at c.args.pipelines.now.items can.is.sound passes c.lower.ensures.here c.if-lower-eq0.true })
 
 pub leave_node-requires-clause-runs : goal.leave_node-requires-clause-runs
 leave_node-requires-clause-runs g c = λ κs lives. (
     let can = c.requires.can in
     let k = can.k in
-    let Q : List ℕ → Type 0 = λ ops. Passes (words_of g.H.KeyHasher.hash_of k) k.task c.args.run.now ops c.args.at c.args.pipelines.now in
+    let Q : List ℕ → Type 0 = λ ops. Passes (words_of g.H.KeyHasher.hash_of k) k.task c.args.run.now ops c.args.at c.args.pipelines.now.items in
     let passes = subst Q (drop_at c.args.operators.now c.args.place 0 c.requires.there) can.is.passes in
     leg_runs c.args.run.now.runner _ c.args.at passes.before)
 
@@ -47,18 +48,18 @@ leave_node-requires-clause-may g c = λ κs lives. (
     let can = c.requires.can in
     let k = can.k in
     let node = get_or c.args.operators.now c.args.place 0 in
-    let Q : List ℕ → Type 0 = λ ops. Passes (words_of g.H.KeyHasher.hash_of k) k.task c.args.run.now ops c.args.at c.args.pipelines.now in
+    let Q : List ℕ → Type 0 = λ ops. Passes (words_of g.H.KeyHasher.hash_of k) k.task c.args.run.now ops c.args.at c.args.pipelines.now.items in
     let passes = subst Q (drop_at c.args.operators.now c.args.place 0 c.requires.there) can.is.passes in
-    record { x = k.settings; m = k.task.m; may = may_leave (words_of g.H.KeyHasher.hash_of k) k.task c.args.run.now node (drop (c.args.place + 1) c.args.operators.now) c.args.at c.args.pipelines.now passes })
+    record { x = k.settings; m = k.task.m; may = may_leave (words_of g.H.KeyHasher.hash_of k) k.task c.args.run.now node (drop (c.args.place + 1) c.args.operators.now) c.args.at c.args.pipelines.now.items passes })
 
 pub returns-then-lower-eq0-clause-passes : goal.returns-then-lower-eq0-clause-passes
 returns-then-lower-eq0-clause-passes g c =
     let node = get_or c.args.operators.now c.args.place 0 in
     on_ok c.settle_node.result
     (λ h. λ k can. (
-    let Q : List ℕ → Type 0 = λ ops. Passes (words_of g.H.KeyHasher.hash_of k) k.task c.args.run.now ops c.args.at c.args.pipelines.now in
+    let Q : List ℕ → Type 0 = λ ops. Passes (words_of g.H.KeyHasher.hash_of k) k.task c.args.run.now ops c.args.at c.args.pipelines.now.items in
     let passes = subst Q (drop_at c.args.operators.now c.args.place 0 c.requires.there) can.passes in
-    settled_behind (words_of g.H.KeyHasher.hash_of k) k.task c.args.run.now c.settle_node.new.engine c.lower.new.self node c.lower.result (drop (c.args.place + 1) c.args.operators.now) c.args.at c.args.pipelines.now can.sound passes
+    settled_behind (words_of g.H.KeyHasher.hash_of k) k.task c.args.run.now c.settle_node.new.engine c.lower.new.self node c.lower.result (drop (c.args.place + 1) c.args.operators.now) c.args.at c.args.pipelines.now.items can.sound passes
     (record { here = c.lower.ensures.here; all = c.lower.ensures.all }) c.if-lower-eq0.true (h k.settings)))
     c.settle_node.ensures.settled
 
@@ -67,8 +68,20 @@ returns-else-lower-eq0-clause-passes g c =
     let node = get_or c.args.operators.now c.args.place 0 in
     on_ok c.leave_node.result
     (λ h. λ k can. (
-    let Q : List ℕ → Type 0 = λ ops. Passes (words_of g.H.KeyHasher.hash_of k) k.task c.args.run.now ops c.args.at c.args.pipelines.now in
+    let Q : List ℕ → Type 0 = λ ops. Passes (words_of g.H.KeyHasher.hash_of k) k.task c.args.run.now ops c.args.at c.args.pipelines.now.items in
     let passes = subst Q (drop_at c.args.operators.now c.args.place 0 c.requires.there) can.passes in
-    left_behind (words_of g.H.KeyHasher.hash_of k) k.task c.args.run.now c.leave_node.new.engine c.lower.new.self node c.lower.result (drop (c.args.place + 1) c.args.operators.now) c.args.at c.args.pipelines.now passes
+    left_behind (words_of g.H.KeyHasher.hash_of k) k.task c.args.run.now c.leave_node.new.engine c.lower.new.self node c.lower.result (drop (c.args.place + 1) c.args.operators.now) c.args.at c.args.pipelines.now.items passes
     (record { here = c.lower.ensures.here; all = c.lower.ensures.all }) c.if-lower-eq0.false (h k.settings)))
     c.leave_node.ensures.left
+
+pub returns-then-lower-eq0-clause-asked : goal.returns-then-lower-eq0-clause-asked
+returns-then-lower-eq0-clause-asked g c = asked-less g.C.StopCheck 1 0 _ _ _ (omega arith) c.settle_node.ensures.asked
+
+pub returns-else-lower-eq0-clause-asked : goal.returns-else-lower-eq0-clause-asked
+returns-else-lower-eq0-clause-asked g c = asked-all g.C.StopCheck _ _ c.leave_node.ensures.calm
+
+pub returns-then-lower-eq0-clause-context : goal.returns-then-lower-eq0-clause-context
+returns-then-lower-eq0-clause-context g c = c.settle_node.ensures.context
+
+pub returns-else-lower-eq0-clause-context : goal.returns-else-lower-eq0-clause-context
+returns-else-lower-eq0-clause-context g c = c.leave_node.ensures.context

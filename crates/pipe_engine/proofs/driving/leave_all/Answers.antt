@@ -2,10 +2,11 @@ use Rattle.std.proofs.Common.{◌+◌, List, ℕ, refl, subst, arith, ◌∙◌}
 use Rattle.std.proofs.lemmas.List.{drop_all}
 use Rattle.pipe_engine.specs.Known.{words_of}
 use Rattle.pipe_driver.specs.Runs.{Passes}
+use Rattle.pipe_engine.proofs.Asked.{asked-ok, asked-made, asked-then, asked_passed_then}
 use Rattle.pipe_engine.proofs.driving.leave_all.Goals as goal
 
 pub loop-place-init : goal.loop-place-init
-loop-place-init g c = record { passes = λ k can. can.passes; parked = refl; counts = refl }
+loop-place-init g c = record { passes = λ k can. can.passes; parked = refl; counts = refl; asked = asked-ok g.C.StopCheck _ _; context = refl }
 
 pub leave-requires-clause-can : goal.leave-requires-clause-can
 leave-requires-clause-can g c = λ κs lives. (
@@ -17,9 +18,23 @@ loop-place-preserved g c = record {
   passes = λ k can. c.in_ok-leave.ensures.passes k (record { sound = can.sound; passes = c.loop-place.invariant.passes k can });
   parked = c.in_ok-leave.ensures.parked ∙ c.loop-place.invariant.parked;
   counts = c.in_ok-leave.ensures.counts ∙ c.loop-place.invariant.counts;
+  asked = asked-made g.C.StopCheck 0 0 _ _ _ _ (omega arith) (asked-then g.C.StopCheck 0 0 0 _ _ _ _ _ (omega arith) c.loop-place.invariant.asked c.in_ok-leave.ensures.asked);
+  context = c.leave.ensures.context ∙ c.loop-place.invariant.context;
 }
 
 pub returns-clause-passes : goal.returns-clause-passes
 returns-clause-passes g c = λ k can. (
-    let Q : List ℕ → Type 0 = λ ops. Passes (words_of g.H.KeyHasher.hash_of k) k.task c.loop-place.run ops c.args.at c.args.pipelines.now in
+    let Q : List ℕ → Type 0 = λ ops. Passes (words_of g.H.KeyHasher.hash_of k) k.task c.loop-place.run ops c.args.at c.args.pipelines.now.items in
     subst Q (drop_all c.loop-place.place c.args.operators.now (omega arith)) (c.loop-place.invariant.passes k can))
+
+pub returns-in_err-leave-clause-asked : goal.returns-in_err-leave-clause-asked
+returns-in_err-leave-clause-asked g c = asked_passed_then g.C.StopCheck 0 0 0 _ _ _ _ _ _ c.from_residual.ensures.1 c.loop-place.invariant.asked c.in_err-leave.ensures.asked
+
+pub returns-clause-asked : goal.returns-clause-asked
+returns-clause-asked g c = asked-made g.C.StopCheck 0 0 _ _ _ _ (omega arith) c.loop-place.invariant.asked
+
+pub returns-in_err-leave-clause-context : goal.returns-in_err-leave-clause-context
+returns-in_err-leave-clause-context g c = c.leave.ensures.context ∙ c.loop-place.invariant.context
+
+pub returns-clause-context : goal.returns-clause-context
+returns-clause-context g c = c.loop-place.invariant.context

@@ -1,11 +1,18 @@
 use Rattle.std.proofs.Common.{◌≡◌, drop}
+use Rattle.std.specs.Prelude.{Ok, Result}
+use Rattle.pipe_driver.specs.declared.error.RunError.{RunError}
+use Rattle.pipe_engine.specs.Asked.{WasAsked}
 use Rattle.pipe_engine.specs.Drives.{ForEach, CanPass, IsLeftAt}
 use Rattle.pipe_engine.proofs.driving.leave_all.Given as goal
 
 abbrev pub invariant-loop-place : goal.invariant-loop-place
-invariant-loop-place g l = record {
-  passes : ForEach (CanPass g.H.KeyHasher.hash_of l.initial.run l.operators l.at l.pipelines)
-      (IsLeftAt g.H.KeyHasher.hash_of l.run (drop l.place l.operators) l.at l.pipelines);
-  parked : l.run.parked ≡ l.initial.run.parked;
-  counts : l.run.counts ≡ l.initial.run.counts;
-}
+invariant-loop-place g l =
+    let fine : Result (Unit {0}) RunError = Ok tt in
+    record {
+      passes : ForEach (CanPass g.H.KeyHasher.hash_of l.initial.run l.operators l.at l.pipelines.items)
+          (IsLeftAt g.H.KeyHasher.hash_of l.run (drop l.place l.operators) l.at l.pipelines.items);
+      parked : l.run.parked ≡ l.initial.run.parked;
+      counts : l.run.counts ≡ l.initial.run.counts;
+      asked : WasAsked g.C.StopCheck 0 l.initial.stop l.stop fine;
+      context : l.run.runner.context ≡ l.initial.run.runner.context;
+    }

@@ -1,9 +1,12 @@
-use Rattle.std.proofs.Common.{ℕ, subst}
+use Rattle.std.proofs.Common.{ℕ, subst, arith, refl, Option, sym}
 use Rattle.pipe_driver.specs.Lines.{leg_as}
+use Rattle.pipe_source.specs.declared.phys_source.PhysSource.{PhysSource}
+use Rattle.pipe_engine.specs.Paced.{TakesPaced, most_of, rows_due_from}
 use Rattle.pipe_engine.specs.Known.{words_of}
 use Rattle.pipe_driver.specs.Runs.{Parks}
 use Rattle.pipe_driver.proofs.Drives.{no_source, some_map, some_vec, first_is, has_led}
 use Rattle.pipe_engine.proofs.Mays.{may_run}
+use Rattle.pipe_engine.proofs.Asked.{asked-lost, asked-made, asked_passed}
 use Rattle.pipe_engine.proofs.driving.pass.Goals as goal
 
 pub unreachable-requires : goal.unreachable-requires
@@ -27,13 +30,36 @@ run_leg-requires-clause-may g c = λ κs lives. (
     let leg = c.remove-operators.result in
     let legs = c.remove-operators.new.self.items in
     let first = first_is c.args.current.legs.items legs leg (some_map (leg_as k.task.m.ordered) c.args.current.legs.items ready.ready.way.some) c.remove-operators.ensures.value c.remove-operators.ensures.items in
-    record { x = k.settings; m = k.task.m; may = may_run (words_of g.H.KeyHasher.hash_of k) k.task c.args.current c.args.run.now c.args.pipelines.now c.in-Some.source leg legs can.is.sound ready c.in-Some.is first })
+    record { x = k.settings; m = k.task.m; may = may_run (words_of g.H.KeyHasher.hash_of k) k.task c.args.current c.args.run.now c.args.pipelines.now.items c.in-Some.source leg legs can.is.sound ready c.in-Some.is first })
 
-pub returns : goal.returns
-returns g c = λ k can. (
+pub returns-clause-led : goal.returns-clause-led
+returns-clause-led g c = λ k can. (
     let leg = c.remove-operators.result in
     let legs = c.remove-operators.new.self.items in
     let first = first_is c.args.current.legs.items legs leg (some_map (leg_as k.task.m.ordered) c.args.current.legs.items can.ready.ready.way.some) c.remove-operators.ensures.value c.remove-operators.ensures.items in
     let Q : ℕ → Type 0 = λ n. Parks n legs c.args.run.now.parked.items c.park.new.parked.items in
-    has_led (words_of g.H.KeyHasher.hash_of k) k.task c.args.current c.args.run.now c.run_leg.new.engine c.park.new.parked c.args.pipelines.now c.in-Some.source leg legs can.sound can.ready c.in-Some.is first (c.in_ok-run_leg.ensures.ran k.settings)
+    has_led (words_of g.H.KeyHasher.hash_of k) k.task c.args.current c.args.run.now c.run_leg.new.engine c.park.new.parked c.args.pipelines.now.items c.in-Some.source leg legs can.sound can.ready c.in-Some.is first (c.in_ok-run_leg.ensures.ran k.settings)
     (subst Q c.node_at.ensures c.in-Ok.ensures))
+
+pub returns-in_err-run_leg-clause-asked : goal.returns-in_err-run_leg-clause-asked
+returns-in_err-run_leg-clause-asked g c = asked_passed g.C.StopCheck 0 0 _ _ _ _ c.from_residual.ensures.1 c.in_err-run_leg.ensures.asked
+
+pub returns-in_default-park-clause-asked : goal.returns-in_default-park-clause-asked
+returns-in_default-park-clause-asked g c = asked-lost g.C.StopCheck 0 0 _ _ _ _ refl c.in_ok-run_leg.ensures.asked
+
+pub returns-clause-asked : goal.returns-clause-asked
+returns-clause-asked g c = asked-made g.C.StopCheck 0 0 _ _ _ _ (omega arith) c.in_ok-run_leg.ensures.asked
+
+pub returns-clause-paced : goal.returns-clause-paced
+returns-clause-paced g c = (
+    let D : Option PhysSource → Type 0 = λ s. TakesPaced (most_of c.args.run.now.runner.context) (rows_due_from s) 0 (g.C.StopCheck.asked c.args.stop.now) (g.C.StopCheck.asked c.run_leg.new.stop) in
+    subst D (sym c.in-Some.is) c.in_ok-run_leg.ensures.paced)
+
+pub returns-in_err-run_leg-clause-context : goal.returns-in_err-run_leg-clause-context
+returns-in_err-run_leg-clause-context g c = c.run_leg.ensures.context
+
+pub returns-in_default-park-clause-context : goal.returns-in_default-park-clause-context
+returns-in_default-park-clause-context g c = c.run_leg.ensures.context
+
+pub returns-clause-context : goal.returns-clause-context
+returns-clause-context g c = c.run_leg.ensures.context

@@ -21,8 +21,8 @@ execute_pipeline-requires-clause-can g c = λ κs lives. (
 pub execute_pipeline-requires-clause-parked : goal.execute_pipeline-requires-clause-parked
 execute_pipeline-requires-clause-parked g c = λ κs lives. c.requires.stand.stand.parked
 
-pub returns : goal.returns
-returns g c =
+pub returns-clause-rows : goal.returns-clause-rows
+returns-clause-rows g c =
     if_ok c.execute_pipeline.result
     (λ frame has asked is. (
     let r = words_of g.H.KeyHasher.hash_of (known_of asked) in
@@ -31,4 +31,28 @@ returns g c =
       between = stand_between r asked.ask c.args.run c.args.pipelines.items is;
       root = stand_open r asked.ask c.args.run c.args.pipelines.items is;
     }))))
-    c.execute_pipeline.ensures
+    c.execute_pipeline.ensures.root
+
+pub returns-clause-asked : goal.returns-clause-asked
+returns-clause-asked g c = c.execute_pipeline.ensures.asked
+
+pub returns-clause-yes : goal.returns-clause-yes
+returns-clause-yes g c = c.execute_pipeline.ensures.yes
+
+pub returns-clause-last : goal.returns-clause-last
+returns-clause-last g c = c.execute_pipeline.ensures.last
+
+pub returns-clause-paced : goal.returns-clause-paced
+returns-clause-paced g c = c.execute_pipeline.ensures.paced
+
+pub returns-clause-schema : goal.returns-clause-schema
+returns-clause-schema g c =
+    if_ok c.execute_pipeline.result
+    (λ frame has asked is. (
+    let r = words_of g.H.KeyHasher.hash_of (known_of asked) in
+    (has (known_of asked) (record {
+      sound = sound_of r asked.ask c.args.run c.args.pipelines.items is;
+      between = stand_between r asked.ask c.args.run c.args.pipelines.items is;
+      root = stand_open r asked.ask c.args.run c.args.pipelines.items is;
+    }))))
+    c.execute_pipeline.ensures.schema

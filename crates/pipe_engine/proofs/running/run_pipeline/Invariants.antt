@@ -1,13 +1,22 @@
-use Rattle.std.proofs.Common.{◌∷◌}
-use Rattle.std.specs.Vec.{vec_len}
-use Rattle.pipe_engine.specs.Drives.{ForEach, CanBegin, IsOnTheFront}
+use Rattle.std.proofs.Common.{◌≡◌, ◌∷◌, deque_len}
+use Rattle.std.specs.Prelude.{Ok, Result}
+use Rattle.pipe_driver.specs.declared.error.RunError.{RunError}
+use Rattle.pipe_engine.specs.Asked.{WasAsked}
+use Rattle.pipe_engine.specs.Drives.{ForEach, CanBegin, IsOnTheFront, IsRootAnswer}
+use Rattle.pipe_engine.specs.Paced.{TakesPaced, most_of, rows_due_of}
 use Rattle.pipe_engine.proofs.running.run_pipeline.Given as goal
 
 abbrev pub invariant-branches : goal.invariant-branches
-invariant-branches g l = record {
-  on : ForEach (CanBegin g.H.KeyHasher.hash_of l.initial.run (l.initial.current ∷ l.initial.pipelines.items))
-      (IsOnTheFront g.H.KeyHasher.hash_of (l.initial.current ∷ l.initial.pipelines.items) l.initial.run l.run l.current l.pipelines.items l.fed.items l.answer);
-}
+invariant-branches g l =
+    let fine : Result (Unit {0}) RunError = Ok tt in
+    record {
+      on : ForEach (CanBegin g.H.KeyHasher.hash_of l.initial.run (l.initial.current ∷ l.initial.pipelines.items))
+          (IsOnTheFront g.H.KeyHasher.hash_of (l.initial.current ∷ l.initial.pipelines.items) l.initial.run l.run l.current l.pipelines.items l.fed.items l.answer);
+      schema : ForEach (CanBegin g.H.KeyHasher.hash_of l.initial.run (l.initial.current ∷ l.initial.pipelines.items)) (IsRootAnswer l.answer);
+      asked : WasAsked g.C.StopCheck 0 l.initial.stop l.stop fine;
+      context : l.run.runner.context ≡ l.initial.run.runner.context;
+      paced : TakesPaced (most_of l.initial.run.runner.context) (rows_due_of (l.initial.current ∷ l.initial.pipelines.items)) (rows_due_of (l.current ∷ l.pipelines.items)) (g.C.StopCheck.asked l.initial.stop) (g.C.StopCheck.asked l.stop);
+    }
 
 abbrev pub decreases-branches : goal.decreases-branches
-decreases-branches g l = vec_len l.pipelines
+decreases-branches g l = deque_len l.pipelines

@@ -1,14 +1,19 @@
-use Rattle.std.proofs.Common.{subst, arith}
+use Rattle.std.proofs.Common.{subst, arith, refl, ◌∙◌}
 use Rattle.pipe_source.specs.declared.phys_source.PhysSource.{PhysSource}
+use Rattle.pipe_ops.specs.declared.context.PExecutionContext.{PExecutionContext}
+use Rattle.pipe_engine.specs.Drives.{IsRootNext}
+use Rattle.pipe_engine.specs.Paced.{TakesPaced, most_of, rows_due_from}
 use Rattle.pipe_engine.specs.declared.part.Part.{Part}
 use Rattle.pipe_engine.specs.Known.{words_of}
 use Rattle.pipe_driver.specs.Runs.{IsNext, sink_of}
 use Rattle.pipe_driver.specs.declared.run.Next.{Next}
 use Rattle.pipe_driver.proofs.FrontSteps.{fed_none, fed_leg, fed_goes, fed_stays, stopped_open, went_on}
+use Rattle.pipe_engine.proofs.Asked.{asked-ok, asked-made, asked-then, asked-lost, asked_lost, asked_passed_then}
+use Rattle.pipe_engine.proofs.Paces.{paced-more, paced-none, paced-then}
 use Rattle.pipe_engine.proofs.running.run_way.Goals as goal
 
 pub ways-init : goal.ways-init
-ways-init g c = record { on = λ k can. record { ready = can.ready; root = λ z. z; fed = fed_none k.task c.args.first c.args.run.now c.args.fed.now.items } }
+ways-init g c = record { on = λ k can. record { ready = can.ready; root = λ z. z; fed = fed_none k.task c.args.first c.args.run.now c.args.fed.now.items }; asked = asked-ok g.C.StopCheck _ _; context = refl; paced = paced-none _ _ _ }
 
 pub feed-requires-clause-idle : goal.feed-requires-clause-idle
 feed-requires-clause-idle g c = λ κs lives. (c.ways.invariant.on c.requires.can.k c.requires.can.is).ready.idle
@@ -21,88 +26,95 @@ feed-requires-clause-can g c = λ κs lives. (
 pub returns-then-done-gt0-clause-stopped : goal.returns-then-done-gt0-clause-stopped
 returns-then-done-gt0-clause-stopped g c = λ k can. (
     let on = c.ways.invariant.on k can in
-    let ran = c.in_ok-done.ensures k (record { sound = can.sound; ready = on.ready }) in
-    stopped_open (words_of g.H.KeyHasher.hash_of k) k.task c.args.run.now c.ways.run c.feed.new.run c.ways.current c.args.pipelines.now c.in_ok-done.done ran c.if-done-gt0.true on.root)
+    let ran = c.in_ok-done.ensures.ran k (record { sound = can.sound; ready = on.ready }) in
+    stopped_open (words_of g.H.KeyHasher.hash_of k) k.task c.args.run.now c.ways.run c.feed.new.run c.ways.current c.args.pipelines.now.items c.in_ok-done.done ran c.if-done-gt0.true on.root)
 
 pub returns-then-done-gt0-clause-fed : goal.returns-then-done-gt0-clause-fed
 returns-then-done-gt0-clause-fed g c = λ k can. (
     let on = c.ways.invariant.on k can in
-    let ran = c.in_ok-done.ensures k (record { sound = can.sound; ready = on.ready }) in
-    fed_leg (words_of g.H.KeyHasher.hash_of k) k.task c.args.first c.ways.current c.args.run.now c.ways.run c.feed.new.run c.args.pipelines.now c.args.fed.now.items c.ways.fed.items c.push.new.self.items c.in_ok-done.done on.fed ran c.in-Ok.ensures.items)
+    let ran = c.in_ok-done.ensures.ran k (record { sound = can.sound; ready = on.ready }) in
+    fed_leg (words_of g.H.KeyHasher.hash_of k) k.task c.args.first c.ways.current c.args.run.now c.ways.run c.feed.new.run c.args.pipelines.now.items c.args.fed.now.items c.ways.fed.items c.push.new.self.items c.in_ok-done.done on.fed ran c.in-Ok.ensures.items)
 
 pub close-requires-clause-can : goal.close-requires-clause-can
 close-requires-clause-can g c = λ κs lives. (
     let can = c.requires.can in
     let on = c.ways.invariant.on can.k can.is in
-    let ran = c.in_ok-done.ensures can.k (record { sound = can.is.sound; ready = on.ready }) in
+    let ran = c.in_ok-done.ensures.ran can.k (record { sound = can.is.sound; ready = on.ready }) in
     record { k = can.k; is = record { sound = can.is.sound; feeds = ran.feeds; at = ran.at; number = ran.number } })
 
 pub close-requires-clause-last : goal.close-requires-clause-last
 close-requires-clause-last g c = λ κs lives. (
     let can = c.requires.can in
     let on = c.ways.invariant.on can.k can.is in
-    let ran = c.in_ok-done.ensures can.k (record { sound = can.is.sound; ready = on.ready }) in
+    let ran = c.in_ok-done.ensures.ran can.k (record { sound = can.is.sound; ready = on.ready }) in
     let left = ran.left in
     let none = c.if-done-gt0.false in omega arith)
 
 pub ways-preserved : goal.ways-preserved
-ways-preserved g c = record {
-  on = λ k can. (
-      let on = c.ways.invariant.on k can in
-      let done = c.in_ok-done.done in
-      let ran = c.in_ok-done.ensures k (record { sound = can.sound; ready = on.ready }) in
-      let N : Next PhysSource (Part g.row.H.Denot) → Type 0 = IsNext (words_of g.H.KeyHasher.hash_of k) k.task c.feed.new.run c.close.new.run c.args.pipelines.now (sink_of k.task done.at) in
-      let next = subst N c.in-GoOn.is (c.in_ok-next.ensures k (record { sound = can.sound; feeds = ran.feeds; at = ran.at; number = ran.number })) in
-      record {
-        ready = next.0;
-        root = went_on (words_of g.H.KeyHasher.hash_of k) k.task c.args.run.now c.ways.run c.feed.new.run c.close.new.run c.ways.current c.args.pipelines.now done ran next.2 next.3 on.root;
-        fed = fed_goes k.task c.args.first c.in-GoOn.next c.args.run.now c.feed.new.run c.close.new.run c.args.fed.now.items c.push.new.self.items
-            (fed_leg (words_of g.H.KeyHasher.hash_of k) k.task c.args.first c.ways.current c.args.run.now c.ways.run c.feed.new.run c.args.pipelines.now c.args.fed.now.items c.ways.fed.items c.push.new.self.items done on.fed ran c.in-Ok.ensures.items)
-            next.4 next.5;
-      });
-}
+ways-preserved g c =
+    let most = most_of c.args.run.now.runner.context in
+    let P : PExecutionContext → Type 0 = λ context. TakesPaced (most_of context) (rows_due_from c.ways.current.source) 0 (g.C.StopCheck.asked c.ways.stop) (g.C.StopCheck.asked c.feed.new.stop) in
+    let paced = paced-then most _ _ 0 _ _ _ c.ways.invariant.paced (subst P c.ways.invariant.context c.in_ok-done.ensures.paced) in
+    record {
+      on = λ k can. (
+          let on = c.ways.invariant.on k can in
+          let done = c.in_ok-done.done in
+          let ran = c.in_ok-done.ensures.ran k (record { sound = can.sound; ready = on.ready }) in
+          let N : Next PhysSource (Part g.row.H.Denot) → Type 0 = IsNext (words_of g.H.KeyHasher.hash_of k) k.task c.feed.new.run c.close.new.run c.args.pipelines.now.items (sink_of k.task done.at) in
+          let next = subst N c.in-GoOn.is (c.in_ok-next.ensures.next k (record { sound = can.sound; feeds = ran.feeds; at = ran.at; number = ran.number })) in
+          record {
+            ready = next.0;
+            root = went_on (words_of g.H.KeyHasher.hash_of k) k.task c.args.run.now c.ways.run c.feed.new.run c.close.new.run c.ways.current c.args.pipelines.now.items done ran next.2 next.3 on.root;
+            fed = fed_goes k.task c.args.first c.in-GoOn.next c.args.run.now c.feed.new.run c.close.new.run c.args.fed.now.items c.push.new.self.items
+                (fed_leg (words_of g.H.KeyHasher.hash_of k) k.task c.args.first c.ways.current c.args.run.now c.ways.run c.feed.new.run c.args.pipelines.now.items c.args.fed.now.items c.ways.fed.items c.push.new.self.items done on.fed ran c.in-Ok.ensures.items)
+                next.4 next.5;
+          });
+      asked = asked-made g.C.StopCheck 1 0 _ _ _ _ (omega arith) (asked-then g.C.StopCheck 0 1 1 _ _ _ _ _ (omega arith) c.ways.invariant.asked c.in_ok-done.ensures.asked);
+      context = c.close.ensures.context ∙ c.feed.ensures.context ∙ c.ways.invariant.context;
+      paced = paced-more most _ 0 _ _ _ (omega arith) paced;
+    }
 
 pub returns-in-Stay-clause-fed : goal.returns-in-Stay-clause-fed
 returns-in-Stay-clause-fed g c = λ k can. (
     let on = c.ways.invariant.on k can in
     let done = c.in_ok-done.done in
-    let ran = c.in_ok-done.ensures k (record { sound = can.sound; ready = on.ready }) in
-    let N : Next PhysSource (Part g.row.H.Denot) → Type 0 = IsNext (words_of g.H.KeyHasher.hash_of k) k.task c.feed.new.run c.close.new.run c.args.pipelines.now (sink_of k.task done.at) in
-    let next = subst N c.in-Stay.is (c.in_ok-next.ensures k (record { sound = can.sound; feeds = ran.feeds; at = ran.at; number = ran.number })) in
+    let ran = c.in_ok-done.ensures.ran k (record { sound = can.sound; ready = on.ready }) in
+    let N : Next PhysSource (Part g.row.H.Denot) → Type 0 = IsNext (words_of g.H.KeyHasher.hash_of k) k.task c.feed.new.run c.close.new.run c.args.pipelines.now.items (sink_of k.task done.at) in
+    let next = subst N c.in-Stay.is (c.in_ok-next.ensures.next k (record { sound = can.sound; feeds = ran.feeds; at = ran.at; number = ran.number })) in
     fed_stays k.task c.args.first c.args.run.now c.feed.new.run c.close.new.run c.args.fed.now.items c.push.new.self.items
-    (fed_leg (words_of g.H.KeyHasher.hash_of k) k.task c.args.first c.ways.current c.args.run.now c.ways.run c.feed.new.run c.args.pipelines.now c.args.fed.now.items c.ways.fed.items c.push.new.self.items done on.fed ran c.in-Ok.ensures.items)
+    (fed_leg (words_of g.H.KeyHasher.hash_of k) k.task c.args.first c.ways.current c.args.run.now c.ways.run c.feed.new.run c.args.pipelines.now.items c.args.fed.now.items c.ways.fed.items c.push.new.self.items done on.fed ran c.in-Ok.ensures.items)
     next.3)
 
 pub returns-in-Answer-clause-fed : goal.returns-in-Answer-clause-fed
 returns-in-Answer-clause-fed g c = λ k can. (
     let on = c.ways.invariant.on k can in
     let done = c.in_ok-done.done in
-    let ran = c.in_ok-done.ensures k (record { sound = can.sound; ready = on.ready }) in
-    let N : Next PhysSource (Part g.row.H.Denot) → Type 0 = IsNext (words_of g.H.KeyHasher.hash_of k) k.task c.feed.new.run c.close.new.run c.args.pipelines.now (sink_of k.task done.at) in
-    let next = subst N c.in-Answer.is (c.in_ok-next.ensures k (record { sound = can.sound; feeds = ran.feeds; at = ran.at; number = ran.number })) in
+    let ran = c.in_ok-done.ensures.ran k (record { sound = can.sound; ready = on.ready }) in
+    let N : Next PhysSource (Part g.row.H.Denot) → Type 0 = IsNext (words_of g.H.KeyHasher.hash_of k) k.task c.feed.new.run c.close.new.run c.args.pipelines.now.items (sink_of k.task done.at) in
+    let next = subst N c.in-Answer.is (c.in_ok-next.ensures.next k (record { sound = can.sound; feeds = ran.feeds; at = ran.at; number = ran.number })) in
     fed_stays k.task c.args.first c.args.run.now c.feed.new.run c.close.new.run c.args.fed.now.items c.push.new.self.items
-    (fed_leg (words_of g.H.KeyHasher.hash_of k) k.task c.args.first c.ways.current c.args.run.now c.ways.run c.feed.new.run c.args.pipelines.now c.args.fed.now.items c.ways.fed.items c.push.new.self.items done on.fed ran c.in-Ok.ensures.items)
+    (fed_leg (words_of g.H.KeyHasher.hash_of k) k.task c.args.first c.ways.current c.args.run.now c.ways.run c.feed.new.run c.args.pipelines.now.items c.args.fed.now.items c.ways.fed.items c.push.new.self.items done on.fed ran c.in-Ok.ensures.items)
     next.2)
 
 pub returns-in-Stay-clause-stopped : goal.returns-in-Stay-clause-stopped
 returns-in-Stay-clause-stopped g c = λ k can. (
     let on = c.ways.invariant.on k can in
     let done = c.in_ok-done.done in
-    let ran = c.in_ok-done.ensures k (record { sound = can.sound; ready = on.ready }) in
-    let N : Next PhysSource (Part g.row.H.Denot) → Type 0 = IsNext (words_of g.H.KeyHasher.hash_of k) k.task c.feed.new.run c.close.new.run c.args.pipelines.now (sink_of k.task done.at) in
-    let next = subst N c.in-Stay.is (c.in_ok-next.ensures k (record { sound = can.sound; feeds = ran.feeds; at = ran.at; number = ran.number })) in
+    let ran = c.in_ok-done.ensures.ran k (record { sound = can.sound; ready = on.ready }) in
+    let N : Next PhysSource (Part g.row.H.Denot) → Type 0 = IsNext (words_of g.H.KeyHasher.hash_of k) k.task c.feed.new.run c.close.new.run c.args.pipelines.now.items (sink_of k.task done.at) in
+    let next = subst N c.in-Stay.is (c.in_ok-next.ensures.next k (record { sound = can.sound; feeds = ran.feeds; at = ran.at; number = ran.number })) in
     record {
       between = next.0;
-      root = went_on (words_of g.H.KeyHasher.hash_of k) k.task c.args.run.now c.ways.run c.feed.new.run c.close.new.run c.ways.current c.args.pipelines.now done ran next.1 next.2 on.root;
+      root = went_on (words_of g.H.KeyHasher.hash_of k) k.task c.args.run.now c.ways.run c.feed.new.run c.close.new.run c.ways.current c.args.pipelines.now.items done ran next.1 next.2 on.root;
     })
 
 pub returns-in-Answer-clause-stopped : goal.returns-in-Answer-clause-stopped
 returns-in-Answer-clause-stopped g c = λ k can. (
     let on = c.ways.invariant.on k can in
     let done = c.in_ok-done.done in
-    let ran = c.in_ok-done.ensures k (record { sound = can.sound; ready = on.ready }) in
-    let N : Next PhysSource (Part g.row.H.Denot) → Type 0 = IsNext (words_of g.H.KeyHasher.hash_of k) k.task c.feed.new.run c.close.new.run c.args.pipelines.now (sink_of k.task done.at) in
-    let next = subst N c.in-Answer.is (c.in_ok-next.ensures k (record { sound = can.sound; feeds = ran.feeds; at = ran.at; number = ran.number })) in
+    let ran = c.in_ok-done.ensures.ran k (record { sound = can.sound; ready = on.ready }) in
+    let N : Next PhysSource (Part g.row.H.Denot) → Type 0 = IsNext (words_of g.H.KeyHasher.hash_of k) k.task c.feed.new.run c.close.new.run c.args.pipelines.now.items (sink_of k.task done.at) in
+    let next = subst N c.in-Answer.is (c.in_ok-next.ensures.next k (record { sound = can.sound; feeds = ran.feeds; at = ran.at; number = ran.number })) in
     record { between = next.0; root = next.1 })
 
 pub ways-smaller : goal.ways-smaller
@@ -111,8 +123,78 @@ ways-smaller g c =
     let k = can.k in
     let on = c.ways.invariant.on k can.is in
     let done = c.in_ok-done.done in
-    let ran = c.in_ok-done.ensures k (record { sound = can.is.sound; ready = on.ready }) in
-    let N : Next PhysSource (Part g.row.H.Denot) → Type 0 = IsNext (words_of g.H.KeyHasher.hash_of k) k.task c.feed.new.run c.close.new.run c.args.pipelines.now (sink_of k.task done.at) in
-    let next = subst N c.in-GoOn.is (c.in_ok-next.ensures k (record { sound = can.is.sound; feeds = ran.feeds; at = ran.at; number = ran.number })) in
+    let ran = c.in_ok-done.ensures.ran k (record { sound = can.is.sound; ready = on.ready }) in
+    let N : Next PhysSource (Part g.row.H.Denot) → Type 0 = IsNext (words_of g.H.KeyHasher.hash_of k) k.task c.feed.new.run c.close.new.run c.args.pipelines.now.items (sink_of k.task done.at) in
+    let next = subst N c.in-GoOn.is (c.in_ok-next.ensures.next k (record { sound = can.is.sound; feeds = ran.feeds; at = ran.at; number = ran.number })) in
     let leg = ran.moved.steps in
     let rest = next.1 in omega arith
+
+pub returns-in_err-done-clause-asked : goal.returns-in_err-done-clause-asked
+returns-in_err-done-clause-asked g c = asked_passed_then g.C.StopCheck 0 1 1 _ _ _ _ _ _ c.from_residual.ensures.1 c.ways.invariant.asked c.in_err-done.ensures.asked
+
+pub returns-in_default-clause-asked : goal.returns-in_default-clause-asked
+returns-in_default-clause-asked g c = asked-lost g.C.StopCheck 1 1 _ _ _ _ refl (asked-then g.C.StopCheck 0 1 1 _ _ _ _ _ (omega arith) c.ways.invariant.asked c.in_ok-done.ensures.asked)
+
+pub returns-then-done-gt0-clause-asked : goal.returns-then-done-gt0-clause-asked
+returns-then-done-gt0-clause-asked g c = asked-made g.C.StopCheck 1 1 _ _ _ _ (omega arith) (asked-then g.C.StopCheck 0 1 1 _ _ _ _ _ (omega arith) c.ways.invariant.asked c.in_ok-done.ensures.asked)
+
+pub returns-in_err-next-clause-asked : goal.returns-in_err-next-clause-asked
+returns-in_err-next-clause-asked g c = asked_lost g.C.StopCheck 1 1 _ _ _ _ _ c.from_residual-in_err-next.ensures.1 c.in_err-next.ensures.calm (asked-then g.C.StopCheck 0 1 1 _ _ _ _ _ (omega arith) c.ways.invariant.asked c.in_ok-done.ensures.asked)
+
+pub returns-in-Stay-clause-asked : goal.returns-in-Stay-clause-asked
+returns-in-Stay-clause-asked g c = asked-made g.C.StopCheck 1 1 _ _ _ _ (omega arith) (asked-then g.C.StopCheck 0 1 1 _ _ _ _ _ (omega arith) c.ways.invariant.asked c.in_ok-done.ensures.asked)
+
+pub returns-in-Answer-clause-asked : goal.returns-in-Answer-clause-asked
+returns-in-Answer-clause-asked g c = asked-made g.C.StopCheck 1 1 _ _ _ _ (omega arith) (asked-then g.C.StopCheck 0 1 1 _ _ _ _ _ (omega arith) c.ways.invariant.asked c.in_ok-done.ensures.asked)
+
+pub returns-then-done-gt0-clause-paced : goal.returns-then-done-gt0-clause-paced
+returns-then-done-gt0-clause-paced g c = (
+    let most = most_of c.args.run.now.runner.context in
+    let P : PExecutionContext → Type 0 = λ context. TakesPaced (most_of context) (rows_due_from c.ways.current.source) 0 (g.C.StopCheck.asked c.ways.stop) (g.C.StopCheck.asked c.feed.new.stop) in
+    let paced = paced-then most _ _ 0 _ _ _ c.ways.invariant.paced (subst P c.ways.invariant.context c.in_ok-done.ensures.paced) in
+    paced)
+
+pub returns-in-Stay-clause-paced : goal.returns-in-Stay-clause-paced
+returns-in-Stay-clause-paced g c = (
+    let most = most_of c.args.run.now.runner.context in
+    let P : PExecutionContext → Type 0 = λ context. TakesPaced (most_of context) (rows_due_from c.ways.current.source) 0 (g.C.StopCheck.asked c.ways.stop) (g.C.StopCheck.asked c.feed.new.stop) in
+    let paced = paced-then most _ _ 0 _ _ _ c.ways.invariant.paced (subst P c.ways.invariant.context c.in_ok-done.ensures.paced) in
+    paced)
+
+pub returns-in-Answer-clause-paced : goal.returns-in-Answer-clause-paced
+returns-in-Answer-clause-paced g c = (
+    let most = most_of c.args.run.now.runner.context in
+    let P : PExecutionContext → Type 0 = λ context. TakesPaced (most_of context) (rows_due_from c.ways.current.source) 0 (g.C.StopCheck.asked c.ways.stop) (g.C.StopCheck.asked c.feed.new.stop) in
+    let paced = paced-then most _ _ 0 _ _ _ c.ways.invariant.paced (subst P c.ways.invariant.context c.in_ok-done.ensures.paced) in
+    paced)
+
+pub returns-in_err-done-clause-context : goal.returns-in_err-done-clause-context
+returns-in_err-done-clause-context g c = c.feed.ensures.context ∙ c.ways.invariant.context
+
+pub returns-in_default-clause-context : goal.returns-in_default-clause-context
+returns-in_default-clause-context g c = c.feed.ensures.context ∙ c.ways.invariant.context
+
+pub returns-then-done-gt0-clause-context : goal.returns-then-done-gt0-clause-context
+returns-then-done-gt0-clause-context g c = c.feed.ensures.context ∙ c.ways.invariant.context
+
+pub returns-in_err-next-clause-context : goal.returns-in_err-next-clause-context
+returns-in_err-next-clause-context g c = c.close.ensures.context ∙ c.feed.ensures.context ∙ c.ways.invariant.context
+
+pub returns-in-Stay-clause-context : goal.returns-in-Stay-clause-context
+returns-in-Stay-clause-context g c = c.close.ensures.context ∙ c.feed.ensures.context ∙ c.ways.invariant.context
+
+pub returns-in-Answer-clause-context : goal.returns-in-Answer-clause-context
+returns-in-Answer-clause-context g c = c.close.ensures.context ∙ c.feed.ensures.context ∙ c.ways.invariant.context
+
+pub returns-then-done-gt0-clause-schema : goal.returns-then-done-gt0-clause-schema
+returns-then-done-gt0-clause-schema g c = λ k can. tt
+
+pub returns-in-Stay-clause-schema : goal.returns-in-Stay-clause-schema
+returns-in-Stay-clause-schema g c = λ k can. tt
+
+pub returns-in-Answer-clause-schema : goal.returns-in-Answer-clause-schema
+returns-in-Answer-clause-schema g c = λ k can. (
+    let on = c.ways.invariant.on k can in
+    let ran = c.in_ok-done.ensures.ran k (record { sound = can.sound; ready = on.ready }) in
+    let N : Next PhysSource (Part g.row.H.Denot) → Type 0 = λ next. IsRootNext next k in
+    subst N c.in-Answer.is (c.in_ok-next.ensures.schema k (record { sound = can.sound; feeds = ran.feeds; at = ran.at; number = ran.number })))

@@ -1,13 +1,22 @@
-use Rattle.std.proofs.Common.{◌∷◌}
+use Rattle.std.proofs.Common.{◌≡◌, ◌∷◌}
+use Rattle.std.specs.Prelude.{Ok, Result}
+use Rattle.pipe_driver.specs.declared.error.RunError.{RunError}
 use Rattle.pipe_driver.specs.Lines.{steps_left}
+use Rattle.pipe_engine.specs.Asked.{WasAsked}
 use Rattle.pipe_engine.specs.Drives.{ForEach, CanGo, IsGoing}
+use Rattle.pipe_engine.specs.Paced.{TakesPaced, most_of, rows_due_from}
 use Rattle.pipe_engine.proofs.running.run_way.Given as goal
 
 abbrev pub invariant-ways : goal.invariant-ways
-invariant-ways g l = record {
-  on : ForEach (CanGo g.H.KeyHasher.hash_of l.initial.run l.initial.current l.pipelines)
-      (IsGoing g.H.KeyHasher.hash_of l.initial.current l.initial.run l.run l.current l.pipelines l.initial.fed.items l.fed.items);
-}
+invariant-ways g l =
+    let fine : Result (Unit {0}) RunError = Ok tt in
+    record {
+      on : ForEach (CanGo g.H.KeyHasher.hash_of l.initial.run l.initial.current l.pipelines.items)
+          (IsGoing g.H.KeyHasher.hash_of l.initial.current l.initial.run l.run l.current l.pipelines.items l.initial.fed.items l.fed.items);
+      asked : WasAsked g.C.StopCheck 0 l.initial.stop l.stop fine;
+      context : l.run.runner.context ≡ l.initial.run.runner.context;
+      paced : TakesPaced (most_of l.initial.run.runner.context) (rows_due_from l.initial.current.source) (rows_due_from l.current.source) (g.C.StopCheck.asked l.initial.stop) (g.C.StopCheck.asked l.stop);
+    }
 
 abbrev pub decreases-ways : goal.decreases-ways
 decreases-ways g l = steps_left (l.current ∷ l.run.parked.items)

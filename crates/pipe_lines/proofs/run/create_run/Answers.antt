@@ -8,8 +8,8 @@ new-requires-clause-some g c = λ κs lives. (let some = c.args.context.workers_
 pub new-requires-clause-few : goal.new-requires-clause-few
 new-requires-clause-few g c = λ κs lives. (let few = c.args.context.workers_in.1 in omega arith)
 
-pub returns : goal.returns
-returns g c =
+pub returns-clause-stand : goal.returns-clause-stand
+returns-clause-stand g c =
     let counts = c.in_ok-counts.ensures in
     let layout = c.in_ok-layout.ensures in
     let engine = c.in_ok-runner.ensures in
@@ -23,3 +23,6 @@ create_pipelines-requires-clause-layout g c = λ κs lives. c.in_ok-layout.ensur
 
 pub create_pipelines-requires-clause-workers : goal.create_pipelines-requires-clause-workers
 create_pipelines-requires-clause-workers g c = λ κs lives. (let some = c.args.context.workers_in.0 in omega arith)
+
+pub returns-clause-context : goal.returns-clause-context
+returns-clause-context g c = c.in_ok-runner.ensures.context

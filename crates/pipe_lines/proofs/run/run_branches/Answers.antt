@@ -1,12 +1,49 @@
+use Rattle.std.proofs.Common.{sym, ◌∙◌}
+use Rattle.pipe_frame.specs.Frame.{Table}
+use Rattle.pipe_engine.proofs.Asked.{asked-memory}
 use Rattle.pipe_engine.proofs.Entry.{if_ok}
 use Rattle.pipe_lines.specs.Standing.{ask_in}
+use Rattle.pipe_lines.proofs.Due.{due_enough, paced_as}
+use Rattle.pipe_lines.proofs.RootSink.{same_schema}
 use Rattle.pipe_lines.proofs.run.run_branches.Goals as goal
 
 pub execute_branches-requires-clause-stand : goal.execute_branches-requires-clause-stand
-execute_branches-requires-clause-stand g c = λ κs lives. record { asked = record { ask = ask_in c.args.plan.now; settings = c.in-Ok.ensures.settings }; stand = c.in-Ok.ensures.stand }
+execute_branches-requires-clause-stand g c = λ κs lives. record { asked = record { ask = ask_in c.args.plan.now; settings = c.in-Ok.ensures.stand.settings }; stand = c.in-Ok.ensures.stand.stand }
 
-pub returns-in-Ok : goal.returns-in-Ok
-returns-in-Ok g c =
+pub returns-in-Ok-clause-rows : goal.returns-in-Ok-clause-rows
+returns-in-Ok-clause-rows g c =
     if_ok c.execute_branches.result
-    (λ frame has. has (record { ask = ask_in c.args.plan.now; settings = c.in-Ok.ensures.settings }) c.in-Ok.ensures.stand)
-    c.execute_branches.ensures
+    (λ frame has. has (record { ask = ask_in c.args.plan.now; settings = c.in-Ok.ensures.stand.settings }) c.in-Ok.ensures.stand.stand)
+    c.execute_branches.ensures.rows
+
+pub returns-in-Ok-clause-asked : goal.returns-in-Ok-clause-asked
+returns-in-Ok-clause-asked g c = c.execute_branches.ensures.asked
+
+pub returns-in-Ok-clause-yes : goal.returns-in-Ok-clause-yes
+returns-in-Ok-clause-yes g c = c.execute_branches.ensures.yes
+
+pub returns-in-Ok-clause-last : goal.returns-in-Ok-clause-last
+returns-in-Ok-clause-last g c = c.execute_branches.ensures.last
+
+pub returns-in-Err-clause-asked : goal.returns-in-Err-clause-asked
+returns-in-Err-clause-asked g c = tt
+
+pub returns-in-Err-clause-yes : goal.returns-in-Err-clause-yes
+returns-in-Err-clause-yes g c = (asked-memory g.C.StopCheck {T = Table} c.args.stop.now).yes
+
+pub returns-in-Err-clause-last : goal.returns-in-Err-clause-last
+returns-in-Err-clause-last g c = (asked-memory g.C.StopCheck {T = Table} c.args.stop.now).last
+
+pub returns-in-Ok-clause-paced : goal.returns-in-Ok-clause-paced
+returns-in-Ok-clause-paced g c =
+    let a = g.C.StopCheck.asked c.args.stop.now in
+    let b = g.C.StopCheck.asked c.execute_branches.new.stop in
+    let enough = due_enough g.H.KeyHasher.hash_of c.in-Ok.ensures.stand.settings c.args.plan.now c.in-Ok.run' c.in-Ok.pipelines.items c.in-Ok.ensures.stand.stand in
+    paced_as c.execute_branches.result c.in-Ok.run'.runner.context c.args.context _ _ a b c.in-Ok.ensures.context enough c.execute_branches.ensures.paced
+
+pub returns-in-Ok-clause-schema : goal.returns-in-Ok-clause-schema
+returns-in-Ok-clause-schema g c =
+    let stand = c.in-Ok.ensures.stand in
+    if_ok c.execute_branches.result
+    (λ frame has. same_schema {H = g.row.H.Denot} _ _ (sym (has (record { ask = ask_in c.args.plan.now; settings = stand.settings }) stand.stand) ∙ stand.root))
+    c.execute_branches.ensures.schema
