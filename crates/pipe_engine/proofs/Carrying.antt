@@ -132,6 +132,7 @@ carry {H = H} hash_of limit from rows old new ss free was same alike fit calm wi
       grown = all_grown_after (map sum_of free) (acts_in (phys_words hash_of) old) (acts_in (phys_words hash_of) new) went.acts (omega arith) went.grown;
       flows = went.flows;
       held = went.sunk;
+      counts = went.tally;
       works = works_kept hash_of from ss old new same.lanes;
       nodes = nodes_kept hash_of old new same.lanes;
       passing = record {

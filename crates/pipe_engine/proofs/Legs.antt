@@ -19,7 +19,8 @@ use Rattle.pipe_chain.specs.Chain.{works_of}
 use Rattle.pipe_chain.specs.Flow.{Work, Acts, Flows, AllGrown}
 use Rattle.pipe_chain.proofs.FlowLemmas.{flows-same}
 use Rattle.pipe_chain.proofs.Weighing.{rows-refl, keys-sym}
-use Rattle.pipe_run.specs.Dealt.{works_in, nodes_in}
+use Rattle.pipe_chain.specs.Counts.{counts_of}
+use Rattle.pipe_run.specs.Dealt.{works_in, nodes_in, counts_in}
 use Rattle.pipe_run.specs.Lanes.{held_in, IsSet}
 use Rattle.pipe_run.specs.Stages.{operators_of}
 use Rattle.pipe_run.specs.declared.lane.Lane.{Lane}
@@ -37,7 +38,7 @@ use Rattle.pipe_passage.specs.declared.passage.Passage.{Passage}
 use Rattle.pipe_slots.specs.declared.slot.Slot.{Slot}
 use Rattle.pipe_slots.specs.declared.slot.Slot.TheVariants as slot
 use Rattle.pipe_slots.specs.declared.slots.Slots.{Slots}
-use Rattle.pipe_along.specs.Along.{AllMakeOf, more_of, come_to}
+use Rattle.pipe_along.specs.Along.{AllMakeOf, more_of, come_to, counted_at}
 use Rattle.pipe_engine.specs.Carried.{Carried}
 use Rattle.pipe_engine.specs.Engine.{Brings, SlotFits, StagesFit, Fits, IsBefore, rows_of_sink, sink_at, rows_for, nodes_before, behind}
 use Rattle.pipe_along.specs.Laws.{Arrived}
@@ -51,6 +52,7 @@ use Rattle.pipe_engine.specs.declared.engine.OpenLeg.{OpenLeg}
 use Rattle.pipe_engine.specs.declared.part.Part.{Part}
 use Rattle.pipe_sinks.specs.declared.phys_sink.PhysSink.{PhysSink}
 use Rattle.pipe_along.proofs.Flowing.{arrived, more_none, not_on}
+use Rattle.pipe_engine.proofs.Counted.{counts_alike, run_counted}
 use Rattle.pipe_engine.proofs.Opening.{nodes_are, ends_in, gives_are, place_off, not_placed, stages_open, all_enough}
 use Rattle.pipe_engine.proofs.Stages.{stages_pass, same_stages, works_make, all_give, slot_stays}
 
@@ -103,6 +105,10 @@ beside_sink there kept came h k = record {
 }
 
 -- ---- the engine with a leg that runs
+
+-- with other rows counted at nodes
+abbrev pub with_given : {H : Type 0} → Engine H → Vec ℕ → Engine H
+with_given e given = record e { given = given }
 
 abbrev pub with_leg : {H : Type 0} → Engine H → Slots H → Option (OpenLeg H) → ℕ → Engine H
 with_leg e slots leg index = record e { slots = slots; leg = leg; next_index = index }
@@ -201,6 +207,10 @@ run_fits {H = H} hash_of x old source part p seats lanes slots index from taken 
           seated = taken.seats_count ∙ fits.seated;
           workers = taken.workers ∙ fits.workers;
           places = fits.places;
+          given = fits.given;
+          counted = run_counted old.given.items old.leg (record { at = part.at; passage = record p { lanes = lanes }; sink = part.basin.sink }) limit w c more (start ∷ ops) (counts_in p.lanes.items) (counts_of ks acting (left_rows (left_of source)))
+              fits.counted idle nodes1 went.counts opened.within
+              (λ t. ap (counted_at t (start ∷ ops)) (counts_alike ks acting (left_rows (left_of source)) rows brings.rows) ∙ came.counted t);
           sinks = λ t. (
               let Q : Bool → Type 0 = λ z. SameBag (w.there (Into t) ++ c (Into t)) (rows_of_sink (sink_at old.sinks.items t) ++ cond z held1 []) in
               let T : ℕ → Type 0 = λ z. SameBag went.out (c (Into z)) in

@@ -26,3 +26,5 @@ pub mod SourceSends
 pub mod Asked
 pub mod Paces
 pub mod Schemas
+pub mod Counted
+pub mod Limits

@@ -18,7 +18,8 @@ use Rattle.pipe_driver.specs.State as state
 use Rattle.pipe_driver.specs.Runner.{Becomes, AreBuilt, Leaves, Settles}
 use Rattle.pipe_driver.proofs.Sums.{alike_from}
 use Rattle.pipe_chain.specs.Flow.{Work, Acts, Flows, AllGrown}
-use Rattle.pipe_run.specs.Dealt.{works_in, nodes_in}
+use Rattle.pipe_chain.specs.Counts.{counts_of}
+use Rattle.pipe_run.specs.Dealt.{works_in, nodes_in, counts_in}
 use Rattle.pipe_run.specs.Flushes.{rows_of_parts}
 use Rattle.pipe_run.specs.Lanes.{held_in, IsSet}
 use Rattle.pipe_run.specs.declared.lane.Lane.{Lane}
@@ -37,8 +38,9 @@ use Rattle.pipe_passage.specs.Passages.{phys_words, acts_now, GivesSchemas, IsPa
 use Rattle.pipe_passage.specs.Passages as passages
 use Rattle.pipe_passage.specs.declared.passage.Passage.{Passage}
 use Rattle.pipe_along.specs.Along.{AllMakeOf, more_of, come_to}
-use Rattle.pipe_engine.specs.Carried.{IsBack, Carried, ReadsNothing}
-use Rattle.pipe_engine.specs.Engine.{IsBare, IsTabled, SlotFits, IsRowStage, StageFits, StagesFit, LegFits, LegFitsOrNone, Fits, IsBefore, rows_of_sink, sink_at, rows_for, nodes_before, behind, join_work}
+use Rattle.pipe_driver.specs.Tables.{number_at}
+use Rattle.pipe_engine.specs.Carried.{IsBack, Carried, ReadsNothing, first_node}
+use Rattle.pipe_engine.specs.Engine.{IsBare, IsTabled, SlotFits, IsRowStage, StageFits, StagesFit, LegFits, LegFitsOrNone, Fits, AreCounted, IsAdded, IsBefore, rows_of_sink, sink_at, rows_for, nodes_before, behind, join_work}
 use Rattle.pipe_engine.specs.Passed.{with_more}
 use Rattle.pipe_sinks.specs.Sinks.{SinkSetting, setting_in, sink_rows}
 use Rattle.pipe_sinks.specs.SinkWords.{sink_words}
@@ -48,7 +50,8 @@ use Rattle.pipe_engine.specs.declared.engine.OpenLeg.{OpenLeg}
 use Rattle.pipe_sinks.specs.declared.phys_sink.PhysSink.{PhysSink}
 use Rattle.pipe_engine.proofs.Carrying.{carry}
 use Rattle.pipe_along.proofs.Flowing.{arrived, more_none, not_on, first_apart}
-use Rattle.pipe_engine.proofs.Legs.{with_leg, probed_off, into_sink, beside_sink}
+use Rattle.pipe_engine.proofs.Counted.{leave_counted, settle_counted}
+use Rattle.pipe_engine.proofs.Legs.{with_given, with_leg, probed_off, into_sink, beside_sink}
 use Rattle.pipe_engine.proofs.Owning.{kind_owns}
 use Rattle.pipe_engine.proofs.Stages.{stages_pass, same_stages, works_make, all_give, slot_stays, table_stands}
 
@@ -149,12 +152,13 @@ none_on k node now ne off = let z = ap one (eq-false node k (λ e. ne (sym e))) 
 enough_first : {H : Type 0} (lanes : ℕ) (ss : List (Slot H)) (s : Slot H) (rest : List (Slot H)) → ss ≡ s ∷ rest → AllByRecursion (HasSeats lanes) ss → HasSeats lanes s × AllByRecursion (HasSeats lanes) rest
 enough_first {H = H} lanes ss s rest e is = let P : List (Slot H) → Type 0 = AllByRecursion (HasSeats lanes) in subst P e is
 
-pub leave_fits : {H : Type 0} (hash_of : H → List ℕ → ℕ) (x : Settings H) (old : Engine H) (leg : OpenLeg H) (p : Passage H (PhysSink H)) (s : Slot H) (seats : List SeatMarks) (slots : Slots H) (node : ℕ)
+pub leave_fits : {H : Type 0} (hash_of : H → List ℕ → ℕ) (x : Settings H) (old : Engine H) (leg : OpenLeg H) (p : Passage H (PhysSink H)) (s : Slot H) (seats : List SeatMarks) (slots : Slots H) (given : Vec ℕ) (node : ℕ)
     → old.leg ≡ Some leg
+    → IsAdded (first_node (nodes_in leg.passage.lanes.items)) (number_at (counts_in leg.passage.lanes.items) 0) old.context.row_limit old.given.items given.items
     → ((limit : ℕ) (from : List Field) → IsPassing hash_of sink_words limit from leg.passage.lanes.items leg.passage.shared.items leg.passage.seats.items → HasLeft hash_of sink_words limit from s seats leg.passage.lanes.items p.lanes.items leg.passage.shared.items p.shared.items leg.passage.seats.items p.seats.items)
     → IsBack node s seats old.slots slots
-    → Leaves node (Fits hash_of old x) (Fits hash_of (with_leg old slots (Some (later leg p)) old.next_index) x) (IsBefore old.leg) (IsBefore (Some (later leg p)))
-leave_fits {H = H} hash_of x old leg p s seats slots node opened lefts back m w now at fits before =
+    → Leaves node (Fits hash_of old x) (Fits hash_of (with_leg (with_given old given) slots (Some (later leg p)) old.next_index) x) (IsBefore old.leg) (IsBefore (Some (later leg p)))
+leave_fits {H = H} hash_of x old leg p s seats slots given node opened added lefts back m w now at fits before =
     let sound = fits.sound in
     let was = leg_of hash_of x m w old leg fits opened in
     let known = before_of old.leg leg (node ∷ now) at opened before in
@@ -177,6 +181,10 @@ leave_fits {H = H} hash_of x old leg p s seats slots node opened lefts back m w 
         seated = back.seats_count ∙ fits.seated;
         workers = back.workers ∙ fits.workers;
         places = fits.places;
+        given = added.long ∙ fits.given;
+        counted =
+            (let C : Option (OpenLeg H) → Type 0 = λ l. AreCounted old.given.items l old.context.row_limit w in
+            leave_counted old.given.items given.items leg (later leg p) old.context.row_limit w left.node left.given (subst C opened fits.counted) left.nodes left.counts added);
         sinks = λ t. (
             let L : Option (OpenLeg H) → Type 0 = λ l. SameBag (w.there (Into t)) (rows_of_sink (sink_at old.sinks.items t) ++ rows_for m l t) in
             let R : List Row → Type 0 = λ r. SameBag (w.there (Into t)) (rows_of_sink (sink_at old.sinks.items t) ++ cond (t == sink_node m.ordered leg.at) r []) in
@@ -335,13 +343,14 @@ more_into there kept held mid now out came h same k l = record {
       let e4 = total-append f kept now in omega arith);
 }
 
-pub settle_fits : {H : Type 0} (hash_of : H → List ℕ → ℕ) (x : Settings H) (old : Engine H) (leg : OpenLeg H) (p : Passage H (PhysSink H)) (slots : Slots H) (node : ℕ) (nothing : Bool) (from : List Field)
+pub settle_fits : {H : Type 0} (hash_of : H → List ℕ → ℕ) (x : Settings H) (old : Engine H) (leg : OpenLeg H) (p : Passage H (PhysSink H)) (slots : Slots H) (counts : Vec ℕ) (node : ℕ) (nothing : Bool) (from : List Field)
     → old.leg ≡ Some leg
+    → IsAdded (first_node (nodes_in leg.passage.lanes.items)) (number_at (counts_in leg.passage.lanes.items) 0) old.context.row_limit old.given.items counts.items
     → ((given : ℕ) (ops : List ℕ) → nodes_in leg.passage.lanes.items ≡ given ∷ ops → from ≡ x.schema_at given)
     → passages.HasSettled hash_of sink_words old.context.row_limit from leg.passage.lanes.items p.lanes.items leg.passage.shared.items p.shared.items leg.passage.seats.items p.seats.items
     → IsSpentAt node nothing leg.passage.shared.items old.slots slots
-    → Settles node (Fits hash_of old x) (Fits hash_of (with_leg old slots (Some (later leg p)) old.next_index) x) (IsBefore old.leg) (IsBefore (Some (later leg p)))
-settle_fits {H = H} hash_of x old leg p slots node nothing from opened from_is settled spends m w now at fits before above_node seen built =
+    → Settles node (Fits hash_of old x) (Fits hash_of (with_leg (with_given old counts) slots (Some (later leg p)) old.next_index) x) (IsBefore old.leg) (IsBefore (Some (later leg p)))
+settle_fits {H = H} hash_of x old leg p slots counts node nothing from opened added from_is settled spends m w now at fits before above_node seen built =
     let sound = fits.sound in
     let limit = old.context.row_limit in
     let was = leg_of hash_of x m w old leg fits opened in
@@ -402,6 +411,11 @@ settle_fits {H = H} hash_of x old leg p slots node nothing from opened from_is s
           seated = ap length seats_are ∙ fits.seated;
           workers = spends.workers ∙ fits.workers;
           places = fits.places;
+          given = added.long ∙ fits.given;
+          counted =
+              (let C : Option (OpenLeg H) → Type 0 = λ l. AreCounted old.given.items l limit w in
+              settle_counted old.given.items counts.items leg (later leg p) limit w node c more left.node left.given (node ∷ now) (counts_in done.mid) (counts_of ks acting rows)
+              (subst C opened fits.counted) (left.nodes ∙ ap (λ z. left.node ∷ z) b.nodes) left.counts nodes1 went.counts came.counted added);
           sinks = λ t. (
               let L : Option (OpenLeg H) → Type 0 = λ l. SameBag (w.there (Into t)) (rows_of_sink (sink_at old.sinks.items t) ++ rows_for m l t) in
               let was_there = subst L opened (fits.sinks t) in

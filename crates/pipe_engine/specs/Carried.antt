@@ -4,8 +4,9 @@ use Rattle.std.specs.List.{flat_map}
 use Rattle.pipe_frame.specs.Rows.{Row, Same}
 use Rattle.pipe_frame.specs.declared.field.Field.{Field}
 use Rattle.pipe_words.specs.Flags.{SeatMarks}
+use Rattle.pipe_chain.specs.Counts.{plus, counts_of}
 use Rattle.pipe_chain.specs.Flow.{Acts, Flows, AllGrown}
-use Rattle.pipe_run.specs.Dealt.{works_in, nodes_in}
+use Rattle.pipe_run.specs.Dealt.{works_in, nodes_in, counts_in}
 use Rattle.pipe_run.specs.Lanes.{held_in, IsSet}
 use Rattle.pipe_run.specs.declared.lane.Lane.{Lane}
 use Rattle.pipe_passage.specs.Passages.{phys_words, acts_now, IsPassing, GivesSchemas}
@@ -28,6 +29,8 @@ pub record Carried {H : Type 0} (hash_of : H → List ℕ → ℕ) (limit : ℕ)
   pub grown : AllGrown (acts_now hash_of old free) (acts_now hash_of new free) acts
   pub flows : Flows (works_in (phys_words hash_of) from ss old) acts rows out
   pub held : Same (flat_map (held_in sink_rows) new) (flat_map (held_in sink_rows) old ++ out)
+  pub counts : counts_in new
+      ≡ plus (counts_in old) (counts_of (works_in (phys_words hash_of) from ss old) acts rows)
   pub works : works_in (phys_words hash_of) from ss new ≡ works_in (phys_words hash_of) from ss old
   pub nodes : nodes_in new ≡ nodes_in old
   pub passing : IsPassing hash_of sink_words limit from new ss free

@@ -1,5 +1,5 @@
 -- What the driver's steps do, for each plan of which the run may be.
-use Rattle.std.specs.Prelude.{◌≡◌, ℕ, ◌<◌, List, [], Option, Some, None}
+use Rattle.std.specs.Prelude.{◌≡◌, ℕ, ◌<◌, ◌≤◌, List, [], Option, Some, None, true, length}
 use Rattle.pipe_frame.specs.Frame.{Table}
 use Rattle.pipe_frame.specs.Rows.{Same}
 use Rattle.pipe_plan.specs.PlanRows.{rows_of}
@@ -15,6 +15,7 @@ use Rattle.pipe_driver.specs.Lines.{counts_as}
 use Rattle.pipe_driver.specs.Runs.{sink_of, Between, Ready, Passes, Feeds, HasLed, HasRun, IsNext, IsAnswer, KeepsRoot, HasStopped}
 use Rattle.pipe_driver.specs.Fronts.{FedMore, FedOn, HasRunFront, IsOnTheWayBy}
 use Rattle.pipe_driver.specs.Plans.{StandFor}
+use Rattle.pipe_driver.specs.Within.{AllWithin}
 use Rattle.pipe_source.specs.declared.phys_source.PhysSource.{PhysSource}
 use Rattle.pipe_engine.specs.Engine.{engine_words}
 use Rattle.pipe_engine.specs.Finished.{IsRootFrame}
@@ -152,6 +153,13 @@ IsRootNext (next.Answer frame) k = IsRootFrame k.settings frame
 abbrev pub HasRootSchema : {H : Type 0} → Table → Known H → Type 0
 HasRootSchema frame k = IsRootFrame k.settings frame
 
+-- ---- the limit
+
+-- no node that is run has more rows than the limit
+abbrev pub RunsWithin : {H : Type 0} → (limit : ℕ) → Known H → Type 0
+RunsWithin limit k =
+    (n : ℕ) → k.task.m.is_run n ≡ true → n < k.task.m.ordered → length (k.task.m.rows n) ≤ limit
+
 -- ---- a plan
 
 -- pipelines stand for the branches of a plan
@@ -173,3 +181,9 @@ abbrev pub AnswersSchema : {H : Type 0} → (hash_of : H → List ℕ → ℕ) �
 AnswersSchema {H = H} hash_of run pipelines frame =
     (asked : Asked H) → StandFor (engine_words hash_of asked.settings) asked.ask run pipelines
     → IsRootFrame asked.settings frame
+
+-- no node under its root has more rows than the run's limit
+abbrev pub KeepsLimit : {H : Type 0} → (hash_of : H → List ℕ → ℕ) → LineRun H → List (Line H) → Type 0
+KeepsLimit {H = H} hash_of run pipelines =
+    (asked : Asked H) → StandFor (engine_words hash_of asked.settings) asked.ask run pipelines
+    → AllWithin run.runner.context.row_limit asked.ask.plan asked.ask.root

@@ -1,5 +1,5 @@
 -- What the engine has, where a plan means this and these rows came to its places.
-use Rattle.std.specs.Prelude.{◌≡◌, ℕ, suc, ◌^◌, ◌<◌, ◌≤◌, List, [], ◌∷◌, ◌++◌, true, false, ◌==◌, if◌then◌else◌, Option, Some, None, All, length, map, slice_index_or}
+use Rattle.std.specs.Prelude.{◌≡◌, ℕ, suc, ◌+◌, ◌^◌, ◌<◌, ◌≤◌, List, [], ◌∷◌, ◌++◌, true, false, ◌==◌, if◌then◌else◌, Option, Some, None, All, length, map, slice_index_or}
 use Rattle.std.specs.List.{flat_map, AllByRecursion}
 use Rattle.std.specs.declared.sync.Arc.{Arc}
 use Rattle.pipe_frame.specs.Rows.{Row, Same}
@@ -17,6 +17,7 @@ use Rattle.pipe_legs.specs.Ways as ways
 use Rattle.pipe_legs.specs.Ways.{occurs, IsSound}
 use Rattle.pipe_driver.specs.State.{World, Waits, Has}
 use Rattle.pipe_driver.specs.State as state
+use Rattle.pipe_driver.specs.Tables.{number_at}
 use Rattle.pipe_driver.specs.Words.{RunnerWords}
 use Rattle.pipe_table.specs.KeysOfRows.{AreTypedKeys}
 use Rattle.pipe_table.specs.Spec.{built_schema, built_on}
@@ -25,7 +26,7 @@ use Rattle.pipe_table.specs.declared.spec.JoinSpec.{JoinSpec}
 use Rattle.pipe_chain.specs.Keys.{SameKeys}
 use Rattle.pipe_chain.specs.Flow.{Work, Acts}
 use Rattle.pipe_chain.specs.Unmarking.{no_key, no_row}
-use Rattle.pipe_run.specs.Dealt.{works_in, nodes_in}
+use Rattle.pipe_run.specs.Dealt.{works_in, nodes_in, counts_in}
 use Rattle.pipe_run.specs.Lanes.{IsSet, held_in}
 use Rattle.pipe_slots.specs.Kinds.{kind_of}
 use Rattle.pipe_slots.specs.JoinWords.{suits_join, work_join}
@@ -36,6 +37,7 @@ use Rattle.pipe_passage.specs.Passages.{phys_words, acts_now, IsPassing, GivesSc
 use Rattle.pipe_slots.specs.declared.slot.Slot.{Slot}
 use Rattle.pipe_slots.specs.declared.slot.Slot.TheVariants as slot
 use Rattle.pipe_passage.specs.declared.passage.Passage.{Passage}
+use Rattle.pipe_along.specs.Along.{counted_at}
 use Rattle.pipe_sinks.specs.Sinks.{setting_in, sink_rows}
 use Rattle.pipe_sinks.specs.SinkWords.{sink_words}
 use Rattle.pipe_engine.specs.Stands.{Settings, IsJoinOf, EndsAt, StandsFor}
@@ -223,6 +225,27 @@ IsKeptAt x m limit at (Some fed) =
     (setting_in fed.sink ≡ x.setting_at at) × EndsAt x m at (x.setting_at at)
     × (length (sink_rows fed.sink) ≤ fed.rows) × (fed.rows ≤ limit)
 
+-- how many rows of a node the leg that runs has counted
+abbrev pub given_in : {H : Type 0} → Option (OpenLeg H) → ℕ → ℕ
+given_in None n = 0
+given_in (Some leg) n =
+    counted_at n (nodes_in leg.passage.lanes.items) (counts_in leg.passage.lanes.items)
+
+-- each row that came out of a node is counted, by the leg that runs or by one before it, and what
+-- those counted is within the limit
+pub record AreCounted {H : Type 0} (given : List ℕ) (leg : Option (OpenLeg H)) (limit : ℕ)
+    (w : World) : Type 0 where
+  pub came : (n : ℕ) → n < length given →
+      length (w.there (OutOf n)) ≡ number_at given n + given_in leg n
+  pub within : (n : ℕ) → number_at given n ≤ limit
+
+-- so many rows more are counted at a node
+pub record IsAdded (node rows limit : ℕ) (old new : List ℕ) : Type 0 where
+  pub all : (k : ℕ) → k < length old →
+      number_at new k ≡ number_at old k + (if node == k then rows else 0)
+  pub long : length new ≡ length old
+  pub within : (k : ℕ) → number_at new k ≤ limit
+
 -- the settings of a join are there
 abbrev pub HasSpec : {A : Type 0} → JoinSpec → Option (Arc JoinSpec A) → Type 0
 HasSpec spec None = ⊥
@@ -242,6 +265,9 @@ pub record Fits {H : Type 0} (hash_of : H → List ℕ → ℕ) (engine : Engine
   pub seated : length engine.slots.seats.items ≡ m.ordered
   pub workers : engine.slots.workers ≡ engine.context.workers
   pub places : length engine.sinks.items ≡ suc m.ordered
+  -- what came out of a node
+  pub given : length engine.given.items ≡ m.ordered
+  pub counted : AreCounted engine.given.items engine.leg engine.context.row_limit w
   -- what came into a sink
   pub sinks : (s : ℕ) →
       SameBag (w.there (Into s)) (rows_of_sink (sink_at engine.sinks.items s) ++ rows_for m engine.leg s)

@@ -46,6 +46,8 @@ pub struct Engine<H: HashesKeys> {
     /// How many nodes the plan has.
     pub nodes: u32,
     pub slots: Slots<H>,
+    /// How many rows each node gave in the legs that have left it.
+    pub given: Vec<u64>,
     /// What legs have fed, by the number of the sort or the join; last that of the root.
     pub sinks: Vec<Option<FedSink<H>>>,
     pub leg: Option<OpenLeg<H>>,

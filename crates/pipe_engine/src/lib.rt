@@ -1,6 +1,7 @@
 //! The engine that runs the pipelines of a plan: its sinks, the leg that runs, and the driver over them.
 #![tactic(auto)]
 
+mod counting;
 mod driving;
 mod engine;
 mod feeding;

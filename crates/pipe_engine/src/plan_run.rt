@@ -3,7 +3,7 @@
 ghost use Rattle.std.specs.Prelude.{◌≡◌, IfOk, OnOk, Err, true};
 ghost use Rattle.pipe_frame.specs.Counts.{Counts, Rises};
 ghost use Rattle.pipe_engine.specs.Asked.{stops};
-ghost use Rattle.pipe_engine.specs.Drives.{ForPlan, AnswersPlan, AnswersSchema};
+ghost use Rattle.pipe_engine.specs.Drives.{ForPlan, AnswersPlan, AnswersSchema, KeepsLimit};
 ghost use Rattle.pipe_engine.specs.Paced.{TakesPaced, most_of, rows_due_of};
 
 use crate::engine::{PlanLine, PlanRun, Tools};
@@ -14,9 +14,9 @@ use pipe_rows::KeyHasher;
 use std::alloc::Global;
 use std::thread::Threads;
 
-/// Runs pipelines that stand for the branches of a plan: the rows of its root. To each question of the stop check the
-/// workers take at most four chunks each of the pipelines' sources. `Stopped` where it said yes, after which it isn't
-/// asked again; else it said no each time.
+/// Runs pipelines that stand for the branches of a plan: the rows of its root. No node under that has more rows than the
+/// limit. To each question of the stop check the workers take at most four chunks each of the pipelines' sources.
+/// `Stopped` where it said yes, after which it isn't asked again; else it said no each time.
 pub fn execute_branches<R: Threads + Sync, H: KeyHasher, C: StopCheck, G: Gate + Sync>(
     alloc: Global,
     tools: &Tools<R, G>,
@@ -27,6 +27,7 @@ pub fn execute_branches<R: Threads + Sync, H: KeyHasher, C: StopCheck, G: Gate +
     requires stand { ForPlan H.hash_of run pipelines.items }
     ensures rows { IfOk result (AnswersPlan H.hash_of run pipelines.items) }
     ensures schema { IfOk result (AnswersSchema H.hash_of run pipelines.items) }
+    ensures within { OnOk result (KeepsLimit H.hash_of run pipelines.items) }
     ensures asked { OnOk result (Rises (C.asked stop.old) (C.asked stop.new)) }
     ensures yes { Counts (stops result) (C.yes stop.old) (C.yes stop.new) }
     ensures last { result ≡ Err RunError.Stopped → C.last_answer stop.new ≡ true }

@@ -5,7 +5,7 @@ ghost use Rattle.pipe_frame.specs.Counts.{Counts, Rises};
 ghost use Rattle.pipe_engine.specs.Asked.{WasAsked, stops};
 ghost use Rattle.pipe_engine.specs.Engine.{IsIdle};
 ghost use Rattle.pipe_engine.specs.Drives.{ForSome, ForEach, CanGo, Stopped, FedSinks, CanBegin, RanFront, CanRun, HasRoot};
-ghost use Rattle.pipe_engine.specs.Drives.{IsRootAnswer, HasRootSchema};
+ghost use Rattle.pipe_engine.specs.Drives.{IsRootAnswer, HasRootSchema, RunsWithin};
 ghost use Rattle.pipe_engine.specs.Paced.{TakesPaced, most_of, rows_due_from, rows_due_of};
 
 use crate::driving::{close, feed};
@@ -102,8 +102,9 @@ pub fn run_pipeline<R: Threads + Sync, H: KeyHasher, C: StopCheck, G: Gate + Syn
     }
 }
 
-/// Runs pipelines that stand for the branches of a plan, in order, to the last: the rows of the root. `Stopped` where the
-/// stop check said yes, after which it isn't asked again; else it said no each time.
+/// Runs pipelines that stand for the branches of a plan, in order, to the last: the rows of the root. No node has more
+/// rows than the limit. `Stopped` where the stop check said yes, after which it isn't asked again; else it said no each
+/// time.
 pub fn execute_pipeline<R: Threads + Sync, H: KeyHasher, C: StopCheck, G: Gate + Sync>(
     alloc: Global,
     tools: &Tools<R, G>,
@@ -117,6 +118,8 @@ pub fn execute_pipeline<R: Threads + Sync, H: KeyHasher, C: StopCheck, G: Gate +
         (HasRoot frame)) }
     ensures schema { IfOk result (λ frame. ForEach (CanRun H.hash_of run pipelines.items)
         (HasRootSchema frame)) }
+    ensures within { OnOk result (ForEach (CanRun H.hash_of run pipelines.items)
+        (RunsWithin run.runner.context.row_limit)) }
     ensures asked { OnOk result (Rises (C.asked stop.old) (C.asked stop.new)) }
     ensures yes { Counts (stops result) (C.yes stop.old) (C.yes stop.new) }
     ensures last { result ≡ Err RunError.Stopped → C.last_answer stop.new ≡ true }

@@ -6,6 +6,7 @@ ghost use Rattle.pipe_driver.specs.Plans.{at_start};
 ghost use Rattle.pipe_engine.specs.Engine.{sink_at, Fits, IsIdle, MayStart};
 ghost use Rattle.pipe_engine.specs.Stands.{Settings};
 
+use crate::counting::no_rows;
 use crate::engine::{Engine, FedSink};
 use pipe_index::HashesKeys;
 use pipe_ops::PExecutionContext;
@@ -48,6 +49,7 @@ impl<H: HashesKeys> Engine<H> {
             MayStart e x m → Fits hash_of e x m at_start) }
     {
         let slots = Slots::new(alloc, nodes, context.workers)?;
+        let given = no_rows(alloc, nodes)?;
         let sinks = no_sinks(alloc, nodes)?;
         Ok(Engine {
             context,
@@ -56,6 +58,7 @@ impl<H: HashesKeys> Engine<H> {
             specs,
             nodes,
             slots,
+            given,
             sinks,
             leg: None,
             next_index: 0,

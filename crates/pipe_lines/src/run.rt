@@ -4,7 +4,8 @@ ghost use Rattle.std.specs.Prelude.{◌≡◌, IfOk, OnOk, Err, true};
 ghost use Rattle.pipe_frame.specs.Counts.{Counts, Rises};
 ghost use Rattle.pipe_frame.specs.Rows.{Same};
 ghost use Rattle.pipe_convert.specs.Converted.{schema_in};
-ghost use Rattle.pipe_create.specs.Nodes.{rows_in};
+ghost use Rattle.pipe_create.specs.Nodes.{plan_in, rows_in};
+ghost use Rattle.pipe_driver.specs.Within.{AllWithin};
 ghost use Rattle.pipe_engine.specs.Asked.{stops};
 ghost use Rattle.pipe_engine.specs.Paced.{TakesPaced, most_of};
 ghost use Rattle.pipe_lines.specs.Standing.{IsRunFor, rows_scanned};
@@ -58,9 +59,9 @@ pub fn create_run<H: KeyHasher>(
     Ok((run, pipelines))
 }
 
-/// Runs the pipelines of a checked plan: the rows of its root, under its schema. To each question of the stop check the
-/// workers take at most four chunks each of the scans under the root. `Stopped` where it said yes, after which it isn't
-/// asked again; else it said no each time.
+/// Runs the pipelines of a checked plan: the rows of its root, under its schema. No node under that has more rows than the
+/// limit. To each question of the stop check the workers take at most four chunks each of the scans under the root.
+/// `Stopped` where it said yes, after which it isn't asked again; else it said no each time.
 pub fn run_branches<R: Threads + Sync, H: KeyHasher, C: StopCheck, G: Gate + Sync>(
     alloc: Global,
     tools: &Tools<R, G>,
@@ -71,6 +72,7 @@ pub fn run_branches<R: Threads + Sync, H: KeyHasher, C: StopCheck, G: Gate + Syn
 ) -> Result<DataFrame, RunError>
     ensures rows { IfOk result (λ frame. Same frame.rows (rows_in plan.now plan.now.root)) }
     ensures schema { IfOk result (λ frame. frame.schema ≡ schema_in plan.now plan.now.root) }
+    ensures within { OnOk result (AllWithin context.row_limit (plan_in plan.now) plan.now.root) }
     ensures asked { OnOk result (Rises (C.asked stop.old) (C.asked stop.new)) }
     ensures yes { Counts (stops result) (C.yes stop.old) (C.yes stop.new) }
     ensures last { result ≡ Err RunError.Stopped → C.last_answer stop.new ≡ true }

@@ -2,6 +2,7 @@ use Rattle.std.proofs.Common.{subst}
 use Rattle.pipe_frame.specs.Rows.{Same}
 use Rattle.pipe_engine.specs.Known.{words_of, known_of}
 use Rattle.pipe_engine.proofs.Entry.{if_ok, root_rows, stand_between, stand_open, sound_of}
+use Rattle.pipe_engine.proofs.Limits.{keeps_limit, on_ok}
 use Rattle.pipe_engine.proofs.plan_run.execute_branches.Goals as goal
 
 pub execute_pipeline-requires-clause-can : goal.execute_pipeline-requires-clause-can
@@ -56,3 +57,15 @@ returns-clause-schema g c =
       root = stand_open r asked.ask c.args.run c.args.pipelines.items is;
     }))))
     c.execute_pipeline.ensures.schema
+
+pub returns-clause-within : goal.returns-clause-within
+returns-clause-within g c =
+    on_ok c.execute_pipeline.result
+    (λ has asked is. (
+    let r = words_of g.H.KeyHasher.hash_of (known_of asked) in
+    keeps_limit c.args.run.runner.context.row_limit asked.ask.plan asked.ask.root is.well (has (known_of asked) (record {
+      sound = sound_of r asked.ask c.args.run c.args.pipelines.items is;
+      between = stand_between r asked.ask c.args.run c.args.pipelines.items is;
+      root = stand_open r asked.ask c.args.run c.args.pipelines.items is;
+    }))))
+    c.execute_pipeline.ensures.within

@@ -13,6 +13,7 @@ use Rattle.pipe_driver.specs.Runs.{Between, IsAnswer}
 use Rattle.pipe_driver.proofs.Fronts.{answer_newer}
 use Rattle.pipe_engine.proofs.Asked.{answers, asked-ok, asked-answers, asked-answered, asked-risen, asked-then, asked_passed_then, rises}
 use Rattle.pipe_engine.proofs.Driven.{answer_there, fewer_left}
+use Rattle.pipe_engine.proofs.Limits.{runs_within}
 use Rattle.pipe_engine.proofs.Paces.{paced-none, paced-then}
 use Rattle.pipe_engine.proofs.Schemas.{newer_schema}
 use Rattle.pipe_engine.proofs.running.execute_pipeline.Goals as goal
@@ -124,3 +125,7 @@ pub returns-clause-schema : goal.returns-clause-schema
 returns-clause-schema g c = λ k can. (
     let A : Option Table → Type 0 = λ answer. IsRootAnswer answer k in
     subst A c.in-Some-answer.is (c.fronts.invariant.schema k can))
+
+pub returns-clause-within : goal.returns-clause-within
+returns-clause-within g c = λ k can.
+    runs_within g.H.KeyHasher.hash_of k c.fronts.run c.fronts.left.items c.args.run.runner.context (c.fronts.invariant.on k can).between (nil_from_length c.fronts.left.items (omega (arith, c.in_default.ensures.cases.0))) c.fronts.invariant.parked c.fronts.invariant.context

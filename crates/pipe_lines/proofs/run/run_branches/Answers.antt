@@ -1,7 +1,11 @@
-use Rattle.std.proofs.Common.{sym, ◌∙◌}
+use Rattle.std.proofs.Common.{sym, subst, ◌∙◌}
 use Rattle.pipe_frame.specs.Frame.{Table}
+use Rattle.pipe_ops.specs.declared.context.PExecutionContext.{PExecutionContext}
+use Rattle.pipe_create.specs.Nodes.{plan_in}
+use Rattle.pipe_driver.specs.Within.{AllWithin}
 use Rattle.pipe_engine.proofs.Asked.{asked-memory}
 use Rattle.pipe_engine.proofs.Entry.{if_ok}
+use Rattle.pipe_engine.proofs.Limits.{on_ok}
 use Rattle.pipe_lines.specs.Standing.{ask_in}
 use Rattle.pipe_lines.proofs.Due.{due_enough, paced_as}
 use Rattle.pipe_lines.proofs.RootSink.{same_schema}
@@ -47,3 +51,11 @@ returns-in-Ok-clause-schema g c =
     if_ok c.execute_branches.result
     (λ frame has. same_schema {H = g.row.H.Denot} _ _ (sym (has (record { ask = ask_in c.args.plan.now; settings = stand.settings }) stand.stand) ∙ stand.root))
     c.execute_branches.ensures.schema
+
+pub returns-in-Ok-clause-within : goal.returns-in-Ok-clause-within
+returns-in-Ok-clause-within g c =
+    let L : PExecutionContext → Type 0 = λ z. AllWithin z.row_limit (plan_in c.args.plan.now) c.args.plan.now.root in
+    let stand = c.in-Ok.ensures.stand in
+    on_ok c.execute_branches.result
+    (λ has. subst L c.in-Ok.ensures.context (has (record { ask = ask_in c.args.plan.now; settings = stand.settings }) stand.stand))
+    c.execute_branches.ensures.within
