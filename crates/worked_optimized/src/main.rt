@@ -4,8 +4,13 @@
 mod case;
 mod columns;
 mod filters;
+mod full_joins;
 mod large;
+mod ledger;
+mod other_joins;
+mod plain;
 mod refused;
+mod rows;
 mod table;
 
 use std::io;

@@ -1,7 +1,7 @@
 //! All cases, topic by topic.
 
 use crate::case::tell_cases;
-use crate::{columns, filters, large, refused};
+use crate::{columns, filters, large, refused, rows};
 use std::alloc::{AllocError, Global};
 use std::thread::Threads;
 
@@ -12,5 +12,6 @@ pub(crate) fn answers<T: Threads + Sync>(rt: &T, alloc: Global) -> Result<String
     tell_cases(rt, alloc, &mut answers, columns::CASES)?;
     refused::tell(rt, alloc, &mut answers)?;
     large::tell(rt, alloc, &mut answers)?;
+    rows::tell(rt, alloc, &mut answers)?;
     Ok(answers)
 }
