@@ -1,8 +1,9 @@
 -- Rounds that are noted one after another.
-use Rattle.std.proofs.Common.{◌≡◌, ℕ, List, [], ◌∷◌, ◌++◌, length, refl, ap, sym, ◌∙◌, subst, append_assoc, append-nil}
+use Rattle.std.proofs.Common.{◌≡◌, ℕ, List, [], ◌∷◌, ◌++◌, length, refl, ap, sym, ◌∙◌, subst, append_assoc, append-nil, arith}
 use Rattle.pipe_ops.specs.declared.source.Morsel.{Morsel}
 use Rattle.pipe_run.specs.Claimed.{entries_at}
 use Rattle.pipe_takings.specs.declared.note.Note.{Note}
+use Rattle.pipe_run.specs.declared.entry.Entry.{Entry}
 use Rattle.pipe_takings.specs.Notes.{notes_from}
 use Rattle.pipe_takings.specs.Noted.{IsNotedSince}
 use Rattle.pipe_takings.specs.Rounds.{AreNotedInTurn, AreNotedBehind}
@@ -38,3 +39,12 @@ go_on workers batches ms old now new so_far next =
 
 pub begin : NotesBegin
 begin workers old = record { since = []; whole = sym (append-nil old); noted = refl }
+
+-- nothing was claimed, and nothing noted
+pub none_noted : (workers : ℕ) (entries : ℕ → List Entry) (notes : List Note) → IsNotedSince workers 0 entries notes notes
+none_noted workers entries notes = record {
+  lanes = [];
+  whole = sym (append-nil notes);
+  few = omega arith;
+  noted = record { numbers = []; each_once = λ weight. refl; noted = refl };
+}

@@ -1,5 +1,5 @@
 -- What lanes noted in a round, in one list; and the events of it.
-use Rattle.std.specs.Prelude.{◌≡◌, ℕ, suc, List, [], ◌∷◌, ◌++◌, map, slice_index_or, cond, ltb}
+use Rattle.std.specs.Prelude.{◌≡◌, ℕ, suc, List, [], ◌∷◌, ◌++◌, map, slice_index_or, cond, ltb, ◌==◌}
 use Rattle.std.specs.List.{flat_map, range_with_len}
 use Rattle.pipe_words.specs.Sums.{SameItems}
 use Rattle.pipe_events.specs.Worlds as worlds
@@ -74,3 +74,8 @@ event_of nodes join note = entry_event nodes join note.worker note.entry
 
 abbrev pub events_of : (nodes : List ℕ) → (join : ℕ) → List Note → List Event
 events_of nodes join notes = map (event_of nodes join) notes
+
+-- the end of a join of which so many partitions were flushed: nothing where there was none
+abbrev pub ending_of : (join parts : ℕ) → List Note → List Event
+ending_of join parts notes =
+    cond (parts == 0) [] (worlds.Close join worlds.OfProbe ∷ events_of [] join notes)

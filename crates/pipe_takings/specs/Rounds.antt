@@ -50,9 +50,12 @@ pub record AreNotedBehind (workers : ℕ) (batches : List (List Morsel)) (old ne
     pub noted : AreNotedInTurn workers batches since
 
 -- frames from their first row on, each with as many rows as its node has positions
+abbrev pub AreSuppliedBy : (supply_at : ℕ → ℕ) → List ℕ → List Left → Type 0
+AreSuppliedBy supply_at [] [] = Unit {0}
+AreSuppliedBy supply_at [] (l ∷ left) = ⊥
+AreSuppliedBy supply_at (n ∷ nodes) [] = ⊥
+AreSuppliedBy supply_at (n ∷ nodes) (l ∷ left) =
+    (l.from ≡ 0) × (length l.rows ≡ supply_at n) × AreSuppliedBy supply_at nodes left
+
 abbrev pub AreSupplied : Stages → List ℕ → List Left → Type 0
-AreSupplied plan [] [] = Unit {0}
-AreSupplied plan [] (l ∷ left) = ⊥
-AreSupplied plan (n ∷ nodes) [] = ⊥
-AreSupplied plan (n ∷ nodes) (l ∷ left) =
-    (l.from ≡ 0) × (length l.rows ≡ supply plan n) × AreSupplied plan nodes left
+AreSupplied plan nodes left = AreSuppliedBy (supply plan) nodes left

@@ -8,8 +8,10 @@ mod draining;
 mod laws;
 mod note;
 mod noting;
+mod writing;
 
 pub use draining::drain_notes;
 pub use laws::{joins_are_flushed, notes_begin, notes_go_on, sources_are_taken};
 pub use note::Note;
 pub use noting::{noted_flush, noted_round};
+pub use writing::{write_flushes, write_takes};

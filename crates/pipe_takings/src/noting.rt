@@ -3,13 +3,13 @@
 ghost use Rattle.std.specs.List.{AllByRecursion};
 ghost use Rattle.std.specs.Prelude.{◌≡◌, ◌<◌, ◌≤◌, length, All, IfOk, IfErr};
 ghost use Rattle.pipe_chain.specs.Counts.{AllWithin};
-ghost use Rattle.pipe_run.specs.Claimed.{schema_in, IsOfSchema, entries_at};
+ghost use Rattle.pipe_run.specs.Claimed.{schema_in, IsOfSchema, entries_at, chunks_lot, parts_lot};
 ghost use Rattle.pipe_run.specs.Dealt.{AreAlike, DoTheSame, WentAll, TellsFirst};
 ghost use Rattle.pipe_run.specs.Dealt.{counts_in, IsOverIn, rows_of_all};
 ghost use Rattle.pipe_run.specs.Lanes.{IsFit, IsCalm};
 ghost use Rattle.pipe_run.specs.Flushes.{flushed_in, IsFlushFit, rows_of_parts};
 ghost use Rattle.pipe_takings.specs.Notes.{HasNothing, entries_of_parts};
-ghost use Rattle.pipe_takings.specs.Noted.{IsNotedSince};
+ghost use Rattle.pipe_takings.specs.Noted.{IsNotedSince, DealtNoted};
 
 use crate::draining::drain_notes;
 use crate::note::Note;
@@ -49,6 +49,8 @@ pub fn noted_round<R: Threads + Sync, O: Operator, K: Sink, G: Gate + Sync>(
     ensures went { IfOk result (λ _. WentAll O.Operator K.Sink shared.now (schema_in morsels.now)
         (rows_of_all morsels.now) lanes.old lanes.new) }
     ensures within { IfOk result (λ _. AllWithin context.now.row_limit (counts_in lanes.new)) }
+    ensures dealt { IfOk result (λ _. DealtNoted O.Operator K.Sink shared.now context.now.row_limit
+        (chunks_lot morsels.now) lanes.old lanes.new notes.old.items notes.new.items) }
     ensures noted { IfOk result (λ _. IsNotedSince (length lanes.old) (length morsels.now)
         (entries_at morsels.now) notes.old.items notes.new.items) }
     ensures none { IfOk result (λ _. AllByRecursion HasNothing lanes.new) }
@@ -94,6 +96,9 @@ pub fn noted_flush<R: Threads + Sync, O: FlushParts, K: Sink, G: Gate + Sync>(
         (flushed_in O.Operator lanes.old) (rows_of_parts O.parts O.part_of own.now)
         lanes.old lanes.new) }
     ensures within { IfOk result (λ _. AllWithin context.now.row_limit (counts_in lanes.new)) }
+    ensures dealt { IfOk result (λ _. DealtNoted O.Operator K.Sink others.now context.now.row_limit
+        (parts_lot O.parts O.part_of (flushed_in O.Operator lanes.old) own.now) lanes.old lanes.new
+        notes.old.items notes.new.items) }
     ensures noted { IfOk result (λ _. IsNotedSince (length lanes.old) (O.parts own.now)
         (entries_of_parts (O.parts own.now)) notes.old.items notes.new.items) }
     ensures none { IfOk result (λ _. AllByRecursion HasNothing lanes.new) }

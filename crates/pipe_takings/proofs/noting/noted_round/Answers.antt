@@ -79,6 +79,15 @@ returns-clause-went g c = kept_went g.O.Operator g.K.Sink c.args.shared.now (sch
 pub returns-clause-within : goal.returns-clause-within
 returns-clause-within g c = within_kept c.args.context.now.row_limit c.round.new.lanes c.drain_notes.new.lanes c.drain_notes.ensures.kept c.in_default.ensures.within
 
+pub returns-clause-dealt : goal.returns-clause-dealt
+returns-clause-dealt g c =
+    record {
+      mid = c.round.new.lanes;
+      dealt = c.in_default.ensures.dealt;
+      kept = c.drain_notes.ensures.kept;
+      noted = c.in-Ok.ensures.notes;
+    }
+
 pub returns-clause-noted : goal.returns-clause-noted
 returns-clause-noted g c =
     record {
