@@ -21,7 +21,7 @@ use Rattle.pipe_check.proofs.Walks.{member, itself}
 use Rattle.pipe_convert.specs.Converted.{IsSourceOf, schema_in}
 use Rattle.pipe_convert.proofs.Granted.{granted}
 use Rattle.pipe_create.specs.Nodes.{IsUnder, plan_in, nodes_in, rows_in}
-use Rattle.pipe_create.specs.Sources.{AreWhole, HasFewRows, IsSourceAt, AreScans, AreScansOf, IsUnionOf}
+use Rattle.pipe_create.specs.Sources.{AreWhole, HasFewRows, IsSourceAt, AreScans, AreScansOf, IsUnionOf, taken_at}
 use Rattle.pipe_create.proofs.NodeRows.{scan_rows, union_rows}
 use Rattle.pipe_create.proofs.SameFields.{first_true, second_true, union_schema}
 
@@ -100,14 +100,15 @@ union_some plan n (x ∷ xs) (l ∷ lefts) good under is are none = cc
 
 -- ---- sources
 
-pub frame_is : (plan : Checked) (n : ℕ) (l : Left) → IsWellFormed (plan_in plan) plan.root → IsUnder plan n → node_word (node_at (nodes_in plan) n) ≡ node_word (node.DataFrameScan 0 None) → IsSourceOf plan n l → HasFewRows (l ∷ []) → IsSourceAt plan n (Frame l)
-frame_is plan n l good under word h few =
+pub frame_is : (plan : Checked) (n : ℕ) (l : Left) → IsWellFormed (plan_in plan) plan.root → IsUnder plan n → node_word (node_at (nodes_in plan) n) ≡ node_word (node.DataFrameScan 0 None) → taken_at (node_at (nodes_in plan) n) n ≡ n ∷ [] → IsSourceOf plan n l → HasFewRows (l ∷ []) → IsSourceAt plan n (Frame l)
+frame_is plan n l good under word own h few =
     record {
       whole = (record { whole = h.whole; schema_is = h.gives_output }, tt);
       some = λ none. cc;
       few = few;
       rows = append-nil l.rows ∙ sym (scan_rows (plan_in plan) plan.root n good under l.rows h.rows);
       text = sym word;
+      scans = (let S : List ℕ → Type 0 = λ ns. AreScansOf plan ns (l ∷ []) in subst S (sym own) (h, tt));
     }
 
 pub union_is : (plan : Checked) (n : ℕ) (inputs : List ℕ) (supply : Supply) → IsWellFormed (plan_in plan) plan.root → IsUnder plan n → node_at (nodes_in plan) n ≡ node.Union inputs → AreScans plan inputs → IsUnionOf plan inputs supply → HasFewRows supply.left → IsSourceAt plan n (Union supply)
@@ -118,6 +119,7 @@ union_is plan n inputs supply good under is are h few =
       whole = scans_whole plan (schema_in plan n) inputs supply.left (λ x m. union_schema (plan_in plan) plan.root n good under inputs is x m) h;
       rows = scans_rows plan inputs supply.left good are h ∙ sym (union_rows (plan_in plan) plan.root n good under inputs is);
       text = ap node_word (sym is);
+      scans = (let S : List ℕ → Type 0 = λ ns. AreScansOf plan ns supply.left in subst S (sym (ap (λ x. taken_at x n) is)) h);
     }
 
 -- the inputs of a union of scans alone

@@ -13,7 +13,7 @@ use Rattle.pipe_plan.specs.Swap.{swaps}
 use Rattle.pipe_plan.specs.declared.ir.JoinOptions.{JoinOptions}
 use Rattle.pipe_branches.specs.Branches.{built_side, probed_side}
 use Rattle.pipe_branches.specs.Texts.{build_word, build_word_of}
-use Rattle.pipe_events.specs.Stages.{JoinStage, Joined, through}
+use Rattle.pipe_events.specs.Stages.{JoinStage, Joined, through, flushes, flushes_by}
 use Rattle.pipe_events.specs.PlanStages.{stage_at, join_stage}
 use Rattle.pipe_table.specs.Spec.{IsSpec, settings_of}
 use Rattle.pipe_table.specs.declared.spec.JoinSpec.{JoinSpec}
@@ -86,4 +86,8 @@ module _ (plan : Checked) (n left right : ℕ) (left_on right_on : List Formula)
             ∙ ap (λ j. built_share j spec.swapped (rows probed) (rows built)) (sym same)
             ∙ ap (λ k. built_share (settings_of spec) spec.swapped (rows k) (rows built)) (sym probed_is)
             ∙ ap (built_share (settings_of spec) spec.swapped (rows ((meaning_in plan).probed n))) (sym below_is);
+        flushing = λ j e. (
+            let f : Joined j ≡ Joined stage = sym e ∙ staged in
+            let g : j ≡ stage = cc in
+            ap flushes g ∙ ap (λ k. flushes_by k (swaps options)) (sym (ap (λ i. i.how) same)) ∙ ap (flushes_by spec.how) (sym side));
       }

@@ -8,18 +8,20 @@ use Rattle.pipe_expr.specs.declared.join_words.JoinType.TheVariants as how
 use Rattle.pipe_table.specs.Spec.{IsSpec, settings_of, built_schema, probed_schema}
 use Rattle.pipe_table.specs.declared.spec.JoinSpec.{JoinSpec}
 use Rattle.pipe_plan.specs.Under.{node_at}
+use Rattle.pipe_events.specs.Stages.{JoinStage, Joined, flushes, flushes_by}
+use Rattle.pipe_events.specs.PlanStages.{stage_at}
 use Rattle.pipe_branches.specs.Texts.{build_word, build_word_of}
 use Rattle.pipe_check.specs.Checked.{Checked}
 use Rattle.pipe_convert.specs.Converted.{schema_in}
 use Rattle.pipe_legs.specs.Shape.{kind_at, below_sink}
-use Rattle.pipe_create.specs.Nodes.{nodes_in, meaning_in}
+use Rattle.pipe_create.specs.Nodes.{plan_in, nodes_in, meaning_in}
 
 -- the node on the side of a join that is built
 abbrev pub built_in : Checked → ℕ → ℕ
 built_in plan n = below_sink (kind_at (nodes_in plan) n)
 
 -- a spec is that of a join: what it says of a row, and of the rows that the built side keeps, is what
--- the node means, and its build sink has the node's word
+-- the node means, it keeps rows of that side where the node does, and its build sink has the node's word
 pub record IsSpecOf (plan : Checked) (n : ℕ) (spec : JoinSpec) : Type 0 where
   pub good : IsSpec spec
   pub word : build_word_of spec.how ≡ build_word (node_at (nodes_in plan) n)
@@ -30,6 +32,8 @@ pub record IsSpecOf (plan : Checked) (n : ℕ) (spec : JoinSpec) : Type 0 where
       ≡ probe_share (settings_of spec) spec.swapped ((meaning_in plan).below n)
   pub own : (meaning_in plan).own n ≡ built_share (settings_of spec) spec.swapped
       ((meaning_in plan).rows ((meaning_in plan).probed n)) ((meaning_in plan).below n)
+  pub flushing : (j : JoinStage) → stage_at (plan_in plan) plan.root n ≡ Joined j →
+      flushes j ≡ flushes_by spec.how spec.swapped
 
 -- a spec that is no join's
 abbrev pub no_spec : JoinSpec

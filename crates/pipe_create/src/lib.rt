@@ -12,4 +12,4 @@ pub use counting::{LegCounts, branch_counts, operators_between};
 pub use joins::join_specs;
 pub use laws::{branches_are, chains_lead};
 pub use nodes::{marked_nodes, node_count, numbered};
-pub use source::get_source;
+pub use source::{get_source, source_nodes};

@@ -7,7 +7,7 @@ ghost use Rattle.pipe_branches.specs.Branches.{is_scan, is_scan_at};
 ghost use Rattle.pipe_convert.specs.Converted.{IsScanOf, IsSourceOf};
 ghost use Rattle.pipe_legs.specs.Shape.{Begins, kind_at, kind_of};
 ghost use Rattle.pipe_create.specs.Nodes.{IsUnder, nodes_in};
-ghost use Rattle.pipe_create.specs.Sources.{AreScans, HasFewRows, IsSourceAt, IsUnionOf};
+ghost use Rattle.pipe_create.specs.Sources.{AreScans, HasFewRows, IsSourceAt, IsUnionOf, taken_at};
 
 use crate::nodes::numbered;
 use pipe_check::CheckedPlan;
@@ -161,4 +161,55 @@ pub fn get_source(alloc: Global, plan: &CheckedPlan, n: u32) -> Result<PhysSourc
     ensures { IfOk result (IsSourceAt plan.now n) }
 {
     node_source(alloc, plan, n, numbered(plan, n))
+}
+
+/// The nodes whose rows are taken where a leg begins at a node that is given.
+fn taken_nodes(alloc: Global, n: u32, node: &IR) -> Result<Vec<u32>, AllocError>
+    ensures { IfOk result (λ nodes. nodes.items ≡ taken_at (node_of node.now) n) }
+{
+    match node {
+        IR::Union { inputs } => Ok(inputs.as_slice().to_vec(alloc)?),
+        IR::DataFrameScan {
+            frame: _,
+            columns: _,
+        }
+        | IR::Filter {
+            input: _,
+            predicate: _,
+        }
+        | IR::SimpleProjection {
+            input: _,
+            columns: _,
+        }
+        | IR::Select { input: _, exprs: _ }
+        | IR::HStack { input: _, exprs: _ }
+        | IR::MapFunction {
+            input: _,
+            function: _,
+        }
+        | IR::Join {
+            left: _,
+            right: _,
+            left_on: _,
+            right_on: _,
+            options: _,
+        }
+        | IR::Sort {
+            input: _,
+            by: _,
+            options: _,
+        } => {
+            let mut nodes = Vec::new(alloc);
+            nodes.push(n)?;
+            Ok(nodes)
+        }
+    }
+}
+
+/// The nodes whose rows are taken where a leg begins at a node, in order: its own, or those of a union's inputs.
+pub fn source_nodes(alloc: Global, plan: &CheckedPlan, n: u32) -> Result<Vec<u32>, AllocError>
+    requires { IsUnder plan.now n }
+    ensures { IfOk result (λ nodes. nodes.items ≡ taken_at (node_at (nodes_in plan.now) n) n) }
+{
+    taken_nodes(alloc, n, numbered(plan, n))
 }

@@ -4,6 +4,7 @@ use Rattle.pipe_branches.specs.Texts.{node_word}
 use Rattle.pipe_legs.specs.Shape.{Begins, kind_at, kind_of}
 use Rattle.pipe_plan.specs.Node.{node_of}
 use Rattle.pipe_create.specs.Nodes.{nodes_in}
+use Rattle.pipe_create.specs.Sources.{taken_at}
 use Rattle.pipe_create.proofs.SourceLemmas.{few_one, frame_is, union_is, union_scans}
 use Rattle.pipe_create.proofs.source.node_source.Goals as goal
 
@@ -20,7 +21,7 @@ source_at-requires-clause-scan c = ap is_scan (sym c.requires.is ∙ ap node_of 
 pub returns-in_ok-source-in-DataFrameScan : goal.returns-in_ok-source-in-DataFrameScan
 returns-in_ok-source-in-DataFrameScan c =
     frame_is c.args.plan.now c.args.n c.in_ok-source-in-DataFrameScan.source c.root.ensures.good c.requires.under
-    (ap node_word (sym c.requires.is ∙ ap node_of c.in-DataFrameScan.is)) c.in_ok-source-in-DataFrameScan.ensures.source
+    (ap node_word (sym c.requires.is ∙ ap node_of c.in-DataFrameScan.is)) (ap (λ x. taken_at x c.args.n) (sym c.requires.is ∙ ap node_of c.in-DataFrameScan.is)) c.in_ok-source-in-DataFrameScan.ensures.source
     (few_one c.in_ok-source-in-DataFrameScan.source c.source_at.new.rows_left _ c.in_ok-source-in-DataFrameScan.ensures.rows (omega arith))
 
 pub returns-in_ok-source-in-Union : goal.returns-in_ok-source-in-Union
