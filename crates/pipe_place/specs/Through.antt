@@ -24,9 +24,13 @@ goes_down conjunct = OnInputs conjunct
 abbrev pub through_index : List (List ℕ) → Formula → Placing
 through_index index conjunct = on_inputs_if (reads_only (has_name index) conjunct) conjunct conjunct
 
+-- a name that a column gets, with its own
+abbrev pub given_and_own : List ℕ → List ℕ → RenamePair
+given_and_own given own = record { existing = given; new_name = own }
+
 -- the name that a field gets by renamings, with its old one
 abbrev pub old_pair : List RenamePair → Field → RenamePair
-old_pair pairs field = record { existing = renamed pairs field.name; new_name = field.name }
+old_pair pairs field = given_and_own (renamed pairs field.name) field.name
 
 -- onto the input of a renaming, by the old names
 abbrev pub through_names : List RenamePair → Formula → Placing

@@ -13,9 +13,10 @@ use crate::passage::{Passage, place_each};
 use crate::placement::Placement;
 use crate::reading::{NameTest, reads_only};
 use pipe_expr::{Expr, FunctionIR, RenamePair};
-use pipe_fields::NameIndex;
+use pipe_fields::{NameIndex, Named};
 use pipe_frame::{List, Schema, Text, TryClone};
 use std::alloc::{AllocError, Global};
+use std::marker::Model;
 
 /// Whether a name stands among some names.
 #[tactic(auto, using(crate::proofs::Selects::expr_rules))]
@@ -68,6 +69,17 @@ fn through_unpivot(index: &IndexColumns, conjunct: Expr) -> Placement
 
 /// The name that a column gets: that of the first renaming of it.
 #[tactic(auto, using(crate::proofs::Selects::expr_rules))]
+fn given_name<'a>(pairs: &NameIndex<'a, RenamePair>, name: &'a Text) -> &'a Text
+    ensures { result.now ≡ renamed pairs.now name.now }
+{
+    match pairs.first(name) {
+        Some(pair) => &pair.new_name,
+        None => name,
+    }
+}
+
+/// A copy of the name that a column gets.
+#[tactic(auto, using(crate::proofs::Selects::expr_rules))]
 pub(crate) fn new_name(pairs: &NameIndex<RenamePair>, name: &Text) -> Result<Text, AllocError>
     ensures { IfOk result (λ made. made ≡ renamed pairs.now name.now) }
 {
@@ -77,19 +89,54 @@ pub(crate) fn new_name(pairs: &NameIndex<RenamePair>, name: &Text) -> Result<Tex
     }
 }
 
+/// The name that a renaming gives a column, and the column's own, both lent.
+#[derive(Drop)]
+struct OldName<'a> {
+    given: &'a Text,
+    own: &'a Text,
+}
+
+impl<'a> Model for OldName<'a> {
+    ghost use Rattle.pipe_expr.specs.declared.join_words.RenamePair.{RenamePair};
+    ghost use Rattle.pipe_place.specs.Through.{given_and_own};
+
+    ghost Value = { RenamePair };
+
+    ghost view = { λ name. given_and_own name.given.now name.own.now };
+}
+
+impl<'a> OldName<'a> {
+    /// The column's own name.
+    fn own(&self) -> &'a Text
+        ensures { result.now ≡ self.now.new_name }
+    {
+        self.own
+    }
+}
+
+impl<'a> Named for OldName<'a> {
+    ghost use Rattle.pipe_plan.specs.Faults.{existing_of};
+
+    ghost name = { existing_of };
+
+    fn name(&self) -> &Text {
+        self.given
+    }
+}
+
 /// The names that renamed columns get, each with the old one.
-fn old_names(
+fn old_names<'a>(
     alloc: Global,
-    pairs: &NameIndex<RenamePair>,
-    input: &Schema,
-) -> Result<List<RenamePair>, AllocError>
+    pairs: &NameIndex<'a, RenamePair>,
+    input: &'a Schema,
+) -> Result<List<OldName<'a>>, AllocError>
     ensures { IfOk result (λ old_names. old_names ≡ map (old_pair pairs.now) input.now) }
 {
     let mut old_names = List::new(alloc);
     for field in input.fields() {
-        old_names.push(RenamePair {
-            existing: new_name(pairs, &field.name)?,
-            new_name: field.name.try_clone()?,
+        old_names.push(OldName {
+            given: given_name(pairs, &field.name),
+            own: &field.name,
         })?;
     }
     Ok(old_names)
@@ -98,7 +145,18 @@ fn old_names(
 /// Renamed columns, by the names that they get.
 #[derive(Drop)]
 struct Renamings<'a> {
-    old_names: NameIndex<'a, RenamePair>,
+    old_names: NameIndex<'a, OldName<'a>>,
+}
+
+/// The own name of the column that a renaming gives a name, or that name where there is none.
+#[tactic(auto, using(crate::proofs::Selects::expr_rules))]
+fn old_name(old_names: &NameIndex<OldName>, name: &Text) -> Result<Text, AllocError>
+    ensures { IfOk result (λ made. made ≡ renamed old_names.now name.now) }
+{
+    match old_names.first(name) {
+        Some(old) => old.own().try_clone(),
+        None => name.try_clone(),
+    }
 }
 
 impl<'a> Naming for Renamings<'a> {
@@ -107,7 +165,7 @@ impl<'a> Naming for Renamings<'a> {
     ghost name_for = { λ r. renamed r.old_names };
 
     fn name_for(&self, name: &Text) -> Result<Text, AllocError> {
-        new_name(&self.old_names, name)
+        old_name(&self.old_names, name)
     }
 }
 
@@ -125,10 +183,10 @@ impl<'a> Passage for Renamings<'a> {
 /// Where conjuncts on a function go: onto the input of an unpivot where they read index columns alone; onto the input of
 /// a renaming, with the old names.
 #[tactic(auto, using(crate::proofs::ByKind::function_rules))]
-pub(crate) fn place_on_function(
+pub(crate) fn place_on_function<'a>(
     alloc: Global,
-    input: &Schema,
-    function: &FunctionIR,
+    input: &'a Schema,
+    function: &'a FunctionIR,
     conjuncts: List<Expr>,
 ) -> Result<List<Placement>, AllocError>
     ensures { IfOk result (λ placements. map placing_of placements
