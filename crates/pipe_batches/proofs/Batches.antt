@@ -12,7 +12,8 @@ use Rattle.pipe_ops.specs.declared.source.SourceResult.{SourceResult}
 use Rattle.pipe_ops.specs.declared.source.SourceResult.TheVariants.{Finished, GotMoreData}
 use Rattle.pipe_run.specs.Claimed.{schema_in, IsOfSchema}
 use Rattle.pipe_run.specs.Dealt.{rows_of_all}
-use Rattle.pipe_batches.specs.Rounds.{left_rows, IsLeftOf, index_past, Gave, IsFew}
+use Rattle.pipe_takings.specs.Rounds.{Gives}
+use Rattle.pipe_batches.specs.Rounds.{left_rows, IsLeftOf, index_past, IsFew}
 
 -- ---- the chunks of one frame
 
@@ -132,7 +133,7 @@ schema-first schema [] some h = absurd (omega (arith, some))
 schema-first schema (m ∷ ms) some h = h 0 m (omega arith)
 
 -- one batch more
-pub gave-more : (n size index : ℕ) (rounds : List (List Morsel)) (ms : List Morsel) (old mid new : List Left) → Gave n size index rounds old mid → ms ≡ batch n size (index_past index rounds) 0 mid → new ≡ after_batch n size mid → Gave n size index (rounds ++ ms ∷ []) old new
+pub gave-more : (n size index : ℕ) (rounds : List (List Morsel)) (ms : List Morsel) (old mid new : List Left) → Gives n size index rounds old mid → ms ≡ batch n size (index_past index rounds) 0 mid → new ≡ after_batch n size mid → Gives n size index (rounds ++ ms ∷ []) old new
 gave-more n size index [] ms old mid new h e f =
     (e ∙ ap (batch n size index 0) h, f ∙ ap (after_batch n size) h)
 gave-more n size index (m ∷ rounds) ms old mid new h e f = (h.0, gave-more n size (index + length m) rounds ms (after_batch n size old) mid new h.1 e f)

@@ -19,12 +19,16 @@ use Rattle.pipe_run.specs.declared.stage.Refusal.TheVariants.{Memory}
 use Rattle.pipe_run.specs.declared.lane.Lane.{Lane}
 use Rattle.pipe_run.specs.Stages.{IsOver}
 use Rattle.pipe_run.specs.Lanes.{lane_operators, held_in, IsCalm, IsFit}
-use Rattle.pipe_run.specs.Claimed.{schema_in, IsOfSchema, chunks_lot}
-use Rattle.pipe_run.specs.Dealt.{Dealt, works_in, nodes_in, acts_in, AreAlike, counts_in, DoTheSame, rows_of_all, WentAll, IsOverIn}
+use Rattle.pipe_run.specs.Claimed.{schema_in, IsOfSchema, chunks_lot, entries_at}
+use Rattle.pipe_run.specs.Dealt.{works_in, nodes_in, acts_in, AreAlike, counts_in, DoTheSame, rows_of_all, WentAll, IsOverIn}
 use Rattle.pipe_batches.specs.Rounds.{left_rows, schema_left, IsLeftOf, AllDealt, IsFew, Rounds, RoundsBefore}
+use Rattle.pipe_takings.specs.declared.note.Note.{Note}
+use Rattle.pipe_takings.specs.Notes.{HasNothing}
+use Rattle.pipe_takings.specs.Noted.{IsNotedSince, DealtNoted}
+use Rattle.pipe_takings.proofs.GoingOn.{begin, go_on}
 use Rattle.pipe_run.proofs.Asked.{counts-next, counts-none}
 use Rattle.pipe_batches.proofs.Batches.{batch-rows, batch-long, batch-few, batch-size, batch-schema, left-schema, spent-rows, schema-first, gave-more, index-more, few-more}
-use Rattle.pipe_run.proofs.RoundSteps.{same-lanes-refl, same-lanes-trans, same-works-in, same-nodes-in, alike-nodes, lanes-acts-length, counts-in-length}
+use Rattle.pipe_run.proofs.RoundSteps.{same-lanes-length, same-lanes-refl, same-lanes-trans, same-works-in, same-nodes-in, alike-nodes, lanes-acts-length, counts-in-length}
 use Rattle.pipe_run.proofs.Sums.{held-within}
 use Rattle.pipe_run.proofs.Limits.{went-none, went-trans, over-later, over-part, over-whole}
 
@@ -33,11 +37,11 @@ lanes-counts-length op ss from [] some like serve = absurd (omega arith)
 lanes-counts-length op ss from (x ∷ lanes) some like serve = counts-in-length op ss from (works_in op from ss (x ∷ lanes)) (nodes_in (x ∷ lanes)) x lanes like serve
 
 module _ {O S K B C : Type 0} (op : OperatorWords O S) (sink : SinkWords K B C) (ss : List S) where
-  dealt-more : (limit : ℕ) (rounds : List (List Morsel)) (ms : List Morsel) (old mid new : List (Lane O K)) → AllDealt op sink ss limit rounds old mid → Dealt op sink ss limit (chunks_lot ms) mid new → AllDealt op sink ss limit (rounds ++ ms ∷ []) old new
-  dealt-more limit [] ms old mid new h d = (new, subst (λ (l : List (Lane O K)). Dealt op sink ss limit (chunks_lot ms) l new) h d, refl)
-  dealt-more limit (m ∷ rounds) ms old mid new h d = (h.0, h.1, dealt-more limit rounds ms h.0 mid new h.2 d)
+  dealt-more : (limit : ℕ) (rounds : List (List Morsel)) (ms : List Morsel) (old mid new : List (Lane O K)) (notes notes' notes'' : List Note) → AllDealt op sink ss limit rounds old mid notes notes' → DealtNoted op sink ss limit (chunks_lot ms) mid new notes' notes'' → AllDealt op sink ss limit (rounds ++ ms ∷ []) old new notes notes''
+  dealt-more limit [] ms old mid new notes notes' notes'' h d = (new, notes'', subst (λ (ns : List Note). DealtNoted op sink ss limit (chunks_lot ms) old new ns notes'') h.1 (subst (λ (l : List (Lane O K)). DealtNoted op sink ss limit (chunks_lot ms) l new notes' notes'') h.0 d), (refl, refl))
+  dealt-more limit (m ∷ rounds) ms old mid new notes notes' notes'' h d = (h.0, h.1, h.2, dealt-more limit rounds ms h.0 mid new h.1 notes' notes'' h.3 d)
 
-  module _ (context : PExecutionContext) (index₀ : ℕ) (left₀ : List Left) (asked₀ yes₀ : ℕ) (lanes₀ : List (Lane O K)) where
+  module _ (context : PExecutionContext) (index₀ : ℕ) (left₀ : List Left) (asked₀ yes₀ : ℕ) (lanes₀ : List (Lane O K)) (notes₀ : List Note) where
     abbrev pub from : List Field
     from = schema_left left₀
 
@@ -50,8 +54,9 @@ module _ {O S K B C : Type 0} (op : OperatorWords O S) (sink : SinkWords K B C) 
         Went works (acts_in op lanes₀) (acts_in op lanes) (counts_in lanes₀) (counts_in lanes) rows (flat_map (held_in sink.held) lanes₀) (flat_map (held_in sink.held) lanes)
 
     -- what holds before each round
-    pub record Going (index : ℕ) (left : List Left) (asked yes : ℕ) (lanes : List (Lane O K)) : Type 0 where
-      pub rounds : Rounds op sink ss context index₀ index left₀ left asked₀ asked lanes₀ lanes
+    pub record Going (index : ℕ) (left : List Left) (asked yes : ℕ) (lanes : List (Lane O K)) (notes : List Note) : Type 0 where
+      pub rounds : Rounds op sink ss context index₀ index left₀ left asked₀ asked lanes₀ lanes notes₀ notes
+      pub empty : AllByRecursion HasNothing lanes
       pub frames : AllByRecursion (IsLeftOf from) left
       pub room : index + length (left_rows left) ≤ index₀ + length (left_rows left₀)
       pub same : DoTheSame op sink lanes₀ lanes
@@ -64,11 +69,12 @@ module _ {O S K B C : Type 0} (op : OperatorWords O S) (sink : SinkWords K B C) 
       pub others : left_rows left₀ ≡ through ++ left_rows left
       pub yes_so_far : Counts 0 yes₀ yes
 
-    pub going-init : 0 < length lanes₀ → AllByRecursion (IsLeftOf from) left₀ → AreAlike op from ss lanes₀ → All IsCalm lanes₀ → All (IsFit op sink ss context.row_limit from) lanes₀ → AllWithin context.row_limit (counts_in lanes₀) → Going index₀ left₀ asked₀ yes₀ lanes₀
-    going-init some frames alike calm fit within =
+    pub going-init : 0 < length lanes₀ → AllByRecursion (IsLeftOf from) left₀ → AreAlike op from ss lanes₀ → All IsCalm lanes₀ → All (IsFit op sink ss context.row_limit from) lanes₀ → AllWithin context.row_limit (counts_in lanes₀) → AllByRecursion HasNothing lanes₀ → Going index₀ left₀ asked₀ yes₀ lanes₀ notes₀
+    going-init some frames alike calm fit within empty =
         let serve : All (λ (lane : Lane O K). AllServe op (lane_operators lane) ss) lanes₀ = λ i d less. (fit i d less).serve in
         record {
-          rounds = record { batches = []; gave = refl; index = refl; dealt = refl; asked = counts-none asked₀; few = tt };
+          rounds = record { batches = []; gave = refl; index = refl; dealt = (refl, refl); noted = begin (length lanes₀) notes₀; asked = counts-none asked₀; few = tt };
+          empty = empty;
           frames = frames;
           room = omega arith;
           same = same-lanes-refl op sink lanes₀;
@@ -82,7 +88,7 @@ module _ {O S K B C : Type 0} (op : OperatorWords O S) (sink : SinkWords K B C) 
           yes_so_far = counts-none yes₀;
         }
 
-    module _ (index : ℕ) (left : List Left) (asked yes : ℕ) (lanes : List (Lane O K)) (going : Going index left asked yes lanes) where
+    module _ (index : ℕ) (left : List Left) (asked yes : ℕ) (lanes : List (Lane O K)) (notes : List Note) (going : Going index left asked yes lanes notes) where
       pub going-room : length (flat_map (held_in sink.held) lanes) ≤ context.row_limit
       going-room = held-within sink.held context.row_limit (nodes_in lanes) lanes (alike-nodes op sink ss context.row_limit from lanes going.alike) (λ i d less. (going.fit i d less).room (going.calm i d less)) going.within
 
@@ -165,8 +171,8 @@ module _ {O S K B C : Type 0} (op : OperatorWords O S) (sink : SinkWords K B C) 
           pub going-same : DoTheSame op sink lanes₀ lanes'
           going-same = same-lanes-trans op sink lanes₀ lanes lanes' going.same same
 
-          pub going-next : index' ≡ index + length ms → asked' ≡ counted 1 asked → yes' ≡ counted 0 yes → 0 < context.chunk_rows → AreAlike op (schema_in ms) ss lanes' → All IsCalm lanes' → All (IsFit op sink ss context.row_limit (schema_in ms)) lanes' → AllWithin context.row_limit (counts_in lanes') → Dealt op sink ss context.row_limit (chunks_lot ms) lanes lanes' → WentAll op sink ss (schema_in ms) (rows_of_all ms) lanes lanes' → Going index' left' asked' yes' lanes'
-          going-next i a y some alike calm fit within dealt went =
+          pub going-next : index' ≡ index + length ms → asked' ≡ counted 1 asked → yes' ≡ counted 0 yes → 0 < context.chunk_rows → AreAlike op (schema_in ms) ss lanes' → All IsCalm lanes' → All (IsFit op sink ss context.row_limit (schema_in ms)) lanes' → AllWithin context.row_limit (counts_in lanes') → WentAll op sink ss (schema_in ms) (rows_of_all ms) lanes lanes' → (notes' : List Note) → DealtNoted op sink ss context.row_limit (chunks_lot ms) lanes lanes' notes notes' → IsNotedSince (length lanes) (length ms) (entries_at ms) notes notes' → AllByRecursion HasNothing lanes' → Going index' left' asked' yes' lanes' notes'
+          going-next i a y some alike calm fit within went notes' dealt noted empty =
               let r = going.rounds in
               let here : WentAll op sink ss from (rows_of_all ms) lanes lanes' = subst (λ (fd : List Field). WentAll op sink ss fd (rows_of_all ms) lanes lanes') given-schema went in
               let now : Went works (acts_in op lanes) (acts_in op lanes') (counts_in lanes) (counts_in lanes') (rows_of_all ms) (flat_map (held_in sink.held) lanes) (flat_map (held_in sink.held) lanes') = rw works-on at here in
@@ -175,10 +181,12 @@ module _ {O S K B C : Type 0} (op : OperatorWords O S) (sink : SinkWords K B C) 
                   batches = r.batches ++ ms ∷ [];
                   gave = gave-more (4 * context.workers) context.chunk_rows index₀ r.batches ms left₀ left left' r.gave (given.chunks ∙ ap (λ k. batch (4 * context.workers) context.chunk_rows k 0 left) r.index) given.left;
                   index = i ∙ ap (λ k. k + length ms) r.index ∙ sym (index-more index₀ r.batches ms);
-                  dealt = dealt-more context.row_limit r.batches ms lanes₀ lanes lanes' r.dealt dealt;
+                  dealt = dealt-more context.row_limit r.batches ms lanes₀ lanes lanes' notes₀ notes notes' r.dealt dealt;
+                  noted = go_on (length lanes₀) r.batches ms notes₀ notes notes' r.noted (subst (λ (n : ℕ). IsNotedSince n (length ms) (entries_at ms) notes notes') (same-lanes-length op sink lanes₀ lanes going.same) noted);
                   few = few-more (4 * context.workers * context.chunk_rows) r.batches ms r.few given-size;
                   asked = subst (λ (n : ℕ). Counts n asked₀ asked') (sym (length-append r.batches (ms ∷ []))) (counts-next (length r.batches) 1 asked₀ asked asked' r.asked a);
                 };
+                empty = empty;
                 frames = subst (λ (l : List Left). AllByRecursion (IsLeftOf from) l) (sym given.left) (left-schema (4 * context.workers) context.chunk_rows index from left going.frames);
                 room = omega (arith, i, going.room, given-long some, ap length given-rows, length-append (rows_of_all ms) (left_rows left'));
                 same = going-same;
@@ -192,16 +200,17 @@ module _ {O S K B C : Type 0} (op : OperatorWords O S) (sink : SinkWords K B C) 
                 yes_so_far = counts-next 0 0 yes₀ yes yes' going.yes_so_far y;
               }
 
-      pub going-rounds : (index' : ℕ) (left' : List Left) → index' ≡ index → left' ≡ left → Rounds op sink ss context index₀ index' left₀ left' asked₀ asked lanes₀ lanes
+      pub going-rounds : (index' : ℕ) (left' : List Left) → index' ≡ index → left' ≡ left → Rounds op sink ss context index₀ index' left₀ left' asked₀ asked lanes₀ lanes notes₀ notes
       going-rounds index' left' i l =
-          subst (λ (k : ℕ). Rounds op sink ss context index₀ k left₀ left' asked₀ asked lanes₀ lanes) (sym i) (subst (λ (ls : List Left). Rounds op sink ss context index₀ index left₀ ls asked₀ asked lanes₀ lanes) (sym l) going.rounds)
+          subst (λ (k : ℕ). Rounds op sink ss context index₀ k left₀ left' asked₀ asked lanes₀ lanes notes₀ notes) (sym i) (subst (λ (ls : List Left). Rounds op sink ss context index₀ index left₀ ls asked₀ asked lanes₀ lanes notes₀ notes) (sym l) going.rounds)
 
-      pub going-stopped : (asked' : ℕ) → asked' ≡ counted 1 asked → RoundsBefore op sink ss context index₀ left₀ asked₀ asked' lanes₀ lanes
+      pub going-stopped : (asked' : ℕ) → asked' ≡ counted 1 asked → RoundsBefore op sink ss context index₀ left₀ asked₀ asked' lanes₀ lanes notes₀ notes
       going-stopped asked' a = record {
         left = left;
         batches = going.rounds.batches;
         gave = going.rounds.gave;
         dealt = going.rounds.dealt;
+        noted = going.rounds.noted;
         asked = counts-next (length going.rounds.batches) 1 asked₀ asked asked' going.rounds.asked a;
       }
 

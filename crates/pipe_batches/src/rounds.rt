@@ -9,17 +9,20 @@ ghost use Rattle.pipe_run.specs.Halts.{stops};
 ghost use Rattle.pipe_run.specs.Lanes.{IsFit, IsCalm, held_in};
 ghost use Rattle.pipe_batches.specs.Rounds.{left_rows, schema_left, IsLeftOf, Rounds, RoundsBefore};
 ghost use Rattle.pipe_batches.specs.Rounds.{TellsHalt, IsHaltOver};
+ghost use Rattle.pipe_takings.specs.Notes.{HasNothing};
 
 use pipe_chain::Operator;
 use pipe_frame::{Gate, StopCheck};
 use pipe_ops::{PExecutionContext, Sink, Source, SourceResult};
-use pipe_run::{Halt, Lane, Refusal, round};
+use pipe_run::{Halt, Lane, Refusal};
+use pipe_takings::{Note, noted_round};
 use std::alloc::Global;
 use std::thread::Threads;
 
 /// Rounds over what is left of a source, batch by batch, until it is out. The stop check is asked before each round.
-/// With `Ok` each row went through the operators of one lane, and all lanes together are within the limit. `Stopped`
-/// where the stop check said yes; the refusals of `round`; `Memory` where the source is refused it.
+/// With `Ok` each row went through the operators of one lane, and all lanes together are within the limit. What lanes
+/// noted goes behind other notes, round after round. `Stopped` where the stop check said yes; the refusals of
+/// `noted_round`; `Memory` where the source is refused it.
 pub fn run_rounds<R: Threads + Sync, O: Operator, K: Sink, I: Source, C: StopCheck, G: Gate + Sync>(
     rt: &R,
     alloc: Global,
@@ -30,6 +33,7 @@ pub fn run_rounds<R: Threads + Sync, O: Operator, K: Sink, I: Source, C: StopChe
     stop: &mut C,
     gate: &G,
     lanes: &mut [Lane<O, K>],
+    notes: &mut Vec<Note>,
 ) -> Result<(), Halt>
     requires some { 0 < length lanes.old }
     requires lanes { length lanes.old ≤ 256 }
@@ -42,6 +46,7 @@ pub fn run_rounds<R: Threads + Sync, O: Operator, K: Sink, I: Source, C: StopChe
     requires fit { All (IsFit O.Operator K.Sink shared.now context.now.row_limit
         (schema_left (I.left source.old))) lanes.old }
     requires within { AllWithin context.now.row_limit (counts_in lanes.old) }
+    requires empty { AllByRecursion HasNothing lanes.old }
     ensures same { DoTheSame O.Operator K.Sink lanes.old lanes.new }
     ensures alike { AreAlike O.Operator (schema_left (I.left source.old)) shared.now lanes.new }
     ensures fit { All (IsFit O.Operator K.Sink shared.now context.now.row_limit
@@ -49,7 +54,9 @@ pub fn run_rounds<R: Threads + Sync, O: Operator, K: Sink, I: Source, C: StopChe
     ensures calm { IfOk result (λ _. All IsCalm lanes.new) }
     ensures rounds { IfOk result (λ _. Rounds O.Operator K.Sink shared.now context.now
         next_index.old next_index.new (I.left source.old) (I.left source.new)
-        (C.asked stop.old) (C.asked stop.new) lanes.old lanes.new) }
+        (C.asked stop.old) (C.asked stop.new) lanes.old lanes.new notes.old.items
+        notes.new.items) }
+    ensures none { IfOk result (λ _. AllByRecursion HasNothing lanes.new) }
     ensures out { IfOk result (λ _. left_rows (I.left source.new) ≡ []) }
     ensures went { IfOk result (λ _. WentAll O.Operator K.Sink shared.now
         (schema_left (I.left source.old)) (left_rows (I.left source.old)) lanes.old lanes.new) }
@@ -63,7 +70,7 @@ pub fn run_rounds<R: Threads + Sync, O: Operator, K: Sink, I: Source, C: StopChe
     ensures last { result ≡ Err Halt.Stopped → C.last_answer stop.new ≡ true }
     ensures stopped { result ≡ Err Halt.Stopped → RoundsBefore O.Operator K.Sink shared.now
         context.now next_index.old (I.left source.old) (C.asked stop.old) (C.asked stop.new)
-        lanes.old lanes.new }
+        lanes.old lanes.new notes.old.items notes.new.items }
 {
     loop {
         let Ok(answer) = source.get_batches(alloc, context, next_index) else {
@@ -76,7 +83,9 @@ pub fn run_rounds<R: Threads + Sync, O: Operator, K: Sink, I: Source, C: StopChe
                     return Err(Halt::Stopped);
                 }
                 let morsels = morsels.as_slice();
-                if let Err(refusal) = round(rt, alloc, context, shared, morsels, gate, lanes) {
+                if let Err(refusal) = noted_round(
+                    rt, alloc, context, shared, morsels, gate, lanes, notes,
+                ) {
                     return Err(Halt::Refused(refusal));
                 }
             }
