@@ -10,4 +10,5 @@ pub mod Fronts
 pub mod FrontSteps
 pub mod Bounds
 pub mod Reached
+pub mod Refusals
 pub mod RunNodes

@@ -23,7 +23,7 @@ use Rattle.pipe_legs.proofs.Plans.{is_tree, part_reader, reading, reads_below, t
 use Rattle.pipe_legs.proofs.Tests.{and-both, and-cases, by_test, eq-is, not-both, occurs-append, occurs-total, or-first, or-right, some-left}
 use Rattle.pipe_legs.proofs.Whole.{at_sources}
 use Rattle.pipe_driver.specs.Within.{ChainsAreRun, LegsBeginAtRunNodes}
-use Rattle.pipe_driver.proofs.Reached.{Reads, read_by, scan_of}
+use Rattle.pipe_driver.proofs.Reached.{Reads, read_by, run_low, scan_of}
 
 -- ---- inputs
 
@@ -170,4 +170,5 @@ chains_run plan root good =
       next = λ n op ops above. next_run plan root n op ops good above;
       sorts = λ n sort. (let both = and-cases (is_under plan.nodes root n) (is_sorting (kind_at plan.nodes n)) sort in ok.sorts_run n both.0 both.1);
       joins = λ n join. (let both = and-cases (is_under plan.nodes root n) (is_joining (kind_at plan.nodes n)) join in ok.joins_run n both.0 both.1);
+      low = λ n run. run_low plan root n good run;
     }

@@ -18,3 +18,5 @@ pub mod Fronts
 pub mod Plans
 -- what came to a place is among what has to come there
 pub mod Within
+-- what a runner tells where it refuses to go on
+pub mod Refusals

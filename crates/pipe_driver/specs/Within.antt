@@ -11,7 +11,9 @@ use Rattle.pipe_plan.specs.Faults.{IsWellFormed}
 use Rattle.pipe_legs.specs.Meaning.{Meaning, Place, OutOf, due, meaning_of}
 use Rattle.pipe_legs.specs.Legs.{Way, ways_of}
 use Rattle.pipe_legs.specs.Ways.{occurs, starts_of, IsSound}
-use Rattle.pipe_driver.specs.State.{World, Counts, IsOpen, IsLeft, IsBetween}
+use Rattle.pipe_driver.specs.State.{World, Counts, Spent, IsOpen, IsLeft, IsBetween, IsPassing}
+use Rattle.pipe_driver.specs.declared.error.RunError.{RunError}
+use Rattle.pipe_driver.specs.declared.error.RunError.TheVariants as error
 
 -- what a join gave for keys is among what it has of its own
 pub record GaveOwn (m : Meaning) (w : World) (j : ℕ) : Type 0 where
@@ -78,11 +80,12 @@ RunNodesAreLow =
 
 -- ---- nodes that are run
 
--- what is behind a node on its chain is run, and so are sorts and joins
+-- what is behind a node on its chain is run, and so are sorts and joins; such nodes are the plan's
 pub record GoThroughRun (m : Meaning) : Type 0 where
   pub next : (n op : ℕ) (ops : List ℕ) → m.above n ≡ op ∷ ops → m.is_run op ≡ true
   pub sorts : (n : ℕ) → m.is_sort n ≡ true → m.is_run n ≡ true
   pub joins : (n : ℕ) → m.is_join n ≡ true → m.is_run n ≡ true
+  pub low : (n : ℕ) → m.is_run n ≡ true → n < m.ordered
 
 abbrev pub ChainsAreRun : Type 0
 ChainsAreRun =
@@ -94,3 +97,46 @@ LegsBeginAtRunNodes =
     (plan : Plan) (root n : ℕ) → IsWellFormed plan root
     → 0 < occurs n (flat_map starts_of (ways_of plan root))
     → (meaning_of plan root).is_run n ≡ true
+
+-- ---- what a refusal tells
+
+-- a join that isn't spent gave no more than its own, if no more rows probed it than its probe side
+-- has; what is no join gave nothing but its own
+pub record GivesNoMore (m : Meaning) (w : World) (j : ℕ) : Type 0 where
+  pub joins : m.is_join j ≡ true → (w.slot j ≡ Spent → ⊥) → GivesOfProbed m w j
+  pub others : m.is_join j ≡ false → GaveOwn m w j
+
+-- more rows than a limit came out of a node that legs go through, and none gives more than its own
+pub record GivesMany (m : Meaning) (limit : ℕ) (w : World) (n : ℕ) : Type 0 where
+  pub run : GoThroughRun m → m.is_run n ≡ true
+  pub each : (j : ℕ) → GivesNoMore m w j
+  pub many : GoThroughRun m → limit < length (w.there (OutOf n))
+
+-- a node that is run has more rows than a limit
+pub record IsWide (m : Meaning) (limit n : ℕ) : Type 0 where
+  pub run : m.is_run n ≡ true
+  pub many : limit < length (m.rows n)
+
+-- a node that gave more rows than a limit while a leg ran has more than that
+abbrev pub ManyAreWide : Type 0
+ManyAreWide =
+    (m : Meaning) (w : World) (c : Counts) (now : List ℕ) (s : ℕ) (parked todo : List Way)
+    (limit n : ℕ) → IsSound m → IsPassing m w c now s parked todo → GoThroughRun m
+    → GivesMany m limit w n → IsWide m limit n
+
+-- a node under the root has more rows than the limit
+pub record HasTooMany (limit : ℕ) (plan : Plan) (root n : ℕ) : Type 0 where
+  pub under : is_under plan.nodes root n ≡ true
+  pub above : limit < length (rows_of plan n)
+
+-- what an error says of a plan: no memory, a stop, or a node with too many rows
+abbrev pub EndsWith : ℕ → Plan → ℕ → RunError → Type 0
+EndsWith limit plan root (error.TooMany n) = HasTooMany limit plan root n
+EndsWith limit plan root error.Stopped = Unit {0}
+EndsWith limit plan root error.Memory = Unit {0}
+
+-- a wide node that is run stands under the root
+abbrev pub WideAreUnder : Type 0
+WideAreUnder =
+    (plan : Plan) (root limit n : ℕ) → IsWide (meaning_of plan root) limit n
+    → HasTooMany limit plan root n

@@ -1,7 +1,7 @@
 //! The laws of a run's steps.
 
 ghost use Rattle.pipe_driver.specs.Within.{RowsStayWithin, JoinsGiveOwn, RowsAreThere, RunNodesTellAll, RunNodesAreLow};
-ghost use Rattle.pipe_driver.specs.Within.{ChainsAreRun, LegsBeginAtRunNodes};
+ghost use Rattle.pipe_driver.specs.Within.{ChainsAreRun, LegsBeginAtRunNodes, ManyAreWide, WideAreUnder};
 ghost use Rattle.pipe_driver.specs.Steps.{BranchesBegin, JoinsAreBuilt, LegsPass, LegsAreCounted, ProbeSidesAreSeen, JoinsAreClosed, SinksAreFed, SinksStayOpen, SinksAreClosed, WaysGoOn, NoneIsOpen, BranchesStart, PlansStart};
 
 /// Before the first of them runs, branches that can be run are all that is left to run.
@@ -97,4 +97,11 @@ pub fn run_nodes_tell_all()
 pub fn legs_go_through_run_nodes()
     ensures chains { ChainsAreRun }
     ensures begin { LegsBeginAtRunNodes }
+{}
+
+/// A node that gave more rows than a limit while a leg ran has more than that, if no join gives more than its own; and it
+/// stands under the root.
+pub fn wide_nodes_are_told()
+    ensures wide { ManyAreWide }
+    ensures under { WideAreUnder }
 {}

@@ -133,7 +133,7 @@ staged-last all xs x e h = (staged-front xs x (subst (λ (l : List (Lane (PhysOp
 
 -- ---- sums of acts
 
-added-right : (a b c : List Acts) → AllSameActs b c → AllSameActs (added a b) (added a c)
+pub added-right : (a b c : List Acts) → AllSameActs b c → AllSameActs (added a b) (added a c)
 added-right [] b c h = h
 added-right (x ∷ a) [] [] h = all-same-refl (x ∷ a)
 added-right (x ∷ a) [] (z ∷ c) h = absurd h
@@ -185,7 +185,7 @@ module _ {H K : Type 0} (hash_of : H → List ℕ → ℕ) where
     left-works : (from : List Field) (slot : Slot H) (ss : List (Slot H)) → lane_works (phys_words hash_of) from (slot ∷ ss) x ≡ work_of here from slot ∷ lane_works (phys_words hash_of) (output_of here from) ss y
     left-works from slot ss = ap (λ (os : List (PhysOperator H)). works_of (phys_words hash_of) from os (slot ∷ ss)) left-operators
 
-    left-serve : (slot : Slot H) (ss : List (Slot H)) → AllServe (phys_words hash_of) (lane_operators x) (slot ∷ ss) → AllServe (phys_words hash_of) (here ∷ lane_operators y) (slot ∷ ss)
+    pub left-serve : (slot : Slot H) (ss : List (Slot H)) → AllServe (phys_words hash_of) (lane_operators x) (slot ∷ ss) → AllServe (phys_words hash_of) (here ∷ lane_operators y) (slot ∷ ss)
     left-serve slot ss k = subst (λ (os : List (PhysOperator H)). AllServe (phys_words hash_of) os (slot ∷ ss)) left-operators k
 
     left-sum : SameActs (both_acts (sum_of v) (acts_of here)) (sum_of w)
@@ -223,7 +223,7 @@ module _ {H K : Type 0} (hash_of : H → List ℕ → ℕ) where
 
   -- ---- all lanes
 
-  left-length : (v w : List SeatMarks) (xs ys : List (Lane (PhysOperator H) K)) → LanesLeft v w xs ys → length ys ≡ length xs
+  pub left-length : (v w : List SeatMarks) (xs ys : List (Lane (PhysOperator H) K)) → LanesLeft v w xs ys → length ys ≡ length xs
   left-length v w [] [] h = refl
   left-length v w [] (y ∷ ys) h = absurd h
   left-length v w (x ∷ xs) [] h = absurd h
@@ -302,7 +302,7 @@ module _ {H K : Type 0} (hash_of : H → List ℕ → ℕ) where
   left-noted v w (x ∷ xs) (y ∷ ys) h = rw (h.1.entries, left-noted h.0 w xs ys h.2) refl
 
   -- all seats are in
-  left-rest : (v w : List SeatMarks) (slot : Slot H) (ss : List (Slot H)) (xs ys : List (Lane (PhysOperator H) K)) → LanesLeft v w xs ys → All (λ (x : (Lane (PhysOperator H) K)). AllServe (phys_words hash_of) (lane_operators x) (slot ∷ ss)) xs → IsRest (length xs) slot v → IsRest 0 slot w
+  pub left-rest : (v w : List SeatMarks) (slot : Slot H) (ss : List (Slot H)) (xs ys : List (Lane (PhysOperator H) K)) → LanesLeft v w xs ys → All (λ (x : (Lane (PhysOperator H) K)). AllServe (phys_words hash_of) (lane_operators x) (slot ∷ ss)) xs → IsRest (length xs) slot v → IsRest 0 slot w
   left-rest v w slot ss [] [] h serve r = subst (λ (u : List SeatMarks). IsRest 0 slot u) (sym h) r
   left-rest v w slot ss [] (y ∷ ys) h serve r = absurd h
   left-rest v w slot ss (x ∷ xs) [] h serve r = absurd h
@@ -338,7 +338,7 @@ module _ {H K : Type 0} (hash_of : H → List ℕ → ℕ) where
     all-schemas from schemas (x ∷ xs) (y ∷ ys) h g zero d less = same-schemas hash_of from (lane_operators x) (lane_operators y) h.0.work.each ∙ g 0 x (omega arith)
     all-schemas from schemas (x ∷ xs) (y ∷ ys) h g (suc i) d less = all-schemas from schemas xs ys h.1 (λ j e l. g (suc j) e (omega (arith, l))) i d (omega (arith, less))
 
-    same-length : (xs ys : List (Lane (PhysOperator H) K)) → AllSame (phys_words hash_of) sink xs ys → length ys ≡ length xs
+    pub same-length : (xs ys : List (Lane (PhysOperator H) K)) → AllSame (phys_words hash_of) sink xs ys → length ys ≡ length xs
     same-length [] [] h = refl
     same-length [] (y ∷ ys) h = absurd h
     same-length (x ∷ xs) [] h = absurd h

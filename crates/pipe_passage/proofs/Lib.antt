@@ -4,5 +4,7 @@ pub mod Probes
 pub mod Opened
 pub mod Left
 pub mod Settles
+pub mod Stopped
+pub mod Broken
 pub mod Sent
 pub mod Crossing

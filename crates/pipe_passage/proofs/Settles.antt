@@ -248,7 +248,7 @@ module _ {H K B C : Type 0} (hash_of : H → List ℕ → ℕ) (sink : SinkWords
         (λ (s c : Slot H). passing-with (s ∷ ss) (v ∷ free) xs → All (IsFlushFit (phys_words hash_of) sink c ss limit (flushed_in (phys_words hash_of) ys)) ys)
         (λ t u e p. flush-fits hash_of sink limit from t u ss v w free xs ys p h e)
 
-    next-of : (slot closed : Slot H) → IsClosedAs slot w closed → 0 < parts_in closed → (p : passing-with (slot ∷ ss) (v ∷ free) xs) → flushed_in (phys_words hash_of) ys ≡ first_schema p.schemas
+    pub next-of : (slot closed : Slot H) → IsClosedAs slot w closed → 0 < parts_in closed → (p : passing-with (slot ∷ ss) (v ∷ free) xs) → flushed_in (phys_words hash_of) ys ≡ first_schema p.schemas
     next-of = only-full w
         (λ (s c : Slot H). (p : passing-with (s ∷ ss) (v ∷ free) xs) → flushed_in (phys_words hash_of) ys ≡ first_schema p.schemas)
         (λ t u e p. flushed-next hash_of sink limit from t u ss v w free xs ys p h e)

@@ -4,3 +4,5 @@ pub mod LaneSeats
 pub mod Opening
 -- a leg that runs
 pub mod Passages
+-- lanes on whose way something was refused
+pub mod Stopped

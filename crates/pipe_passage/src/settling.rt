@@ -1,10 +1,11 @@
 //! The last leg leaves its first stage.
 
-ghost use Rattle.std.specs.Prelude.{◌≡◌, ℕ, ◌<◌, List, length, OnOk};
+ghost use Rattle.std.specs.Prelude.{◌≡◌, ℕ, ◌<◌, List, length, OnOk, IfErr};
 ghost use Rattle.std.specs.List.{AllByRecursion};
 ghost use Rattle.pipe_frame.specs.declared.field.Field.{Field};
 ghost use Rattle.pipe_run.specs.Flushes.{HasStage};
 ghost use Rattle.pipe_passage.specs.Passages.{IsPassing, IsUnderWay, HasSettled, HasFewParts};
+ghost use Rattle.pipe_passage.specs.Stopped.{BreaksOff};
 
 use crate::leaving::leave_stage;
 use crate::passage::Passage;
@@ -17,8 +18,8 @@ use std::alloc::Global;
 use std::thread::Threads;
 
 /// The last leg leaves its first stage: the flags of its join are closed, and each partition of what that kept is
-/// flushed by one lane, through the stages behind into the lanes' sinks. What was read is dropped. The refusals are
-/// those of `flush_round`.
+/// flushed by one lane, through the stages behind into the lanes' sinks. What was read is dropped. `TooMany` where a node
+/// behind was given more rows than the limit, as `flush_round` tells it; `Memory`.
 pub fn settle_first<R: Threads + Sync, H: KeyHasher, K: Sink + Drop, G: Gate + Sync>(
     rt: &R,
     alloc: Global,
@@ -32,11 +33,16 @@ pub fn settle_first<R: Threads + Sync, H: KeyHasher, K: Sink + Drop, G: Gate + S
     requires parts { HasFewParts passage.old.shared.items }
     requires way { IsUnderWay H.hash_of K.Sink context.now.row_limit passage.old.lanes.items
         passage.old.shared.items passage.old.seats.items }
-    ensures { OnOk result ((from : List Field) → IsPassing H.hash_of K.Sink context.now.row_limit
+    ensures settled { OnOk result ((from : List Field) → IsPassing H.hash_of K.Sink context.now.row_limit
         from passage.old.lanes.items passage.old.shared.items passage.old.seats.items →
         HasSettled H.hash_of K.Sink context.now.row_limit from passage.old.lanes.items
         passage.new.lanes.items passage.old.shared.items passage.new.shared.items
         passage.old.seats.items passage.new.seats.items) }
+    ensures err { IfErr result (λ refusal. (from : List Field) → IsPassing H.hash_of K.Sink
+        context.now.row_limit from passage.old.lanes.items passage.old.shared.items
+        passage.old.seats.items → BreaksOff H.hash_of K.Sink context.now.row_limit from
+        passage.old.lanes.items passage.new.lanes.items passage.old.shared.items
+        passage.new.shared.items passage.old.seats.items passage.new.seats.items refusal) }
 {
     let Ok((slot, seats)) = leave_stage(passage) else {
         return Err(Refusal::Memory);
