@@ -72,6 +72,11 @@ err T e = Err e
 same-error : (S T : Type 0) (e : RunError) → err T e ≡ err T error.Stopped → err S e ≡ err S error.Stopped
 same-error S T e h = (let is : e ≡ error.Stopped = cc in ap (err S) is)
 
+was_stopped : (e f : RunError) → stop_of f ≡ stop_of e → f ≡ error.Stopped → e ≡ error.Stopped
+was_stopped error.Stopped f same is = refl
+was_stopped error.Memory f same is = absurd (let z : stop_of f ≡ 1 = ap stop_of is in omega arith)
+was_stopped (error.TooMany n) f same is = absurd (let z : stop_of f ≡ 1 = ap stop_of is in omega arith)
+
 module _ {C : Type 0} (check : StopWords C) where
   -- nothing was asked
   pub asked-ok : {T : Type 0} (c : C) (value : T) → WasAsked check 0 c c (Ok value)
@@ -120,6 +125,14 @@ module _ {C : Type 0} (check : StopWords C) where
   asked_passed n m a b e (Ok value) k h = absurd k
   asked_passed {S = S} n m a b e (Err f) k h = passed n m a b f (subst (λ x. WasAsked check n a b (err S x)) (sym k) h)
 
+  -- an error in whose place another is told, which is a stop where it was one
+  pub asked_told : {S T : Type 0} (n m : ℕ) (a b : C) (e f : RunError) → stop_of f ≡ stop_of e → WasAsked {T = S} check n a b (Err e) → WasAsked {T = T} check m a b (Err f)
+  asked_told {S = S} n m a b e f calm h = record {
+    asked = tt;
+    yes = subst (λ k. Counts k (check.yes a) (check.yes b)) (sym calm) h.yes;
+    last = λ q. h.last (ap (λ z. err S z) (was_stopped e f calm (let is : f ≡ error.Stopped = cc in is)));
+  }
+
   -- an error that is passed on behind a call
   pub asked_passed_then : {S T V : Type 0} (n m k : ℕ) (a b c : C) (value : V) (e : RunError) (r : Result T RunError) → IsErrAnd r (λ f. f ≡ e) → WasAsked check n a b (Ok value) → WasAsked {T = S} check m b c (Err e) → WasAsked check k a c r
   asked_passed_then n m k a b c value e (Ok made) is first second = absurd is
@@ -165,6 +178,11 @@ module _ {C : Type 0} (check : StopWords C) where
     yes = subst (λ x. Counts (stop_of x) (check.yes a) (check.yes b)) (sym is) said;
     last = λ q. absurd (not-stopped e (ap stop_of is) (let at : e ≡ error.Stopped = cc in at));
   }
+
+  -- sinks that weren't combined
+  pub asked-uncombined : {T : Type 0} (n : ℕ) (a b : C) (halt : Halt) (e : RunError) → stop_of e ≡ halt_stops halt → Counts (halt_stops halt) (check.yes a) (check.yes b) → (halt ≡ Stopped → check.last_answer b ≡ true) → WasAsked {T = T} check n a b (Err e)
+  asked-uncombined n a b Stopped e same said last = record { asked = tt; yes = subst (λ k. Counts k (check.yes a) (check.yes b)) (sym same) said; last = λ q. last refl }
+  asked-uncombined n a b (Refused r) e same said last = record { asked = tt; yes = subst (λ k. Counts k (check.yes a) (check.yes b)) (sym same) said; last = λ q. absurd (not-stopped e same (let is : e ≡ error.Stopped = cc in is)) }
 
   -- one question
   pub asked-once : {T : Type 0} (a b : C) (value : T) → check.asked b ≡ counted 1 (check.asked a) → check.yes b ≡ counted 0 (check.yes a) → WasAsked check 1 a b (Ok value)

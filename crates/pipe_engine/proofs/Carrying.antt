@@ -89,11 +89,11 @@ works_length hash_of from [] (s ∷ ss) serve = absurd serve
 works_length hash_of from (o ∷ os) [] serve = absurd serve
 works_length hash_of from (o ∷ os) (s ∷ ss) serve = ap suc (works_length hash_of (output_of o from) os ss serve.1)
 
-works_many : {H : Type 0} (hash_of : H → List ℕ → ℕ) (limit : ℕ) (from : List Field) (ss : List (Slot H)) (lanes : Lanes H) → 0 < length lanes → All (IsFit (phys_words hash_of) sink_words ss limit from) lanes → length (works_in (phys_words hash_of) from ss lanes) ≡ length ss
+pub works_many : {H : Type 0} (hash_of : H → List ℕ → ℕ) (limit : ℕ) (from : List Field) (ss : List (Slot H)) (lanes : Lanes H) → 0 < length lanes → All (IsFit (phys_words hash_of) sink_words ss limit from) lanes → length (works_in (phys_words hash_of) from ss lanes) ≡ length ss
 works_many hash_of limit from ss [] some fit = absurd (omega arith)
 works_many hash_of limit from ss (z ∷ lanes) some fit = works_length hash_of from (lane_operators z) ss (fit 0 z (omega arith)).serve
 
-map_length : {X Y : Type 0} (f : X → Y) (xs : List X) → length (map f xs) ≡ length xs
+pub map_length : {X Y : Type 0} (f : X → Y) (xs : List X) → length (map f xs) ≡ length xs
 map_length f [] = refl
 map_length f (x ∷ xs) = ap suc (map_length f xs)
 
@@ -105,7 +105,7 @@ grown_after c a b m g = record {
   won = keys-by (λ w. (let h = keys-weigh g.won w in let e1 = total-append w c.won b.won in let e2 = total-append w (c.won ++ a.won) m.won in let e3 = total-append w c.won a.won in let e4 = total-append w a.won m.won in omega arith));
 }
 
-all_grown_after : (c a b m : List Acts) → length c ≡ length a → AllGrown a b m → AllGrown (added c a) (added c b) m
+pub all_grown_after : (c a b m : List Acts) → length c ≡ length a → AllGrown a b m → AllGrown (added c a) (added c b) m
 all_grown_after [] a b m e g = g
 all_grown_after (k ∷ c) [] b m e g = absurd (omega arith)
 all_grown_after (k ∷ c) (x ∷ a) [] m e g = absurd g

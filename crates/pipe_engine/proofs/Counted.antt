@@ -43,7 +43,7 @@ counted_plus t (n ∷ ns) [] b = omega arith
 counted_plus t (n ∷ ns) (x ∷ a) [] = omega arith
 counted_plus t (n ∷ ns) (x ∷ a) (y ∷ b) = let c = cond_plus (n == t) x y in let r = counted_plus t ns a b in omega arith
 
-counted_zero : (t : ℕ) (nodes a : List ℕ) → AllWithin 0 a → counted_at t nodes a ≡ 0
+pub counted_zero : (t : ℕ) (nodes a : List ℕ) → AllWithin 0 a → counted_at t nodes a ≡ 0
 counted_zero t [] a h = refl
 counted_zero t (n ∷ ns) [] h = refl
 counted_zero t (n ∷ ns) (x ∷ a) h =
@@ -59,7 +59,7 @@ counts_alike (w ∷ ws) (k ∷ acts) a b same =
     let more = counts_alike ws acts (made w k.won a) (made w k.won b) (SameBag-append (SameBag-flat_map w.each same) (SameBag-refl (flat_map w.gains k.won))) in
     ap (λ n. n ∷ counts_of ws acts (made w k.won a)) (same_many a b same) ∙ ap (λ l. length b ∷ l) more
 
-first_counted : (t n c : ℕ) (ns cs nodes counts : List ℕ) → nodes ≡ n ∷ ns → counts ≡ c ∷ cs → counted_at t nodes counts ≡ cond (n == t) c 0 + counted_at t ns cs
+pub first_counted : (t n c : ℕ) (ns cs nodes counts : List ℕ) → nodes ≡ n ∷ ns → counts ≡ c ∷ cs → counted_at t nodes counts ≡ cond (n == t) c 0 + counted_at t ns cs
 first_counted t n c ns cs nodes counts e g = ap (λ l. counted_at t l counts) e ∙ ap (counted_at t (n ∷ ns)) g
 
 one_counted : (t n : ℕ) (counts : List ℕ) → counted_at t (n ∷ []) counts ≡ cond (n == t) (number_at counts 0) 0

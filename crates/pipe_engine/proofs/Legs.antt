@@ -3,6 +3,7 @@ use Rattle.std.proofs.Common.{◌≡◌, ◌≢◌, ℕ, zero, suc, ◌+◌, ◌
 use Rattle.std.specs.Prelude.{All}
 use Rattle.std.specs.List.{flat_map, AllByRecursion}
 use Rattle.std.specs.Global.{Vec}
+use Rattle.pipe_frame.specs.Frame.{Table}
 use Rattle.pipe_frame.specs.Rows.{Row, Same}
 use Rattle.pipe_frame.specs.Weights.{total}
 use Rattle.pipe_frame.specs.declared.field.Field.{Field}
@@ -54,6 +55,8 @@ use Rattle.pipe_sinks.specs.declared.phys_sink.PhysSink.{PhysSink}
 use Rattle.pipe_along.proofs.Flowing.{arrived, more_none, not_on}
 use Rattle.pipe_engine.proofs.Counted.{counts_alike, run_counted}
 use Rattle.pipe_engine.proofs.Opening.{nodes_are, ends_in, gives_are, place_off, not_placed, stages_open, all_enough}
+use Rattle.pipe_engine.specs.Wholes.{HasFrame, IsKeptFrame}
+use Rattle.pipe_engine.proofs.Wholes.{flows_none, frame_place, frame_whole, into_empty, no_works}
 use Rattle.pipe_engine.proofs.Stages.{stages_pass, same_stages, works_make, all_give, slot_stays}
 
 -- ---- a node whose join isn't on the way
@@ -113,7 +116,7 @@ with_given e given = record e { given = given }
 abbrev pub with_leg : {H : Type 0} → Engine H → Slots H → Option (OpenLeg H) → ℕ → Engine H
 with_leg e slots leg index = record e { slots = slots; leg = leg; next_index = index }
 
-rest_kept : {H : Type 0} (k : Bool) (s t : Slot H) (a b : List SeatMarks) → s ≡ cond k slot.Empty t → a ≡ cond k [] b → IsRest 0 t b → IsRest 0 s a
+pub rest_kept : {H : Type 0} (k : Bool) (s t : Slot H) (a b : List SeatMarks) → s ≡ cond k slot.Empty t → a ≡ cond k [] b → IsRest 0 t b → IsRest 0 s a
 rest_kept {H = H} true s t a b e g is = let P : Slot H → Type 0 = λ z. IsRest 0 z a in subst P (sym e) tt
 rest_kept {H = H} false s t a b e g is = let P : Slot H → Type 0 = λ z. IsRest 0 z a in let Q : List SeatMarks → Type 0 = λ z. IsRest 0 t z in subst P (sym e) (subst Q (sym g) is)
 
@@ -121,7 +124,7 @@ enough_kept : {H : Type 0} (lanes : ℕ) (k : Bool) (s t : Slot H) → s ≡ con
 enough_kept {H = H} lanes true s t e is = let P : Slot H → Type 0 = HasSeats lanes in subst P (sym e) tt
 enough_kept {H = H} lanes false s t e is = let P : Slot H → Type 0 = HasSeats lanes in subst P (sym e) is
 
-slot_kept : {H : Type 0} (x : Settings H) (m : Meaning) (w : World) (j : ℕ) (k : Bool) (s t : Slot H) (a b : List SeatMarks) → k ≡ false → s ≡ cond k slot.Empty t → a ≡ cond k [] b → SlotFits x m w j t (sum_of b) → SlotFits x m w j s (sum_of a)
+pub slot_kept : {H : Type 0} (x : Settings H) (m : Meaning) (w : World) (j : ℕ) (k : Bool) (s t : Slot H) (a b : List SeatMarks) → k ≡ false → s ≡ cond k slot.Empty t → a ≡ cond k [] b → SlotFits x m w j t (sum_of b) → SlotFits x m w j s (sum_of a)
 slot_kept {H = H} x m w j k s t a b off e g is =
     let e2 : s ≡ t = e ∙ ap (λ z. cond z slot.Empty t) off in
     let g2 : a ≡ b = g ∙ ap (λ z. cond z [] b) off in
@@ -142,15 +145,16 @@ is_taken x m w given sts ops at b j s t acts are on e is = by_test (s ≡ slot.E
     (λ k. e ∙ ap (λ z. cond z slot.Empty t) k)
     (λ k. e ∙ ap (λ z. cond z slot.Empty t) k ∙ empty_of x m w j t acts (not_placed x m given sts ops at b j are on k) is)
 
-pub run_fits : {H : Type 0} (hash_of : H → List ℕ → ℕ) (x : Settings H) (old : Engine H) (source : PhysSource) (part : Part H) (p : Passage H (PhysSink H)) (seats : List (List SeatMarks)) (lanes : Vec (Lane (PhysOperator H) (PhysSink H))) (slots : Slots H) (index : ℕ) (from : List Field)
+pub run_fits : {H : Type 0} (hash_of : H → List ℕ → ℕ) (x : Settings H) (old : Engine H) (source : PhysSource) (part : Part H) (p : Passage H (PhysSink H)) (seats : List (List SeatMarks)) (lanes : Vec (Lane (PhysOperator H) (PhysSink H))) (slots : Slots H) (index : ℕ) (from : List Field) (frame whole : Option Table)
+    → HasFrame source frame → IsKeptFrame part.at part.stages.items frame whole
     → IsTaken (operators_of part.stages.items) old.slots slots p.shared.items seats
     → HasOpened hash_of sink_words old.context.row_limit part.stages.items part.basin p.shared.items seats p.seats.items p.lanes.items
     → ((start : ℕ) (ops : List ℕ) → nodes_in p.lanes.items ≡ start ∷ ops → from ≡ x.schema_at start)
     → Carried hash_of old.context.row_limit from (left_rows (left_of source)) p.lanes.items lanes.items p.shared.items p.seats.items
     → old.leg ≡ None
-    → RunsLeg (Brings source x) (StandsFor part x) (Fits hash_of old x) (Fits hash_of (with_leg old slots (Some (record { at = part.at; passage = record p { lanes = lanes }; sink = part.basin.sink })) index) x)
-    (IsBefore (Some (record { at = part.at; passage = record p { lanes = lanes }; sink = part.basin.sink })))
-run_fits {H = H} hash_of x old source part p seats lanes slots index from taken opened from_is carried idle m w start leg fits stands brings above above_sink built =
+    → RunsLeg (Brings source x) (StandsFor part x) (Fits hash_of old x) (Fits hash_of (with_leg old slots (Some (record { at = part.at; passage = record p { lanes = lanes }; sink = part.basin.sink; whole = whole })) index) x)
+    (IsBefore (Some (record { at = part.at; passage = record p { lanes = lanes }; sink = part.basin.sink; whole = whole })))
+run_fits {H = H} hash_of x old source part p seats lanes slots index from frame whole has kept taken opened from_is carried idle m w start leg fits stands brings above above_sink built =
     let sound = fits.sound in
     let sts = part.stages.items in
     let b = part.basin in
@@ -208,7 +212,7 @@ run_fits {H = H} hash_of x old source part p seats lanes slots index from taken 
           workers = taken.workers ∙ fits.workers;
           places = fits.places;
           given = fits.given;
-          counted = run_counted old.given.items old.leg (record { at = part.at; passage = record p { lanes = lanes }; sink = part.basin.sink }) limit w c more (start ∷ ops) (counts_in p.lanes.items) (counts_of ks acting (left_rows (left_of source)))
+          counted = run_counted old.given.items old.leg (record { at = part.at; passage = record p { lanes = lanes }; sink = part.basin.sink; whole = whole }) limit w c more (start ∷ ops) (counts_in p.lanes.items) (counts_of ks acting (left_rows (left_of source)))
               fits.counted idle nodes1 went.counts opened.within
               (λ t. ap (counted_at t (start ∷ ops)) (counts_alike ks acting (left_rows (left_of source)) rows brings.rows) ∙ came.counted t);
           sinks = λ t. (
@@ -230,6 +234,7 @@ run_fits {H = H} hash_of x old source part p seats lanes slots index from taken 
           leg = record {
             given = start;
             nodes = nodes1 ∙ ap (λ z. start ∷ z) above;
+            run = brings.run;
             above_sink = sink_is;
             passing = went.passing;
             gives = (let G : List (List Field) → Type 0 = λ z. All (GivesSchemas (x.schema_at start) z) p.lanes.items in
@@ -242,6 +247,10 @@ run_fits {H = H} hash_of x old source part p seats lanes slots index from taken 
             lanes = (let Z : SinkSetting H → Type 0 = λ z. All (IsSet setting_in z) lanes.items in subst Z end.is.setting (went.settings (setting_in b.sink) opened.settings));
             ends = end.is.ends;
             empty = end.is.empty;
+            whole = frame_whole x m start source part.at sts ops (m.above start) b frame whole held1 has kept stands.stages chain
+                (λ none. into_empty (flat_map (held_in sink_rows) p.lanes.items) (left_rows (left_of source)) went.out held1 opened.empty
+                (flows_none ks acting (left_rows (left_of source)) went.out (opened.works (x.schema_at start) ∙ ap (λ z. works_of (phys_words hash_of) (x.schema_at start) (operators_of z) ss) none ∙ no_works (phys_words hash_of) (x.schema_at start) ss) went.flows) went.held);
+            place = frame_place x m start source part.at sts ops b frame whole has kept stands.stages brings stands.order;
           };
         };
         is = record {

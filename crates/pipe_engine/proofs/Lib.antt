@@ -28,3 +28,11 @@ pub mod Paces
 pub mod Schemas
 pub mod Counted
 pub mod Limits
+pub mod Wholes
+pub mod Gives
+pub mod Closes
+pub mod Parted
+pub mod Spared
+pub mod Refusing
+pub mod Breaking
+pub mod Tellings

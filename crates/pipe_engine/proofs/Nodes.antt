@@ -40,7 +40,7 @@ use Rattle.pipe_passage.specs.declared.passage.Passage.{Passage}
 use Rattle.pipe_along.specs.Along.{AllMakeOf, more_of, come_to}
 use Rattle.pipe_driver.specs.Tables.{number_at}
 use Rattle.pipe_engine.specs.Carried.{IsBack, Carried, ReadsNothing, first_node}
-use Rattle.pipe_engine.specs.Engine.{IsBare, IsTabled, SlotFits, IsRowStage, StageFits, StagesFit, LegFits, LegFitsOrNone, Fits, AreCounted, IsAdded, IsBefore, rows_of_sink, sink_at, rows_for, nodes_before, behind, join_work}
+use Rattle.pipe_engine.specs.Engine.{IsBare, IsTabled, SlotFits, IsRowStage, StageFits, StagesFit, LegFits, LegFitsOrNone, Fits, AreCounted, IsAdded, IsBefore, rows_of_leg, rows_of_sink, sink_at, rows_for, nodes_before, behind, join_work}
 use Rattle.pipe_engine.specs.Passed.{with_more}
 use Rattle.pipe_sinks.specs.Sinks.{SinkSetting, setting_in, sink_rows}
 use Rattle.pipe_sinks.specs.SinkWords.{sink_words}
@@ -54,6 +54,7 @@ use Rattle.pipe_engine.proofs.Counted.{leave_counted, settle_counted}
 use Rattle.pipe_engine.proofs.Legs.{with_given, with_leg, probed_off, into_sink, beside_sink}
 use Rattle.pipe_engine.proofs.Owning.{kind_owns}
 use Rattle.pipe_engine.proofs.Stages.{stages_pass, same_stages, works_make, all_give, slot_stays, table_stands}
+use Rattle.pipe_engine.proofs.Wholes.{gone_whole}
 
 -- ---- the first stage
 
@@ -85,7 +86,7 @@ abbrev pub later : {H : Type 0} → OpenLeg H → Passage H (PhysSink H) → Ope
 later leg p = record leg { passage = p }
 
 -- what is known of a leg behind its first node
-record Behind {H : Type 0} (hash_of : H → List ℕ → ℕ) (x : Settings H) (m : Meaning) (w : World) (leg : OpenLeg H) (lanes : List (Lane (PhysOperator H) (PhysSink H))) (ss : List (Slot H)) (free : List (List SeatMarks)) (slot : Slot H) (seats : List SeatMarks) (node given : ℕ) (now : List ℕ) (next : List Field) : Type 0 where
+pub record Behind {H : Type 0} (hash_of : H → List ℕ → ℕ) (x : Settings H) (m : Meaning) (w : World) (leg : OpenLeg H) (lanes : List (Lane (PhysOperator H) (PhysSink H))) (ss : List (Slot H)) (free : List (List SeatMarks)) (slot : Slot H) (seats : List SeatMarks) (node given : ℕ) (now : List ℕ) (next : List Field) : Type 0 where
   pub above : m.above node ≡ now
   pub above_sink : m.above_sink node ≡ sink_node m.ordered leg.at
   pub schema : next ≡ x.schema_at node
@@ -98,7 +99,7 @@ record Behind {H : Type 0} (hash_of : H → List ℕ → ℕ) (x : Settings H) (
 tail_of : (a b : ℕ) (xs ys : List ℕ) → a ∷ xs ≡ b ∷ ys → xs ≡ ys
 tail_of a b xs ys e = ap behind e
 
-left_behind : {H : Type 0} (hash_of : H → List ℕ → ℕ) (x : Settings H) (m : Meaning) (w : World) (limit : ℕ) (leg : OpenLeg H) (lanes : List (Lane (PhysOperator H) (PhysSink H))) (ss : List (Slot H)) (free : List (List SeatMarks)) (s : Slot H) (seats : List SeatMarks) (node given : ℕ) (now : List ℕ)
+pub left_behind : {H : Type 0} (hash_of : H → List ℕ → ℕ) (x : Settings H) (m : Meaning) (w : World) (limit : ℕ) (leg : OpenLeg H) (lanes : List (Lane (PhysOperator H) (PhysSink H))) (ss : List (Slot H)) (free : List (List SeatMarks)) (s : Slot H) (seats : List SeatMarks) (node given : ℕ) (now : List ℕ)
     → IsSound m → m.above given ≡ node ∷ now → m.above_sink given ≡ sink_node m.ordered leg.at → nodes_in leg.passage.lanes.items ≡ given ∷ m.above given
     → All (GivesSchemas (x.schema_at given) (map x.schema_at (m.above given))) leg.passage.lanes.items
     → StagesFit x m w given (m.above given) (works_in (phys_words hash_of) (x.schema_at given) leg.passage.shared.items leg.passage.lanes.items) leg.passage.shared.items (acts_now hash_of leg.passage.lanes.items leg.passage.seats.items)
@@ -146,7 +147,7 @@ leg_of {H = H} hash_of x m w e leg fits is = let P : Option (OpenLeg H) → Type
 pub before_of : {H : Type 0} (leg : Option (OpenLeg H)) (opened : OpenLeg H) (now : List ℕ) (at : SinkAt) → leg ≡ Some opened → IsBefore leg now at → (behind (nodes_in opened.passage.lanes.items) ≡ now) × (opened.at ≡ at)
 before_of {H = H} leg opened now at is before = let P : Option (OpenLeg H) → Type 0 = λ z. IsBefore z now at in subst P is before
 
-none_on : (k node : ℕ) (now : List ℕ) → (k ≡ node → ⊥) → occurs k now ≡ 0 → occurs k (node ∷ now) ≡ 0
+pub none_on : (k node : ℕ) (now : List ℕ) → (k ≡ node → ⊥) → occurs k now ≡ 0 → occurs k (node ∷ now) ≡ 0
 none_on k node now ne off = let z = ap one (eq-false node k (λ e. ne (sym e))) in omega arith
 
 enough_first : {H : Type 0} (lanes : ℕ) (ss : List (Slot H)) (s : Slot H) (rest : List (Slot H)) → ss ≡ s ∷ rest → AllByRecursion (HasSeats lanes) ss → HasSeats lanes s × AllByRecursion (HasSeats lanes) rest
@@ -219,6 +220,7 @@ leave_fits {H = H} hash_of x old leg p s seats slots given node opened added lef
         leg = record {
           given = node;
           nodes = b.nodes ∙ ap (λ z. node ∷ z) (sym b.above);
+          run = λ chains. chains.next was.given node now above;
           above_sink = b.above_sink;
           passing = (let P : List Field → Type 0 = λ z. IsPassing hash_of sink_words old.context.row_limit z p.lanes.items p.shared.items p.seats.items in subst P b.schema left.passing);
           gives = (let G : List Field → Type 0 = λ z. All (GivesSchemas z (map x.schema_at now)) p.lanes.items in
@@ -233,6 +235,8 @@ leave_fits {H = H} hash_of x old leg p s seats slots given node opened added lef
           lanes = left.settings (x.setting_at leg.at) was.lanes;
           ends = was.ends;
           empty = was.empty;
+          whole = gone_whole (m.above was.given) now (m.above node) node (rows_of_leg leg.passage) (rows_of_leg p) leg.whole above was.whole;
+          place = was.place;
         };
       },
       (ap behind b.nodes, known.1),
@@ -243,7 +247,7 @@ leave_fits {H = H} hash_of x old leg p s seats slots given node opened added lef
 slot_other : (n k : ℕ) (w : World) → (k ≡ n → ⊥) → (spent_at n w).slot k ≡ w.slot k
 slot_other n k w ne = ap (λ b. cond b (spent (w.slot k)) (w.slot k)) (eq-false k n ne)
 
-slot_here : (n : ℕ) (w : World) → (spent_at n w).slot n ≡ spent (w.slot n)
+pub slot_here : (n : ℕ) (w : World) → (spent_at n w).slot n ≡ spent (w.slot n)
 slot_here n w = ap (λ b. cond b (spent (w.slot n)) (w.slot n)) (eq-true n n refl)
 
 bare_spent : (m : Meaning) (w : World) (n k : ℕ) → (k ≡ n → ⊥) → IsBare m w k → IsBare m (spent_at n w) k
@@ -252,7 +256,7 @@ bare_spent m w n k ne is = record { waits = slot_other n k w ne ∙ is.waits; th
 table_spent : {H : Type 0} (x : Settings H) (m : Meaning) (w : World) (n k : ℕ) (s : Slot H) (acts : Acts) → (k ≡ n → ⊥) → IsTabled x m w k s acts → IsTabled x m (spent_at n w) k s acts
 table_spent x m w n k s acts ne is = record { join = is.join; suits = is.suits; built = is.built; has = slot_other n k w ne ∙ is.has; rows = is.rows; marked = is.marked; gained = is.gained }
 
-slot_spent : {H : Type 0} (x : Settings H) (m : Meaning) (w : World) (n k : ℕ) (s : Slot H) (acts : Acts) → (k ≡ n → ⊥) → SlotFits x m w k s acts → SlotFits x m (spent_at n w) k s acts
+pub slot_spent : {H : Type 0} (x : Settings H) (m : Meaning) (w : World) (n k : ℕ) (s : Slot H) (acts : Acts) → (k ≡ n → ⊥) → SlotFits x m w k s acts → SlotFits x m (spent_at n w) k s acts
 slot_spent x m w n k slot.Empty acts ne is = bare_spent m w n k ne is
 slot_spent x m w n k (slot.Keys t) acts ne is = table_spent x m w n k (slot.Keys t) acts ne is
 slot_spent x m w n k (slot.Rows f) acts ne is = table_spent x m w n k (slot.Rows f) acts ne is
@@ -265,7 +269,7 @@ stage_spent x m w n given k work s acts ne is = (
   (λ join. (let j = is.1 join in record { join = j.join; probed = j.probed; work_is = j.work_is; table = table_spent x m w n k s acts ne j.table })),
 )
 
-stages_spent : {H : Type 0} (x : Settings H) (m : Meaning) (w : World) (n given : ℕ) (ops : List ℕ) (ks : List Work) (ss : List (Slot H)) (acts : List Acts) → occurs n ops ≡ 0 → StagesFit x m w given ops ks ss acts → StagesFit x m (spent_at n w) given ops ks ss acts
+pub stages_spent : {H : Type 0} (x : Settings H) (m : Meaning) (w : World) (n given : ℕ) (ops : List ℕ) (ks : List Work) (ss : List (Slot H)) (acts : List Acts) → occurs n ops ≡ 0 → StagesFit x m w given ops ks ss acts → StagesFit x m (spent_at n w) given ops ks ss acts
 stages_spent x m w n given [] [] [] [] off is = tt
 stages_spent x m w n given [] [] [] (a ∷ acts) off is = absurd is
 stages_spent x m w n given [] [] (s ∷ ss) acts off is = absurd is
@@ -278,7 +282,7 @@ stages_spent x m w n given (o ∷ ops) (k ∷ ks) (s ∷ ss) (a ∷ acts) off is
     (stage_spent x m w n given o k s a apart is.0, stages_spent x m w n o ops ks ss acts (omega arith) is.1)
 
 -- what the node has of its own
-owns : {H : Type 0} (hash_of : H → List ℕ → ℕ) (x : Settings H) (m : Meaning) (w : World) (given node : ℕ) (work : Work) (s closed : Slot H) (seats : List SeatMarks) → IsSound m → 0 < x.parts → StageFits x m w given node work s (sum_of seats) → IsRest 0 s seats → IsClosedAs s seats closed
+pub owns : {H : Type 0} (hash_of : H → List ℕ → ℕ) (x : Settings H) (m : Meaning) (w : World) (given node : ℕ) (work : Work) (s closed : Slot H) (seats : List SeatMarks) → IsSound m → 0 < x.parts → StageFits x m w given node work s (sum_of seats) → IsRest 0 s seats → IsClosedAs s seats closed
     → (m.is_join node ≡ true → SameBag (w.there (OutOf (m.probed node))) (m.rows (m.probed node))) → SameBag (m.own node) (w.gained node ++ rows_of_parts parts_in (part_in hash_of) closed)
 owns {H = H} hash_of x m w given node work s closed seats sound some is rest closes seen =
     let spec = x.spec_at node in
@@ -452,6 +456,7 @@ settle_fits {H = H} hash_of x old leg p slots counts node nothing from opened ad
           leg = record {
             given = node;
             nodes = nodes1 ∙ ap (λ z. node ∷ z) (sym b.above);
+            run = λ chains. chains.next was.given node now above;
             above_sink = b.above_sink;
             passing = went.passing;
             gives = (let G : List Field → Type 0 = λ z. All (GivesSchemas z (map x.schema_at now)) done.mid in
@@ -466,6 +471,8 @@ settle_fits {H = H} hash_of x old leg p slots counts node nothing from opened ad
             lanes = went.settings (x.setting_at leg.at) (left.settings (x.setting_at leg.at) was.lanes);
             ends = was.ends;
             empty = was.empty;
+            whole = gone_whole (m.above was.given) now (m.above node) node (rows_of_leg leg.passage) (rows_of_leg p) leg.whole above was.whole;
+            place = was.place;
           };
         };
         is = record {

@@ -5,7 +5,8 @@ use Rattle.pipe_frame.specs.Counts.{Counts}
 use Rattle.pipe_ops.specs.Batches.{Left, batch, after_batch}
 use Rattle.pipe_ops.specs.declared.source.Morsel.{Morsel}
 use Rattle.pipe_run.specs.Dealt.{rows_of_all}
-use Rattle.pipe_batches.specs.Rounds.{left_rows, Gave, IsFew}
+use Rattle.pipe_takings.specs.Rounds.{Gives}
+use Rattle.pipe_batches.specs.Rounds.{left_rows, IsFew}
 use Rattle.pipe_batches.proofs.Batches.{batch-rows}
 use Rattle.pipe_engine.specs.Asked.{RisesBy}
 use Rattle.pipe_engine.specs.Paced.{TakesPaced}
@@ -45,7 +46,7 @@ pub paced-asked : (n most d a b : ℕ) → RisesBy n a b → TakesPaced most d d
 paced-asked n most d a b h = record { questions = b - a; asked = rises-count n a b h; few = omega arith }
 
 -- what a source gave
-gave-few : (n size index most : ℕ) (rounds : List (List Morsel)) (old new : List Left) → Gave n size index rounds old new → AllByRecursion (IsFew most) rounds → length (left_rows old) ≤ length (left_rows new) + most * length rounds
+gave-few : (n size index most : ℕ) (rounds : List (List Morsel)) (old new : List Left) → Gives n size index rounds old new → AllByRecursion (IsFew most) rounds → length (left_rows old) ≤ length (left_rows new) + most * length rounds
 gave-few n size index most [] old new same few = let e = ap (λ (ls : List Left). length (left_rows ls)) same in omega (arith, e)
 gave-few n size index most (ms ∷ rounds) old new gave few =
     let rest = gave-few n size (index + length ms) most rounds (after_batch n size old) new gave.1 few.1 in
@@ -54,7 +55,7 @@ gave-few n size index most (ms ∷ rounds) old new gave few =
     let given = ap (λ (l : List Morsel). length (rows_of_all l)) gave.0 in
     omega (arith, rest, rows, both, given, few.0)
 
-pub paced-rounds : (n size index most : ℕ) (rounds : List (List Morsel)) (old new : List Left) (a b : ℕ) → Gave n size index rounds old new → AllByRecursion (IsFew most) rounds → left_rows new ≡ [] → Counts (length rounds) a b → TakesPaced most (length (left_rows old)) 0 a b
+pub paced-rounds : (n size index most : ℕ) (rounds : List (List Morsel)) (old new : List Left) (a b : ℕ) → Gives n size index rounds old new → AllByRecursion (IsFew most) rounds → left_rows new ≡ [] → Counts (length rounds) a b → TakesPaced most (length (left_rows old)) 0 a b
 paced-rounds n size index most rounds old new a b gave few none asked = record {
   questions = length rounds;
   asked = asked;

@@ -1,6 +1,7 @@
 -- What lets the engine's calls be made: for some settings and some meaning of a plan.
-use Rattle.std.specs.Prelude.{ℕ, List}
+use Rattle.std.specs.Prelude.{ℕ, List, Option}
 use Rattle.std.specs.List.{AllByRecursion}
+use Rattle.pipe_frame.specs.Frame.{Table}
 use Rattle.pipe_frame.specs.declared.field.Field.{Field}
 use Rattle.pipe_words.specs.Flags.{SeatMarks}
 use Rattle.pipe_branches.specs.declared.branch.SinkAt.{SinkAt}
@@ -62,9 +63,10 @@ pub record MayFinishAt {H : Type 0} (hash_of : H → List ℕ → ℕ) (engine :
 
 -- ---- sinks
 
-pub record MayFinishOne {H : Type 0} (engine : Engine H) (at : SinkAt) (sink : PhysSink H) : Type 0 where
+pub record MayFinishOne {H : Type 0} (engine : Engine H) (at : SinkAt) (sink : PhysSink H)
+    (whole : Option Table) : Type 0 where
   pub x : Settings H
-  pub may : MayFinishSink x engine at sink
+  pub may : MayFinishSink x engine at sink whole
 
 pub record MayFillBuild {H : Type 0} (engine : Engine H) (n : ℕ) (b : BuildRows H) : Type 0 where
   pub x : Settings H

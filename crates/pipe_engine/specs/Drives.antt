@@ -15,7 +15,8 @@ use Rattle.pipe_driver.specs.Lines.{counts_as}
 use Rattle.pipe_driver.specs.Runs.{sink_of, Between, Ready, Passes, Feeds, HasLed, HasRun, IsNext, IsAnswer, KeepsRoot, HasStopped}
 use Rattle.pipe_driver.specs.Fronts.{FedMore, FedOn, HasRunFront, IsOnTheWayBy}
 use Rattle.pipe_driver.specs.Plans.{StandFor}
-use Rattle.pipe_driver.specs.Within.{AllWithin}
+use Rattle.pipe_driver.specs.Within.{AllWithin, EndsWith}
+use Rattle.pipe_driver.specs.declared.error.RunError.{RunError}
 use Rattle.pipe_source.specs.declared.phys_source.PhysSource.{PhysSource}
 use Rattle.pipe_engine.specs.Engine.{engine_words}
 use Rattle.pipe_engine.specs.Finished.{IsRootFrame}
@@ -187,3 +188,11 @@ abbrev pub KeepsLimit : {H : Type 0} → (hash_of : H → List ℕ → ℕ) → 
 KeepsLimit {H = H} hash_of run pipelines =
     (asked : Asked H) → StandFor (engine_words hash_of asked.settings) asked.ask run pipelines
     → AllWithin run.runner.context.row_limit asked.ask.plan asked.ask.root
+
+-- an error says of it what happened: no memory, a stop, or a node under its root with more rows than
+-- the run's limit
+abbrev pub EndsPlan : {H : Type 0} → (hash_of : H → List ℕ → ℕ) → LineRun H → List (Line H) →
+    RunError → Type 0
+EndsPlan {H = H} hash_of run pipelines e =
+    (asked : Asked H) → StandFor (engine_words hash_of asked.settings) asked.ask run pipelines
+    → EndsWith run.runner.context.row_limit asked.ask.plan asked.ask.root e

@@ -2,6 +2,7 @@
 use Rattle.std.specs.Prelude.{◌≡◌, ℕ, suc, ◌+◌, ◌^◌, ◌<◌, ◌≤◌, List, [], ◌∷◌, ◌++◌, true, false, ◌==◌, if◌then◌else◌, Option, Some, None, All, length, map, slice_index_or}
 use Rattle.std.specs.List.{flat_map, AllByRecursion}
 use Rattle.std.specs.declared.sync.Arc.{Arc}
+use Rattle.pipe_frame.specs.Frame.{Table}
 use Rattle.pipe_frame.specs.Rows.{Row, Same}
 use Rattle.pipe_frame.specs.declared.field.Field.{Field}
 use Rattle.pipe_frame.proofs.Weights.{SameBag}
@@ -9,6 +10,7 @@ use Rattle.pipe_ops.specs.Batches.{Left}
 use Rattle.pipe_ops.specs.declared.context.PExecutionContext.{PExecutionContext}
 use Rattle.pipe_source.specs.Supplies.{left_of}
 use Rattle.pipe_source.specs.declared.phys_source.PhysSource.{PhysSource}
+use Rattle.pipe_source.specs.declared.phys_source.PhysSource.TheVariants as sources
 use Rattle.pipe_branches.specs.declared.branch.SinkAt.{SinkAt}
 use Rattle.pipe_branches.specs.declared.branch.SinkAt.TheVariants as at
 use Rattle.pipe_legs.specs.Meaning.{Meaning, OutOf, Into}
@@ -18,6 +20,7 @@ use Rattle.pipe_legs.specs.Ways.{occurs, IsSound}
 use Rattle.pipe_driver.specs.State.{World, Waits, Has}
 use Rattle.pipe_driver.specs.State as state
 use Rattle.pipe_driver.specs.Tables.{number_at}
+use Rattle.pipe_driver.specs.Within.{GoThroughRun}
 use Rattle.pipe_driver.specs.Words.{RunnerWords}
 use Rattle.pipe_table.specs.KeysOfRows.{AreTypedKeys}
 use Rattle.pipe_table.specs.Spec.{built_schema, built_on}
@@ -38,9 +41,9 @@ use Rattle.pipe_slots.specs.declared.slot.Slot.{Slot}
 use Rattle.pipe_slots.specs.declared.slot.Slot.TheVariants as slot
 use Rattle.pipe_passage.specs.declared.passage.Passage.{Passage}
 use Rattle.pipe_along.specs.Along.{counted_at}
-use Rattle.pipe_sinks.specs.Sinks.{setting_in, sink_rows}
+use Rattle.pipe_sinks.specs.Sinks.{OrderedBy, setting_in, sink_rows}
 use Rattle.pipe_sinks.specs.SinkWords.{sink_words}
-use Rattle.pipe_engine.specs.Stands.{Settings, IsJoinOf, EndsAt, StandsFor}
+use Rattle.pipe_engine.specs.Stands.{Settings, IsInOrder, IsJoinOf, EndsAt, StandsFor}
 use Rattle.pipe_engine.specs.declared.engine.Engine.{Engine}
 use Rattle.pipe_engine.specs.declared.engine.FedSink.{FedSink}
 use Rattle.pipe_engine.specs.declared.engine.OpenLeg.{OpenLeg}
@@ -52,12 +55,25 @@ use Rattle.pipe_sinks.specs.declared.phys_sink.PhysSink.{PhysSink}
 abbrev pub HasSchemaLeft : List Field → Left → Type 0
 HasSchemaLeft schema left = left.schema ≡ schema
 
--- a source has the rows of a node, under its schema
+-- no row of a frame is out
+abbrev pub IsFresh : Left → Type 0
+IsFresh left = left.from ≡ 0
+
+-- a source is a frame of these rows, in their order
+abbrev pub IsFrameOf : List Row → PhysSource → Type 0
+IsFrameOf rows (sources.Frame left) = left.rows ≡ rows
+IsFrameOf rows (sources.Union supply) = ⊥
+IsFrameOf rows (sources.ReProject supply) = ⊥
+
+-- a source has the rows of a node, under its schema; that of a sort is a frame, in the sort's order
 pub record Brings {H : Type 0} (source : PhysSource) (x : Settings H) (m : Meaning) (n : ℕ) : Type 0 where
   pub rows : SameBag (left_rows (left_of source)) (m.rows n)
   pub schema : AllByRecursion (HasSchemaLeft (x.schema_at n)) (left_of source)
   pub some : left_of source ≡ [] → ⊥
   pub few : length (left_rows (left_of source)) < 2 ^ 62
+  pub fresh : AllByRecursion IsFresh (left_of source)
+  pub order : m.is_sort n ≡ true → IsFrameOf (m.rows n) source
+  pub run : GoThroughRun m → m.is_run n ≡ true
 
 -- ---- slots
 
@@ -165,12 +181,35 @@ behind (n ∷ ns) = ns
 abbrev pub nodes_of_leg : {H : Type 0} → Passage H (PhysSink H) → List ℕ
 nodes_of_leg p = behind (nodes_in p.lanes.items)
 
+-- ---- rows that came as a frame
+
+abbrev pub whole_rows : Option Table → List Row
+whole_rows None = []
+whole_rows (Some frame) = frame.rows
+
+-- it has the schema of the root's sink
+abbrev pub IsOfRoot : {H : Type 0} → Settings H → Option Table → Type 0
+IsOfRoot x None = Unit {0}
+IsOfRoot x (Some frame) = x.setting_at at.Ordered ≡ OrderedBy frame.schema
+
+-- only to the root's sink rows come as a frame: in the root's order, where that has one
+abbrev pub IsWholeAt : {H : Type 0} → Settings H → SinkAt → Option Table → Type 0
+IsWholeAt x at.Ordered whole = IsOfRoot x whole × IsInOrder x.order (whole_rows whole)
+IsWholeAt x (at.Sort n) whole = whole ≡ None
+IsWholeAt x (at.Build n) whole = whole ≡ None
+
+-- a leg's frame has the rows that its lanes hold, and went through no operator
+abbrev pub IsWhole : (above : List ℕ) → (held : List Row) → Option Table → Type 0
+IsWhole above held None = Unit {0}
+IsWhole above held (Some frame) = (above ≡ []) × SameBag frame.rows held
+
 -- the leg that runs
 pub record LegFits {H : Type 0} (hash_of : H → List ℕ → ℕ) (x : Settings H) (m : Meaning)
     (w : World) (context : PExecutionContext) (leg : OpenLeg H) : Type 0 where
   -- the node whose rows the first stage is given, and the chain behind it
   pub given : ℕ
   pub nodes : nodes_in leg.passage.lanes.items ≡ given ∷ m.above given
+  pub run : GoThroughRun m → m.is_run given ≡ true
   pub above_sink : m.above_sink given ≡ sink_node m.ordered leg.at
   pub passing : IsPassing hash_of sink_words context.row_limit (x.schema_at given)
       leg.passage.lanes.items
@@ -186,6 +225,8 @@ pub record LegFits {H : Type 0} (hash_of : H → List ℕ → ℕ) (x : Settings
   pub lanes : All (IsSet setting_in (x.setting_at leg.at)) leg.passage.lanes.items
   pub ends : EndsAt x m leg.at (x.setting_at leg.at)
   pub empty : sink_rows leg.sink ≡ []
+  pub whole : IsWhole (m.above given) (rows_of_leg leg.passage) leg.whole
+  pub place : IsWholeAt x leg.at leg.whole
 
 -- ---- all of it
 
@@ -208,13 +249,16 @@ LegFitsOrNone hash_of x m w context (Some leg) = LegFits hash_of x m w context l
 abbrev pub sink_at : {H : Type 0} → List (Option (FedSink H)) → ℕ → Option (FedSink H)
 sink_at sinks s = slice_index_or sinks s None
 
+abbrev pub fed_rows : {H : Type 0} → FedSink H → List Row
+fed_rows fed = sink_rows fed.sink ++ whole_rows fed.whole
+
 abbrev pub rows_of_sink : {H : Type 0} → Option (FedSink H) → List Row
 rows_of_sink None = []
-rows_of_sink (Some fed) = sink_rows fed.sink
+rows_of_sink (Some fed) = fed_rows fed
 
 -- the sink that was fed, or an empty one
 abbrev pub fed_or_new : {H : Type 0} → Option (FedSink H) → PhysSink H → FedSink H
-fed_or_new None sink = record { sink = sink; rows = 0 }
+fed_or_new None sink = record { sink = sink; rows = 0; whole = None }
 fed_or_new (Some fed) sink = fed
 
 -- a sink that was fed is that of its place, and its rows were counted
@@ -223,7 +267,7 @@ abbrev pub IsKeptAt : {H : Type 0} → Settings H → Meaning → (limit : ℕ) 
 IsKeptAt x m limit at None = Unit {0}
 IsKeptAt x m limit at (Some fed) =
     (setting_in fed.sink ≡ x.setting_at at) × EndsAt x m at (x.setting_at at)
-    × (length (sink_rows fed.sink) ≤ fed.rows) × (fed.rows ≤ limit)
+    × (length (fed_rows fed) ≤ fed.rows) × (fed.rows ≤ limit) × IsWholeAt x at fed.whole
 
 -- how many rows of a node the leg that runs has counted
 abbrev pub given_in : {H : Type 0} → Option (OpenLeg H) → ℕ → ℕ

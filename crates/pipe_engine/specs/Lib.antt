@@ -2,6 +2,8 @@
 pub mod Stands
 -- what the engine has
 pub mod Engine
+-- rows that are there as a frame besides
+pub mod Wholes
 -- a plan that is run
 pub mod Known
 -- the world after rows came to its places
@@ -20,3 +22,5 @@ pub mod Drives
 pub mod Asked
 -- how many rows are taken to a question
 pub mod Paced
+-- what is known where a node has too many rows
+pub mod Refused

@@ -1,5 +1,5 @@
 -- When the operators and the sink of a leg are those of the plan.
-use Rattle.std.specs.Prelude.{◌≡◌, ℕ, List, [], ◌∷◌, true, false}
+use Rattle.std.specs.Prelude.{◌≡◌, ℕ, List, [], ◌∷◌, true, false, Option, Some, None}
 use Rattle.pipe_frame.specs.Rows.{Row, Same}
 use Rattle.pipe_frame.specs.declared.field.Field.{Field}
 use Rattle.pipe_expr.specs.Shares.{probe_share, built_share}
@@ -25,13 +25,19 @@ use Rattle.pipe_engine.specs.declared.part.Part.{Part}
 use Rattle.pipe_sinks.specs.declared.phys_sink.PhysSink.{PhysSink}
 
 -- what is known of a plan besides what it means: the settings of its joins and its sinks, the schemas
--- of its nodes, and how the tables of its joins are made
+-- of its nodes, how the tables of its joins are made, and the rows of its root, where that is a sort
 pub record Settings (H : Type 0) : Type 0 where
   pub spec_at : ℕ → JoinSpec
   pub setting_at : SinkAt → SinkSetting H
   pub schema_at : ℕ → List Field
   pub hasher : H
   pub parts : ℕ
+  pub order : Option (List Row)
+
+-- rows are these, where they have an order
+abbrev pub IsInOrder : Option (List Row) → List Row → Type 0
+IsInOrder None rows = Unit {0}
+IsInOrder (Some due) rows = rows ≡ due
 
 -- a join with its settings
 pub record IsJoinOf {H : Type 0} (x : Settings H) (m : Meaning) (j : ℕ) : Type 0 where
@@ -81,7 +87,7 @@ IsOperatorOf x m given n (op.CallBack o) = ⊥
 
 -- what a sink of these settings ends as, where it is the one of this place
 abbrev pub EndsAt : {H : Type 0} → Settings H → Meaning → SinkAt → SinkSetting H → Type 0
-EndsAt x m at.Ordered (OrderedBy schema) = Unit {0}
+EndsAt x m at.Ordered (OrderedBy schema) = IsInOrder x.order (m.below m.ordered)
 EndsAt x m at.Ordered (SortedBy s) = ⊥
 EndsAt x m at.Ordered (BuiltBy b) = ⊥
 EndsAt x m at.Ordered (CrossedBy c) = ⊥
@@ -89,7 +95,7 @@ EndsAt x m (at.Sort n) (OrderedBy schema) = ⊥
 EndsAt {H = H} x m (at.Sort n) (SortedBy s) =
     (m.is_sort n ≡ true) × (s.schema ≡ x.schema_at n)
     × ((held rows : List Row) → Same held (m.below n) → may_end {H = H} (SortedBy s) held rows
-    → Same rows (m.rows n))
+    → rows ≡ m.rows n)
 EndsAt x m (at.Sort n) (BuiltBy b) = ⊥
 EndsAt x m (at.Sort n) (CrossedBy c) = ⊥
 EndsAt x m (at.Build n) (OrderedBy schema) = ⊥
@@ -120,9 +126,23 @@ AreStagesOf x m given (st ∷ sts) [] at b = ⊥
 AreStagesOf x m given (st ∷ sts) (n ∷ ops) at b =
     (st.node ≡ given) × IsOperatorOf x m given n st.operator × AreStagesOf x m n sts ops at b
 
+-- where the root's rows have an order, they are those of this sort, and go through no operator
+abbrev pub BeginsInOrder : {H : Type 0} → Meaning → (start : ℕ) → List (Stage (PhysOperator H)) →
+    Option (List Row) → Type 0
+BeginsInOrder m start stages None = Unit {0}
+BeginsInOrder m start stages (Some due) =
+    (m.is_sort start ≡ true) × (stages ≡ []) × (m.rows start ≡ due)
+
+abbrev pub KeepsOrder : {H : Type 0} → Settings H → Meaning → (start : ℕ) →
+    List (Stage (PhysOperator H)) → SinkAt → Type 0
+KeepsOrder x m start stages at.Ordered = BeginsInOrder m start stages x.order
+KeepsOrder x m start stages (at.Sort n) = Unit {0}
+KeepsOrder x m start stages (at.Build n) = Unit {0}
+
 -- a part is that of a leg that begins at node `start`
 pub record StandsFor {H : Type 0} (part : Part H) (x : Settings H) (m : Meaning) (start : ℕ)
     (leg : Leg) : Type 0 where
   pub at : part.at ≡ leg.at
   pub sink : leg.sink ≡ sink_node m.ordered leg.at
   pub stages : AreStagesOf x m start part.stages.items leg.operators part.at part.basin
+  pub order : KeepsOrder x m start part.stages.items part.at

@@ -1,6 +1,6 @@
 //! How many rows each node gave, leg after leg.
 
-ghost use Rattle.std.specs.Prelude.{◌≡◌, ℕ, ◌≤◌, ◌<◌, length, IfOk, OnOk};
+ghost use Rattle.std.specs.Prelude.{◌≡◌, ℕ, ◌≤◌, ◌<◌, length, IfOk, IfErr, OnOk};
 ghost use Rattle.pipe_driver.specs.Tables.{number_at};
 ghost use Rattle.pipe_run.specs.Dealt.{nodes_in, counts_in};
 ghost use Rattle.pipe_run.specs.Lanes.{lane_nodes};
@@ -9,6 +9,7 @@ ghost use Rattle.pipe_sinks.specs.SinkWords.{sink_words};
 ghost use Rattle.pipe_engine.specs.Asked.{stops};
 ghost use Rattle.pipe_engine.specs.Carried.{first_node};
 ghost use Rattle.pipe_engine.specs.Engine.{IsAdded};
+ghost use Rattle.pipe_engine.specs.Refused.{PastLimit};
 
 use pipe_driver::RunError;
 use pipe_ops::PExecutionContext;
@@ -52,6 +53,7 @@ fn add_rows(
     requires within { (k : ℕ) → number_at given.old.items k ≤ context.now.row_limit }
     ensures added { OnOk result (IsAdded node rows context.now.row_limit given.old.items
         given.new.items) }
+    ensures err { IfErr result (PastLimit node rows context.now.row_limit given.old.items) }
     ensures calm { stops result ≡ 0 }
 {
     let place = node as usize;
@@ -78,6 +80,8 @@ pub(crate) fn count_first<H: KeyHasher>(
     ensures added { OnOk result (IsAdded (first_node (nodes_in passage.now.lanes.items))
         (number_at (counts_in passage.now.lanes.items) 0) context.now.row_limit given.old.items
         given.new.items) }
+    ensures err { IfErr result (PastLimit (first_node (nodes_in passage.now.lanes.items))
+        (number_at (counts_in passage.now.lanes.items) 0) context.now.row_limit given.old.items) }
     ensures calm { stops result ≡ 0 }
 {
     let lanes = passage.lanes.as_slice();

@@ -1,11 +1,12 @@
 //! The driver: legs one after another, each into its sink; a sink is closed after the last leg that feeds it.
 
-ghost use Rattle.std.specs.Prelude.{◌≡◌, ◌+◌, ◌<◌, [], length, drop, IfOk, OnOk};
+ghost use Rattle.std.specs.Prelude.{◌≡◌, ◌+◌, ◌<◌, [], length, drop, IfOk, IfErr, OnOk};
 ghost use Rattle.pipe_driver.specs.Tables.{number_at};
 ghost use Rattle.pipe_engine.specs.Asked.{WasAsked, stops};
 ghost use Rattle.pipe_engine.specs.Engine.{IsIdle};
 ghost use Rattle.pipe_engine.specs.Drives.{ForSome, ForEach, CanGo, Led, CanPass, IsLeftAt, Ran, CanClose, ComesNext, IsRootNext};
 ghost use Rattle.pipe_engine.specs.Paced.{TakesPaced, most_of, rows_due_from};
+ghost use Rattle.pipe_engine.specs.Refused.{IsNotMany, IsRefused};
 
 use crate::engine::{PlanLine, PlanRun, Tools};
 use crate::finishing::finish;
@@ -34,6 +35,8 @@ fn pass<R: Threads + Sync, H: KeyHasher, C: StopCheck, G: Gate + Sync>(
     requires can { ForSome (CanGo H.hash_of run.old current pipelines.now.items) }
     ensures led { IfOk result (λ leg. ForEach (CanGo H.hash_of run.old current pipelines.now.items)
         (Led H.hash_of current run.old run.new pipelines.now.items leg)) }
+    ensures err { IfErr result (λ e. ForEach (CanGo H.hash_of run.old current pipelines.now.items)
+        (IsRefused run.old.runner.context.row_limit e)) }
     ensures asked { WasAsked C.StopCheck 0 stop.old stop.new result }
     ensures paced { OnOk result (TakesPaced (most_of run.old.runner.context)
         (rows_due_from current.source) 0 (C.asked stop.old) (C.asked stop.new)) }
@@ -79,6 +82,9 @@ fn leave<R: Threads + Sync, H: KeyHasher, C: StopCheck, G: Gate + Sync>(
     ensures passes { OnOk result (ForEach
         (CanPass H.hash_of run.old (drop place operators.now) at pipelines.now.items)
         (IsLeftAt H.hash_of run.new (drop (place + 1) operators.now) at pipelines.now.items)) }
+    ensures err { IfErr result (λ e. ForEach
+        (CanPass H.hash_of run.old (drop place operators.now) at pipelines.now.items)
+        (IsRefused run.old.runner.context.row_limit e)) }
     ensures parked { OnOk result (run.new.parked ≡ run.old.parked) }
     ensures counts { OnOk result (run.new.counts ≡ run.old.counts) }
     ensures asked { WasAsked C.StopCheck 0 stop.old stop.new result }
@@ -88,7 +94,7 @@ fn leave<R: Threads + Sync, H: KeyHasher, C: StopCheck, G: Gate + Sync>(
     if run.probers.lower(node) == 0 {
         settle_node(alloc, tools, stop, &mut run.runner, node)
     } else {
-        leave_node(&mut run.runner, node)
+        leave_node(alloc, &mut run.runner, node)
     }
 }
 
@@ -105,6 +111,8 @@ pub(crate) fn feed<R: Threads + Sync, H: KeyHasher, C: StopCheck, G: Gate + Sync
     requires can { ForSome (CanGo H.hash_of run.old current pipelines.now.items) }
     ensures ran { IfOk result (λ fed. ForEach (CanGo H.hash_of run.old current pipelines.now.items)
         (Ran H.hash_of current run.old run.new pipelines.now.items fed)) }
+    ensures err { IfErr result (λ e. ForEach (CanGo H.hash_of run.old current pipelines.now.items)
+        (IsRefused run.old.runner.context.row_limit e)) }
     ensures asked { WasAsked C.StopCheck 1 stop.old stop.new result }
     ensures paced { OnOk result (TakesPaced (most_of run.old.runner.context)
         (rows_due_from current.source) 0 (C.asked stop.old) (C.asked stop.new)) }
@@ -144,6 +152,9 @@ fn leave_all<R: Threads + Sync, H: KeyHasher, C: StopCheck, G: Gate + Sync>(
     ensures passes { OnOk result (ForEach
         (CanPass H.hash_of run.old operators.now at pipelines.now.items)
         (IsLeftAt H.hash_of run.new [] at pipelines.now.items)) }
+    ensures err { IfErr result (λ e. ForEach
+        (CanPass H.hash_of run.old operators.now at pipelines.now.items)
+        (IsRefused run.old.runner.context.row_limit e)) }
     ensures parked { OnOk result (run.new.parked ≡ run.old.parked) }
     ensures counts { OnOk result (run.new.counts ≡ run.old.counts) }
     ensures asked { WasAsked C.StopCheck 0 stop.old stop.new result }
@@ -168,8 +179,9 @@ pub(crate) fn close<R: Threads + Sync, H: KeyHasher, G: Gate + Sync>(
     requires last { number_at run.old.counts.left.items fed.count ≡ 0 }
     ensures next { IfOk result (λ next. ForEach (CanClose H.hash_of run.old fed pipelines.now.items)
         (ComesNext H.hash_of run.old run.new fed pipelines.now.items next)) }
+    ensures err { IfErr result IsNotMany }
     ensures calm { stops result ≡ 0 }
-    ensures schema { IfOk result (λ next. ForEach
+    ensures frame { IfOk result (λ next. ForEach
         (CanClose H.hash_of run.old fed pipelines.now.items) (IsRootNext next)) }
     ensures context { run.new.runner.context ≡ run.old.runner.context }
 {

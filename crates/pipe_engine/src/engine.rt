@@ -3,6 +3,7 @@
 use crate::part::Part;
 use pipe_branches::SinkAt;
 use pipe_driver::{PipeLine, Run};
+use pipe_frame::DataFrame;
 use pipe_index::HashesKeys;
 use pipe_ops::PExecutionContext;
 use pipe_passage::Passage;
@@ -23,6 +24,8 @@ pub struct Tools<'a, R, G> {
 pub struct FedSink<H: HashesKeys> {
     pub sink: PhysSink<H>,
     pub rows: u64,
+    /// Rows that came to the root's sink as a frame. It stays as it is, beside those that the sink holds.
+    pub whole: Option<DataFrame>,
 }
 
 /// The leg that runs: the place of its sink, and its lanes with the stages that it hasn't left.
@@ -32,6 +35,9 @@ pub struct OpenLeg<H: HashesKeys> {
     pub passage: Passage<H, PhysSink<H>>,
     /// A sink that holds nothing, for the first leg that feeds the place.
     pub sink: PhysSink<H>,
+    /// The frame of its source, where that goes through no operator into the root's sink: it has the rows that the lanes
+    /// hold, in their order.
+    pub whole: Option<DataFrame>,
 }
 
 /// What runs the legs of a plan's pipelines.

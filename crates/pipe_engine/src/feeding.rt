@@ -45,6 +45,10 @@ pub(crate) fn fed_or<H: HashesKeys>(fed: Option<FedSink<H>>, sink: PhysSink<H>) 
             drop(sink);
             fed
         }
-        None => FedSink { sink, rows: 0 },
+        None => FedSink {
+            sink,
+            rows: 0,
+            whole: None,
+        },
     }
 }

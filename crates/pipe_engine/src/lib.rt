@@ -6,11 +6,14 @@ mod driving;
 mod engine;
 mod feeding;
 mod finishing;
+mod keeping;
 mod leg;
 mod part;
 mod plan_run;
+mod refused;
 mod running;
 mod sinks;
+mod source_frame;
 mod starting;
 mod taking;
 

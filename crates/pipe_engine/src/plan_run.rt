@@ -1,9 +1,9 @@
 //! The branches of a plan, from the first to the last.
 
-ghost use Rattle.std.specs.Prelude.{◌≡◌, IfOk, OnOk, Err, true};
+ghost use Rattle.std.specs.Prelude.{◌≡◌, IfOk, IfErr, OnOk, Err, true};
 ghost use Rattle.pipe_frame.specs.Counts.{Counts, Rises};
 ghost use Rattle.pipe_engine.specs.Asked.{stops};
-ghost use Rattle.pipe_engine.specs.Drives.{ForPlan, AnswersPlan, AnswersSchema, KeepsLimit};
+ghost use Rattle.pipe_engine.specs.Drives.{ForPlan, AnswersPlan, AnswersSchema, KeepsLimit, EndsPlan};
 ghost use Rattle.pipe_engine.specs.Paced.{TakesPaced, most_of, rows_due_of};
 
 use crate::engine::{PlanLine, PlanRun, Tools};
@@ -16,7 +16,8 @@ use std::thread::Threads;
 
 /// Runs pipelines that stand for the branches of a plan: the rows of its root. No node under that has more rows than the
 /// limit. To each question of the stop check the workers take at most four chunks each of the pipelines' sources.
-/// `Stopped` where it said yes, after which it isn't asked again; else it said no each time.
+/// `Stopped` where it said yes, after which it isn't asked again; else it said no each time. `TooMany` with a node under
+/// the root that has more rows than the limit; `Memory`.
 pub fn execute_branches<R: Threads + Sync, H: KeyHasher, C: StopCheck, G: Gate + Sync>(
     alloc: Global,
     tools: &Tools<R, G>,
@@ -26,8 +27,9 @@ pub fn execute_branches<R: Threads + Sync, H: KeyHasher, C: StopCheck, G: Gate +
 ) -> Result<DataFrame, RunError>
     requires stand { ForPlan H.hash_of run pipelines.items }
     ensures rows { IfOk result (AnswersPlan H.hash_of run pipelines.items) }
-    ensures schema { IfOk result (AnswersSchema H.hash_of run pipelines.items) }
+    ensures frame { IfOk result (AnswersSchema H.hash_of run pipelines.items) }
     ensures within { OnOk result (KeepsLimit H.hash_of run pipelines.items) }
+    ensures err { IfErr result (EndsPlan H.hash_of run pipelines.items) }
     ensures asked { OnOk result (Rises (C.asked stop.old) (C.asked stop.new)) }
     ensures yes { Counts (stops result) (C.yes stop.old) (C.yes stop.new) }
     ensures last { result ≡ Err RunError.Stopped → C.last_answer stop.new ≡ true }

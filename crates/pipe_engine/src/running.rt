@@ -1,12 +1,13 @@
 //! Front parts of branches, one after another.
 
-ghost use Rattle.std.specs.Prelude.{◌≡◌, [], ◌∷◌, IfOk, OnOk, Err, true};
+ghost use Rattle.std.specs.Prelude.{◌≡◌, [], ◌∷◌, IfOk, IfErr, OnOk, Err, true};
 ghost use Rattle.pipe_frame.specs.Counts.{Counts, Rises};
 ghost use Rattle.pipe_engine.specs.Asked.{WasAsked, stops};
 ghost use Rattle.pipe_engine.specs.Engine.{IsIdle};
 ghost use Rattle.pipe_engine.specs.Drives.{ForSome, ForEach, CanGo, Stopped, FedSinks, CanBegin, RanFront, CanRun, HasRoot};
 ghost use Rattle.pipe_engine.specs.Drives.{IsRootAnswer, HasRootSchema, RunsWithin};
 ghost use Rattle.pipe_engine.specs.Paced.{TakesPaced, most_of, rows_due_from, rows_due_of};
+ghost use Rattle.pipe_engine.specs.Refused.{IsRefused};
 
 use crate::driving::{close, feed};
 use crate::engine::{PlanLine, PlanRun, Tools};
@@ -35,7 +36,9 @@ fn run_way<R: Threads + Sync, H: KeyHasher, C: StopCheck, G: Gate + Sync>(
         (Stopped H.hash_of run.old run.new pipelines.now.items answer)) }
     ensures fed { OnOk result (ForEach (CanGo H.hash_of run.old first pipelines.now.items)
         (FedSinks first run.old run.new fed.old.items fed.new.items)) }
-    ensures schema { IfOk result (λ answer. ForEach
+    ensures err { IfErr result (λ e. ForEach (CanGo H.hash_of run.old first pipelines.now.items)
+        (IsRefused run.old.runner.context.row_limit e)) }
+    ensures frame { IfOk result (λ answer. ForEach
         (CanGo H.hash_of run.old first pipelines.now.items) (IsRootAnswer answer)) }
     ensures asked { WasAsked C.StopCheck 1 stop.old stop.new result }
     ensures paced { OnOk result (TakesPaced (most_of run.old.runner.context)
@@ -76,7 +79,10 @@ pub fn run_pipeline<R: Threads + Sync, H: KeyHasher, C: StopCheck, G: Gate + Syn
         (CanBegin H.hash_of run.old (first ∷ pipelines.old.items))
         (RanFront H.hash_of (first ∷ pipelines.old.items) run.old run.new pipelines.new.items
         answer)) }
-    ensures schema { IfOk result (λ answer. ForEach
+    ensures err { IfErr result (λ e. ForEach
+        (CanBegin H.hash_of run.old (first ∷ pipelines.old.items))
+        (IsRefused run.old.runner.context.row_limit e)) }
+    ensures frame { IfOk result (λ answer. ForEach
         (CanBegin H.hash_of run.old (first ∷ pipelines.old.items)) (IsRootAnswer answer)) }
     ensures asked { OnOk result (Rises (C.asked stop.old) (C.asked stop.new)) }
     ensures yes { Counts (stops result) (C.yes stop.old) (C.yes stop.new) }
@@ -116,10 +122,12 @@ pub fn execute_pipeline<R: Threads + Sync, H: KeyHasher, C: StopCheck, G: Gate +
     requires parked { run.parked.items ≡ [] }
     ensures root { IfOk result (λ frame. ForEach (CanRun H.hash_of run pipelines.items)
         (HasRoot frame)) }
-    ensures schema { IfOk result (λ frame. ForEach (CanRun H.hash_of run pipelines.items)
+    ensures frame { IfOk result (λ frame. ForEach (CanRun H.hash_of run pipelines.items)
         (HasRootSchema frame)) }
     ensures within { OnOk result (ForEach (CanRun H.hash_of run pipelines.items)
         (RunsWithin run.runner.context.row_limit)) }
+    ensures err { IfErr result (λ e. ForEach (CanRun H.hash_of run pipelines.items)
+        (IsRefused run.runner.context.row_limit e)) }
     ensures asked { OnOk result (Rises (C.asked stop.old) (C.asked stop.new)) }
     ensures yes { Counts (stops result) (C.yes stop.old) (C.yes stop.new) }
     ensures last { result ≡ Err RunError.Stopped → C.last_answer stop.new ≡ true }

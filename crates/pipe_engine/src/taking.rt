@@ -102,6 +102,17 @@ pub(crate) fn put_back<H: HashesKeys>(
     }
 }
 
+/// How many partitions of so many a leg's stages may flush: none where none of them reads flags.
+pub(crate) fn flushed_parts<H: HashesKeys>(shared: &[Slot<H>], parts: u32) -> u32 {
+    for slot in shared {
+        match slot {
+            Slot::Full(_) => return parts,
+            Slot::Empty | Slot::Keys(_) | Slot::Rows(_) | Slot::Spent => (),
+        }
+    }
+    0
+}
+
 /// Whether a stage reads nothing.
 pub(crate) fn reads_nothing<H: HashesKeys>(shared: &[Slot<H>]) -> bool
     requires { 0 < length shared.now }

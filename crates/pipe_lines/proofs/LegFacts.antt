@@ -17,7 +17,7 @@ use Rattle.pipe_run.specs.declared.stage.Stage.{Stage}
 use Rattle.pipe_slots.specs.declared.phys_operator.PhysOperator.{PhysOperator}
 use Rattle.pipe_convert.specs.Converted.{schema_in}
 use Rattle.pipe_sinks.specs.Sinks.{setting_in, sink_rows, sink_schema, sink_text}
-use Rattle.pipe_engine.specs.Stands.{AreStagesOf, EndsAt, IsSinkOf}
+use Rattle.pipe_engine.specs.Stands.{AreStagesOf, EndsAt, IsSinkOf, KeepsOrder}
 use Rattle.pipe_engine.specs.declared.part.Part.{Part}
 use Rattle.pipe_sinks.specs.declared.phys_sink.PhysSink.{PhysSink}
 use Rattle.pipe_check.specs.Checked.{Checked}
@@ -27,6 +27,7 @@ use Rattle.pipe_lines.specs.Made.{Specs, Sinks, settings_in, setting_at, setting
 use Rattle.pipe_create.specs.Nodes.{plan_in, nodes_in, meaning_in}
 use Rattle.pipe_create.specs.Steps.{GoesOn, GoesAlong, IsGiven, IsThere, last_of}
 use Rattle.pipe_create.proofs.ChainSteps.{chain_goes}
+use Rattle.pipe_lines.proofs.RootOrder.{keeps_order}
 
 -- ---- where a leg ends
 
@@ -108,6 +109,7 @@ module _ {H : Type 0} (plan : Checked) (specs : Specs) where
             at = part_at ∙ sym at_is;
             sink = refl;
             stages = subst (λ o. AreStagesOf x m start leg.part.stages.items o leg.part.at leg.part.basin) (sym ops_is) (subst (λ a. AreStagesOf x m start leg.part.stages.items ops a leg.part.basin) (sym part_at) stand);
+            order = subst (KeepsOrder x m start leg.part.stages.items) (sym part_at) (keeps_order plan specs x start ops leg.part.stages.items sink.at refl good leads.on.under goes.0 goes.1 are);
           };
         };
         text = ap (λ t. t ++ arrow_word (sink_text leg.part.basin.sink)) (stages_text start ops leg.part.stages.items are) ∙ ap (λ t. operator_texts (nodes_in plan) ops ++ arrow_word t) made.text;

@@ -9,3 +9,5 @@ pub mod LineFacts
 pub mod Stand
 pub mod Due
 pub mod RootSink
+pub mod RootOrder
+pub mod Complete

@@ -4,7 +4,6 @@ use Rattle.pipe_frame.specs.Rows.{Row, Same}
 use Rattle.pipe_frame.specs.declared.field.Field.{Field}
 use Rattle.pipe_expr.specs.declared.join_words.JoinType.{JoinType}
 use Rattle.pipe_expr.specs.declared.join_words.JoinType.TheVariants as how
-use Rattle.pipe_ops.specs.Laws.{same-equal}
 use Rattle.pipe_plan.specs.Faults.{IsWellFormed}
 use Rattle.pipe_plan.specs.Node as node
 use Rattle.pipe_plan.specs.PlanRows.{rows_of}
@@ -30,6 +29,7 @@ use Rattle.pipe_create.specs.Steps.{EndsIn, stage_in}
 use Rattle.pipe_create.proofs.JoinNodes.{join_node, sorts}
 use Rattle.pipe_lines.proofs.JoinStands.{join_stands}
 use Rattle.pipe_create.proofs.NodeRows.{sort_rows as rows_sorted}
+use Rattle.pipe_lines.proofs.RootOrder.{due_in_order}
 use Rattle.pipe_lines.proofs.SortRows.{below_sort}
 use Rattle.pipe_create.proofs.SpecFacts.{staged, built_is}
 
@@ -38,7 +38,7 @@ use Rattle.pipe_create.proofs.SpecFacts.{staged, built_is}
 pub root_sink : {H : Type 0} (plan : Checked) (specs : Specs) (hasher : H) (parts : ℕ) (k : Ordered) → k.schema ≡ schema_in plan plan.root → k.chunks ≡ [] → IsSinkAt plan specs hasher parts at.Ordered (OfRoot k)
 root_sink plan specs hasher parts k schema none = record {
   schema = λ given g. schema ∙ ap (schema_in plan) (sym g);
-  ends = λ sinks. tt;
+  ends = λ sinks. due_in_order plan;
   empty = rw none refl;
   text = refl;
 }
@@ -55,7 +55,7 @@ sort_stands plan specs hasher parts n input by options k good at_n is =
       ends = λ sinks. (
         sorts plan n input by options at_n,
         is.gives_output,
-        λ held rows same closed. same-equal (closed ((meaning_in plan).below n) same ∙ ap (sort_rows k.settings.keys k.settings.slice) below ∙ sym sorted),
+        λ held rows same closed. (closed ((meaning_in plan).below n) same ∙ ap (sort_rows k.settings.keys k.settings.slice) below ∙ sym sorted),
       );
       empty = is.empty;
       text = refl;

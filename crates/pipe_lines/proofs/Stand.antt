@@ -1,6 +1,6 @@
 -- The pipelines of a plan stand for its branches.
-use Rattle.std.proofs.Common.{◌≡◌, ℕ, ◌<◌, ◌≤◌, ◌^◌, true, List, [], ◌∷◌, length, Option, Some, None, refl, ap, sym, subst, ◌∙◌, arith, slice_index_or}
-use Rattle.std.specs.List.{AllByRecursion}
+use Rattle.std.proofs.Common.{◌≡◌, ℕ, ◌+◌, ◌<◌, ◌==◌, ◌≤◌, ◌^◌, true, List, [], ◌∷◌, length, Option, Some, None, refl, ap, sym, subst, ◌∙◌, arith, slice_index_or}
+use Rattle.std.specs.List.{flat_map, AllByRecursion}
 use Rattle.std.specs.declared.alloc.Global.{Global}
 use Rattle.std.specs.declared.sync.Arc.{Arc}
 use Rattle.pipe_frame.specs.Rows.{Row}
@@ -14,17 +14,21 @@ use Rattle.pipe_source.specs.declared.phys_source.PhysSource.{PhysSource}
 use Rattle.pipe_table.specs.declared.spec.JoinSpec.{JoinSpec}
 use Rattle.pipe_branches.specs.Branches.{branches}
 use Rattle.pipe_branches.specs.declared.branch.Branch.{Branch}
-use Rattle.pipe_legs.specs.Legs.{sink_node, ways_of}
+use Rattle.pipe_legs.specs.Legs as plan_legs
+use Rattle.pipe_legs.specs.Legs.{Way, sink_node, ways_of}
 use Rattle.pipe_legs.specs.Numbers.{named_sinks, sink_number}
-use Rattle.pipe_legs.specs.Ways.{feeds, passes}
+use Rattle.pipe_legs.specs.Ways.{one, occurs, feeds, passes, starts_from, starts_of, IsWay}
 use Rattle.pipe_legs.proofs.Sounds.{are_sound}
+use Rattle.pipe_legs.proofs.Tests.{eq-true, occurs-append}
+use Rattle.pipe_legs.proofs.Whole.{can_run}
 use Rattle.pipe_driver.specs.declared.pipe_line.Leg.{Leg}
-use Rattle.pipe_driver.specs.Lines.{IsLine, AreLegsOf, SourceHas}
+use Rattle.pipe_driver.specs.Lines.{way_as, ways_as, IsLine, AreLegsOf, SourceHas}
 use Rattle.pipe_driver.specs.Plans.{task_of, at_start, StandFor}
 use Rattle.pipe_driver.specs.Tables.{number_at}
 use Rattle.pipe_driver.specs.Words.{RunnerWords}
+use Rattle.pipe_driver.proofs.RunNodes.{begin_run}
 use Rattle.pipe_engine.specs.Drives.{Line, LineRun}
-use Rattle.pipe_engine.specs.Engine.{Brings, Fits, HasSchemaLeft, HasSpec, IsIdle, MayStart, engine_words}
+use Rattle.pipe_engine.specs.Engine.{Brings, Fits, HasSchemaLeft, IsFresh, HasSpec, IsIdle, MayStart, engine_words}
 use Rattle.pipe_engine.specs.Stands.{Settings}
 use Rattle.pipe_engine.specs.declared.engine.Engine.{Engine}
 use Rattle.pipe_engine.specs.declared.part.Part.{Part}
@@ -38,6 +42,7 @@ use Rattle.pipe_lines.specs.Lines.{AreLegsMade, AreLinesOf, HasSourceOf, IsLineO
 use Rattle.pipe_lines.specs.Standing.{ask_in, IsRunFor}
 use Rattle.pipe_lines.specs.declared.layout.Layout.{Layout}
 use Rattle.pipe_lines.proofs.LineFacts.{lines_ways}
+use Rattle.pipe_lines.proofs.RootOrder.{source_order}
 use Rattle.pipe_lines.proofs.RootSink.{root_setting}
 
 -- ---- sources
@@ -49,13 +54,26 @@ whole_schema : (schema : List Field) (lefts : List Left) → AreWhole schema lef
 whole_schema schema [] are = tt
 whole_schema schema (l ∷ lefts) are = (are.0.schema_is, whole_schema schema lefts are.1)
 
-brings_rows : {H : Type 0} (plan : Checked) (layout : Layout H) (n : ℕ) (source : PhysSource) → IsSourceAt plan n source → Brings source (layout_settings plan layout) (meaning_in plan) n
-brings_rows plan layout n source is = record {
+whole_fresh : (schema : List Field) (lefts : List Left) → AreWhole schema lefts → AllByRecursion IsFresh lefts
+whole_fresh schema [] are = tt
+whole_fresh schema (l ∷ lefts) are = (are.0.whole, whole_fresh schema lefts are.1)
+
+brings_rows : {H : Type 0} (plan : Checked) (layout : Layout H) (n : ℕ) (source : PhysSource) → IsSourceAt plan n source → (meaning_in plan).is_run n ≡ true → Brings source (layout_settings plan layout) (meaning_in plan) n
+brings_rows plan layout n source is run = record {
   rows = same_bag _ (rows_in plan n) is.rows;
   schema = whole_schema (schema_in plan n) (left_of source) is.whole;
   some = is.some;
   few = is.few;
+  fresh = whole_fresh (schema_in plan n) (left_of source) is.whole;
+  order = λ sort. source_order plan n source is sort;
+  run = λ chains. run;
 }
+
+-- ---- where pipelines begin
+
+starts_on : (start : ℕ) (legs : List plan_legs.Leg) → (legs ≡ [] → ⊥) → 0 < occurs start (starts_from start legs)
+starts_on start [] some = absurd (some refl)
+starts_on start (leg ∷ legs) some = let e = ap one (eq-true start start refl) in omega arith
 
 -- ---- pipelines
 
@@ -70,18 +88,28 @@ module _ {H : Type 0} (hash_of : H → List ℕ → ℕ) (plan : Checked) (layou
     legs_stand (sink_node (length (nodes_in plan)) leg.at) legs are.1,
   )
 
-  source_stands : (n : ℕ) (o : Option PhysSource) → HasSourceOf plan n o → SourceHas words (task_of (ask_in plan)) n o
-  source_stands n None has = has
-  source_stands n (Some source) has = brings_rows plan layout n source has
+  source_stands : (n : ℕ) (o : Option PhysSource) → HasSourceOf plan n o → (meaning_in plan).is_run n ≡ true → SourceHas words (task_of (ask_in plan)) n o
+  source_stands n None has run = has
+  source_stands n (Some source) has run = brings_rows plan layout n source has run
 
-  line_stands : (branch : Branch) (line : Line H) → IsLineOf plan layout.specs.items layout.sinks.items layout.hasher layout.parts branch line → IsLine words (task_of (ask_in plan)) line
-  line_stands branch line is = record { legs = legs_stand line.start line.legs.items is.legs; source = source_stands line.start line.source is.source }
+  line_stands : (branch : Branch) (line : Line H) → IsLineOf plan layout.specs.items layout.sinks.items layout.hasher layout.parts branch line → (meaning_in plan).is_run line.start ≡ true → IsLine words (task_of (ask_in plan)) line
+  line_stands branch line is run = record { legs = legs_stand line.start line.legs.items is.legs; source = source_stands line.start line.source is.source run }
 
-  lines_stand : (bs : List Branch) (lines : List (Line H)) → AreLinesOf plan layout.specs.items layout.sinks.items layout.hasher layout.parts bs lines → AllByRecursion (IsLine words (task_of (ask_in plan))) lines
-  lines_stand [] [] are = tt
-  lines_stand [] (line ∷ lines) are = absurd are
-  lines_stand (b ∷ bs) [] are = absurd are
-  lines_stand (b ∷ bs) (line ∷ lines) are = (line_stands b line are.0, lines_stand bs lines are.1)
+  abbrev ways_to : List (Line H) → List Way
+  ways_to lines = ways_as (length (nodes_in plan)) lines
+
+  -- pipelines that begin at nodes that are run
+  lines_stand : (bs : List Branch) (lines : List (Line H)) → AreLinesOf plan layout.specs.items layout.sinks.items layout.hasher layout.parts bs lines
+      → AllByRecursion (IsWay (meaning_in plan)) (ways_to lines) → ((n : ℕ) → 0 < occurs n (flat_map starts_of (ways_to lines)) → (meaning_in plan).is_run n ≡ true) → AllByRecursion (IsLine words (task_of (ask_in plan))) lines
+  lines_stand [] [] are ways runs = tt
+  lines_stand [] (line ∷ lines) are ways runs = absurd are
+  lines_stand (b ∷ bs) [] are ways runs = absurd are
+  lines_stand (b ∷ bs) (line ∷ lines) are ways runs =
+      let way = way_as (length (nodes_in plan)) line in
+      let some = starts_on way.start way.legs ways.0.some in (
+        line_stands b line are.0 (runs line.start (let a = occurs-append line.start (starts_of way) (flat_map starts_of (ways_to lines)) in omega arith)),
+        lines_stand bs lines are.1 ways.1 (λ n on. runs n (let a = occurs-append n (starts_of way) (flat_map starts_of (ways_to lines)) in omega arith)),
+      )
 
   -- ---- the engine
 
@@ -115,10 +143,13 @@ module _ {H : Type 0} (hash_of : H → List ℕ → ℕ) (plan : Checked) (layou
   stands run bs lines good cut are fits idle none many sinks probers =
       let A : List Branch → Type 0 = λ xs. AreLinesOf plan layout.specs.items layout.sinks.items layout.hasher layout.parts xs lines in
       let are_all = subst A cut are in
+      let ways : ways_to lines ≡ ways_of (plan_in plan) plan.root = lines_ways plan layout.specs.items layout.sinks.items layout.hasher layout.parts (branches (plan_in plan) plan.root) lines are_all in
+      let W : List Way → Type 0 = AllByRecursion (IsWay (meaning_in plan)) in
+      let S : List Way → Type 0 = λ ws. (n : ℕ) → 0 < occurs n (flat_map starts_of ws) → (meaning_in plan).is_run n ≡ true in
       record {
         well = good;
-        ways = lines_ways plan layout.specs.items layout.sinks.items layout.hasher layout.parts (branches (plan_in plan) plan.root) lines are_all;
-        lines = lines_stand (branches (plan_in plan) plan.root) lines are_all;
+        ways = ways;
+        lines = lines_stand (branches (plan_in plan) plan.root) lines are_all (subst W (sym ways) (can_run (plan_in plan) plan.root good).ways) (subst S (sym ways) (λ n begun. begin_run (plan_in plan) plan.root n good begun));
         fits = fits;
         idle = idle;
         parked = none;
@@ -142,4 +173,5 @@ module _ {H : Type 0} (hash_of : H → List ℕ → ℕ) (plan : Checked) (layou
             (fits hash_of (layout_settings plan layout) (meaning_in plan) (may_start workers run.runner good is parts some low hasher_is parts_are specs_are nodes_are))
             idle none many sinks probers;
         root = root_setting plan layout is;
+        order = refl;
       }

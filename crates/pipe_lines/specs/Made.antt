@@ -1,7 +1,8 @@
 -- What is made of the nodes of a checked plan.
-use Rattle.std.specs.Prelude.{◌≡◌, ℕ, ◌<◌, ◌+◌, List, [], ◌∷◌, Bool, true, false, Option, Some, None, length, slice_index_or}
+use Rattle.std.specs.Prelude.{◌≡◌, ℕ, ◌<◌, ◌+◌, List, [], ◌∷◌, Bool, true, false, Option, Some, None, if◌then◌else◌, length, slice_index_or}
 use Rattle.std.specs.declared.alloc.Global.{Global}
 use Rattle.std.specs.declared.sync.Arc.{Arc}
+use Rattle.pipe_frame.specs.Rows.{Row}
 use Rattle.pipe_plan.specs.Node.{Node}
 use Rattle.pipe_plan.specs.Node as node
 use Rattle.pipe_plan.specs.Under.{node_at}
@@ -22,22 +23,11 @@ use Rattle.pipe_check.specs.Checked.{Checked}
 use Rattle.pipe_convert.specs.Converted.{IsNode, IsSinkOf as IsSortOf, schema_in}
 use Rattle.pipe_legs.specs.Legs.{sink_node}
 use Rattle.pipe_create.specs.Joins.{IsSpecOf, spec_at}
-use Rattle.pipe_create.specs.Nodes.{nodes_in, meaning_in}
+use Rattle.pipe_create.specs.Nodes.{nodes_in, rows_in, meaning_in}
 use Rattle.pipe_create.specs.Steps.{GoesThrough, IsGiven, IsThere}
 
 abbrev pub Specs : Type 0
 Specs = List (Option (Arc JoinSpec Global))
-
--- a checked plan's joins, sinks and schemas, as who runs its pipelines knows them
-abbrev pub settings_with : {H : Type 0} → Checked → Specs → (SinkAt → SinkSetting H) → (hasher : H) →
-    (parts : ℕ) → Settings H
-settings_with plan specs sinks hasher parts = record {
-  spec_at = spec_at specs;
-  setting_at = sinks;
-  schema_at = schema_in plan;
-  hasher = hasher;
-  parts = parts;
-}
 
 -- ---- nodes
 
@@ -63,6 +53,24 @@ sorts_rows (node.MapFunction input function) = false
 sorts_rows (node.Union inputs) = false
 sorts_rows (node.Join left right left_on right_on options) = false
 sorts_rows (node.Sort input by options) = true
+
+-- the rows of a plan's root in their order, where it is a sort
+abbrev pub order_in : Checked → Option (List Row)
+order_in plan =
+    if sorts_rows (node_at (nodes_in plan) plan.root) then Some (rows_in plan plan.root) else None
+
+-- a checked plan's joins, sinks and schemas, and the order of its root, as who runs its pipelines
+-- knows them
+abbrev pub settings_with : {H : Type 0} → Checked → Specs → (SinkAt → SinkSetting H) → (hasher : H) →
+    (parts : ℕ) → Settings H
+settings_with plan specs sinks hasher parts = record {
+  spec_at = spec_at specs;
+  setting_at = sinks;
+  schema_at = schema_in plan;
+  hasher = hasher;
+  parts = parts;
+  order = order_in plan;
+}
 
 -- the place of a node's own sink: of a sort that of its rows, of a join that of the side that is built
 abbrev pub own_sink : Node → (n : ℕ) → Option SinkAt

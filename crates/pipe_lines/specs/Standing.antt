@@ -1,5 +1,6 @@
 -- A run that stands for a checked plan.
 use Rattle.std.specs.Prelude.{◌≡◌, ℕ, List, length, if◌then◌else◌}
+use Rattle.pipe_frame.specs.Counts.{Rises}
 use Rattle.pipe_frame.specs.Weights.{total}
 use Rattle.pipe_check.specs.Checked.{Checked}
 use Rattle.pipe_branches.specs.declared.branch.SinkAt.TheVariants as at
@@ -8,22 +9,27 @@ use Rattle.pipe_create.specs.Nodes.{plan_in, nodes_in, meaning_in}
 use Rattle.pipe_legs.specs.Meaning.{Meaning}
 use Rattle.pipe_legs.specs.Shape.{sources_of}
 use Rattle.pipe_driver.specs.Plans.{Ask, StandFor}
+use Rattle.pipe_driver.specs.declared.error.RunError.{RunError}
+use Rattle.pipe_driver.specs.declared.error.RunError.TheVariants as error
 use Rattle.pipe_engine.specs.Drives.{Line, LineRun}
 use Rattle.pipe_engine.specs.Engine.{engine_words}
 use Rattle.pipe_engine.specs.Stands.{Settings}
 use Rattle.pipe_sinks.specs.Sinks.{OrderedBy}
+use Rattle.pipe_lines.specs.Made.{order_in}
 
 -- the rows of its root are asked for
 abbrev pub ask_in : Checked → Ask
 ask_in plan = record { plan = plan_in plan; root = plan.root }
 
 -- pipelines stand for the branches of a plan, in order, and a run has all that they need: for the
--- settings of which both were made, of which the root's sink has the schema of the root
+-- settings of which both were made, of which the root's sink has the schema of the root, and its rows
+-- their order, where it is a sort
 pub record IsRunFor {H : Type 0} (hash_of : H → List ℕ → ℕ) (plan : Checked) (run : LineRun H)
     (pipelines : List (Line H)) : Type 0 where
   pub settings : Settings H
   pub stand : StandFor (engine_words hash_of settings) (ask_in plan) run pipelines
   pub root : settings.setting_at at.Ordered ≡ OrderedBy (schema_in plan plan.root)
+  pub order : settings.order ≡ order_in plan
 
 -- how many rows a node has, none where it is a sort, and how many the sources under a plan's root have
 -- together: its scans, and unions of scans alone, which have their scans' rows
@@ -32,3 +38,12 @@ scanned_at m n = if m.is_sort n then 0 else length (m.rows n)
 
 abbrev pub rows_scanned : Checked → ℕ
 rows_scanned plan = total (scanned_at (meaning_in plan)) (sources_of (nodes_in plan) plan.root)
+
+-- ---- where a run ends without rows
+
+abbrev pub IsMemory : RunError → Type 0
+IsMemory e = e ≡ error.Memory
+
+-- a count hasn't risen
+abbrev pub Stays : ℕ → ℕ → Type 0
+Stays old new = Rises old new → ⊥

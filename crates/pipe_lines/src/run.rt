@@ -1,14 +1,16 @@
 //! A plan's pipelines, with what runs them.
 
-ghost use Rattle.std.specs.Prelude.{◌≡◌, IfOk, OnOk, Err, true};
+ghost use Rattle.std.specs.Prelude.{◌≡◌, IfOk, IfErr, OnOk, Err, true};
 ghost use Rattle.pipe_frame.specs.Counts.{Counts, Rises};
 ghost use Rattle.pipe_frame.specs.Rows.{Same};
 ghost use Rattle.pipe_convert.specs.Converted.{schema_in};
-ghost use Rattle.pipe_create.specs.Nodes.{plan_in, rows_in};
-ghost use Rattle.pipe_driver.specs.Within.{AllWithin};
+ghost use Rattle.pipe_create.specs.Nodes.{nodes_in, plan_in, rows_in};
+ghost use Rattle.pipe_driver.specs.Within.{AllWithin, EndsWith};
+ghost use Rattle.pipe_plan.specs.Under.{node_at};
 ghost use Rattle.pipe_engine.specs.Asked.{stops};
 ghost use Rattle.pipe_engine.specs.Paced.{TakesPaced, most_of};
-ghost use Rattle.pipe_lines.specs.Standing.{IsRunFor, rows_scanned};
+ghost use Rattle.pipe_lines.specs.Made.{sorts_rows};
+ghost use Rattle.pipe_lines.specs.Standing.{IsRunFor, IsMemory, Stays, rows_scanned};
 
 use crate::layout::Layout;
 use crate::pipeline::create_pipelines;
@@ -59,9 +61,11 @@ pub fn create_run<H: KeyHasher>(
     Ok((run, pipelines))
 }
 
-/// Runs the pipelines of a checked plan: the rows of its root, under its schema. No node under that has more rows than the
-/// limit. To each question of the stop check the workers take at most four chunks each of the scans under the root.
-/// `Stopped` where it said yes, after which it isn't asked again; else it said no each time.
+/// Runs the pipelines of a checked plan: the rows of its root, under its schema, in their order where it is a sort. No
+/// node under that has more rows than the limit. To each question of the stop check the workers take at most four chunks
+/// each of the scans under the root. `Stopped` where it said yes, after which it isn't asked again; else it said no each
+/// time. `TooMany` with a node under the root that has more rows than the limit; `Memory`. A plan that is within the
+/// limit, and isn't stopped, ends with its rows or for want of memory.
 pub fn run_branches<R: Threads + Sync, H: KeyHasher, C: StopCheck, G: Gate + Sync>(
     alloc: Global,
     tools: &Tools<R, G>,
@@ -71,8 +75,13 @@ pub fn run_branches<R: Threads + Sync, H: KeyHasher, C: StopCheck, G: Gate + Syn
     hasher: H,
 ) -> Result<DataFrame, RunError>
     ensures rows { IfOk result (λ frame. Same frame.rows (rows_in plan.now plan.now.root)) }
+    ensures in_order { sorts_rows (node_at (nodes_in plan.now) plan.now.root) ≡ true →
+        IfOk result (λ frame. frame.rows ≡ rows_in plan.now plan.now.root) }
     ensures schema { IfOk result (λ frame. frame.schema ≡ schema_in plan.now plan.now.root) }
     ensures within { OnOk result (AllWithin context.row_limit (plan_in plan.now) plan.now.root) }
+    ensures err { IfErr result (EndsWith context.row_limit (plan_in plan.now) plan.now.root) }
+    ensures complete { AllWithin context.row_limit (plan_in plan.now) plan.now.root
+        → Stays (C.yes stop.old) (C.yes stop.new) → IfErr result IsMemory }
     ensures asked { OnOk result (Rises (C.asked stop.old) (C.asked stop.new)) }
     ensures yes { Counts (stops result) (C.yes stop.old) (C.yes stop.new) }
     ensures last { result ≡ Err RunError.Stopped → C.last_answer stop.new ≡ true }

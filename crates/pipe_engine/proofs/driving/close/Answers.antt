@@ -11,6 +11,7 @@ use Rattle.pipe_legs.specs.Meaning.{Meaning}
 use Rattle.pipe_driver.specs.Runs.{Unparks, StartsElsewhere}
 use Rattle.pipe_engine.proofs.Closings.{close_root, close_build, close_alone, close_sort}
 use Rattle.pipe_engine.proofs.Mays.{may_finish}
+use Rattle.pipe_engine.proofs.Breaking.{err_same}
 use Rattle.pipe_engine.proofs.Asked.{stops_passed}
 use Rattle.pipe_engine.proofs.driving.close.Goals as goal
 
@@ -67,16 +68,19 @@ returns-in-Some-clause-context g c = c.finish.ensures.context
 pub returns-in-None-clause-context : goal.returns-in-None-clause-context
 returns-in-None-clause-context g c = c.finish.ensures.context
 
-pub returns-in-Finished-clause-schema : goal.returns-in-Finished-clause-schema
-returns-in-Finished-clause-schema g c = λ k can. (
+pub returns-in-Finished-clause-frame : goal.returns-in-Finished-clause-frame
+returns-in-Finished-clause-frame g c = λ k can. (
     let F : FinalizedSink (Unit {0}) PhysSource → Type 0 = λ r. (x : Settings _) (m : Meaning) → MayFinish (engine_words g.H.KeyHasher.hash_of x) m c.args.run.now.runner c.args.fed.at → EndsAsRoot x r in
-    subst F c.in-Finished.is c.in_ok-frame.ensures.schema k.settings k.task.m (may_finish (words_of g.H.KeyHasher.hash_of k) k.task c.args.run.now c.args.fed.at c.args.fed.count c.args.pipelines.now.items can.feeds c.requires.last can.at can.number))
+    subst F c.in-Finished.is c.in_ok-frame.ensures.frame k.settings k.task.m (may_finish (words_of g.H.KeyHasher.hash_of k) k.task c.args.run.now c.args.fed.at c.args.fed.count c.args.pipelines.now.items can.feeds c.requires.last can.at can.number))
 
-pub returns-in-Operator-clause-schema : goal.returns-in-Operator-clause-schema
-returns-in-Operator-clause-schema g c = λ k can. tt
+pub returns-in-Operator-clause-frame : goal.returns-in-Operator-clause-frame
+returns-in-Operator-clause-frame g c = λ k can. tt
 
-pub returns-in-Some-clause-schema : goal.returns-in-Some-clause-schema
-returns-in-Some-clause-schema g c = λ k can. tt
+pub returns-in-Some-clause-frame : goal.returns-in-Some-clause-frame
+returns-in-Some-clause-frame g c = λ k can. tt
 
-pub returns-in-None-clause-schema : goal.returns-in-None-clause-schema
-returns-in-None-clause-schema g c = λ k can. tt
+pub returns-in-None-clause-frame : goal.returns-in-None-clause-frame
+returns-in-None-clause-frame g c = λ k can. tt
+
+pub returns-in_err-frame-clause-err : goal.returns-in_err-frame-clause-err
+returns-in_err-frame-clause-err g c = err_same _ _ _ c.from_residual.ensures.1 c.in_err-frame.ensures.err

@@ -4,6 +4,8 @@ use Rattle.pipe_engine.specs.Known.{words_of}
 use Rattle.pipe_driver.specs.Runs.{Passes}
 use Rattle.pipe_engine.proofs.Driven.{leg_runs}
 use Rattle.pipe_engine.proofs.Feeds.{sink_some, has_run}
+use Rattle.pipe_engine.proofs.Breaking.{err_same}
+use Rattle.pipe_engine.proofs.Tellings.{end_tells, limit_as}
 use Rattle.pipe_engine.proofs.Mays.{may_end}
 use Rattle.pipe_engine.proofs.Asked.{asked-made, asked-then, asked_passed, asked_passed_then}
 use Rattle.pipe_engine.proofs.Paces.{paced-asked, paced-then}
@@ -94,3 +96,19 @@ returns-in_err-end_leg-clause-context g c = c.end_leg.ensures.context ∙ c.leav
 
 pub returns-clause-context : goal.returns-clause-context
 returns-clause-context g c = c.end_leg.ensures.context ∙ c.leave_all.ensures.context ∙ c.pass.ensures.context
+
+pub returns-in_err-leg-clause-err : goal.returns-in_err-leg-clause-err
+returns-in_err-leg-clause-err g c = err_same _ _ _ c.from_residual.ensures.1 c.in_err-leg.ensures.err
+
+pub returns-in_err-leave_all-clause-err : goal.returns-in_err-leave_all-clause-err
+returns-in_err-leave_all-clause-err g c = err_same _ _ _ c.from_residual-in_err-leave_all.ensures.1 (λ k can. (
+    let leg = c.in_ok-leg.leg in
+    let Q : List ℕ → Type 0 = λ ops. Passes (words_of g.H.KeyHasher.hash_of k) k.task c.pass.new.run ops leg.at c.args.pipelines.now.items in
+    limit_as k.task.m _ _ _ c.pass.ensures.context (c.in_err-leave_all.ensures.err k (record { sound = can.sound; passes = subst Q (sym c.as_slice.ensures.value) (c.in_ok-leg.ensures.led k can).passes }))))
+
+pub returns-in_err-end_leg-clause-err : goal.returns-in_err-end_leg-clause-err
+returns-in_err-end_leg-clause-err g c = err_same _ _ _ c.from_residual-in_err-end_leg.ensures.1 (λ k can. (
+    let leg = c.in_ok-leg.leg in
+    let Q : List ℕ → Type 0 = λ ops. Passes (words_of g.H.KeyHasher.hash_of k) k.task c.pass.new.run ops leg.at c.args.pipelines.now.items in
+    let passes = c.in_ok-leave_all.ensures.passes k (record { sound = can.sound; passes = subst Q (sym c.as_slice.ensures.value) (c.in_ok-leg.ensures.led k can).passes }) in
+    limit_as k.task.m _ _ _ (c.leave_all.ensures.context ∙ c.pass.ensures.context) (end_tells (words_of g.H.KeyHasher.hash_of k) k.task c.leave_all.new.run leg.at c.args.pipelines.now.items _ _ can.sound passes (c.in_err-end_leg.ensures.err k.settings))))

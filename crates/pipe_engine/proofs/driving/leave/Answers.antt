@@ -2,6 +2,8 @@ use Rattle.std.proofs.Common.{◌+◌, ℕ, List, drop, get_or, subst, arith}
 use Rattle.pipe_engine.specs.Known.{words_of}
 use Rattle.pipe_driver.specs.Runs.{Passes}
 use Rattle.pipe_driver.proofs.Drives.{node_counted, left_behind, settled_behind, drop_at, on_ok}
+use Rattle.std.proofs.lemmas.Result.{IfErr-weaker}
+use Rattle.pipe_engine.proofs.Tellings.{leave_tells, settle_tells}
 use Rattle.pipe_engine.proofs.Mays.{may_leave, may_settle}
 use Rattle.pipe_engine.proofs.Driven.{leg_runs}
 use Rattle.pipe_engine.proofs.Asked.{asked-all, asked-less}
@@ -85,3 +87,23 @@ returns-then-lower-eq0-clause-context g c = c.settle_node.ensures.context
 
 pub returns-else-lower-eq0-clause-context : goal.returns-else-lower-eq0-clause-context
 returns-else-lower-eq0-clause-context g c = c.leave_node.ensures.context
+
+pub returns-then-lower-eq0-clause-err : goal.returns-then-lower-eq0-clause-err
+returns-then-lower-eq0-clause-err g c =
+    let node = get_or c.args.operators.now c.args.place 0 in
+    IfErr-weaker c.settle_node.result _ _
+    (λ e h. λ k can. (
+    let Q : List ℕ → Type 0 = λ ops. Passes (words_of g.H.KeyHasher.hash_of k) k.task c.args.run.now ops c.args.at c.args.pipelines.now.items in
+    let passes = subst Q (drop_at c.args.operators.now c.args.place 0 c.requires.there) can.passes in
+    settle_tells (words_of g.H.KeyHasher.hash_of k) k.task c.args.run.now node c.lower.result (drop (c.args.place + 1) c.args.operators.now) c.args.at c.args.pipelines.now.items _ e can.sound passes c.lower.ensures.here c.if-lower-eq0.true (h k.settings)))
+    c.settle_node.ensures.err
+
+pub returns-else-lower-eq0-clause-err : goal.returns-else-lower-eq0-clause-err
+returns-else-lower-eq0-clause-err g c =
+    let node = get_or c.args.operators.now c.args.place 0 in
+    IfErr-weaker c.leave_node.result _ _
+    (λ e h. λ k can. (
+    let Q : List ℕ → Type 0 = λ ops. Passes (words_of g.H.KeyHasher.hash_of k) k.task c.args.run.now ops c.args.at c.args.pipelines.now.items in
+    let passes = subst Q (drop_at c.args.operators.now c.args.place 0 c.requires.there) can.passes in
+    leave_tells (words_of g.H.KeyHasher.hash_of k) k.task c.args.run.now node (drop (c.args.place + 1) c.args.operators.now) c.args.at c.args.pipelines.now.items _ e can.sound passes (h k.settings)))
+    c.leave_node.ensures.err

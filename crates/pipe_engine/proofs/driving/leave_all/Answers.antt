@@ -2,6 +2,8 @@ use Rattle.std.proofs.Common.{◌+◌, List, ℕ, refl, subst, arith, ◌∙◌}
 use Rattle.std.proofs.lemmas.List.{drop_all}
 use Rattle.pipe_engine.specs.Known.{words_of}
 use Rattle.pipe_driver.specs.Runs.{Passes}
+use Rattle.pipe_engine.proofs.Breaking.{err_same}
+use Rattle.pipe_engine.proofs.Tellings.{limit_as}
 use Rattle.pipe_engine.proofs.Asked.{asked-ok, asked-made, asked-then, asked_passed_then}
 use Rattle.pipe_engine.proofs.driving.leave_all.Goals as goal
 
@@ -38,3 +40,6 @@ returns-in_err-leave-clause-context g c = c.leave.ensures.context ∙ c.loop-pla
 
 pub returns-clause-context : goal.returns-clause-context
 returns-clause-context g c = c.loop-place.invariant.context
+
+pub returns-in_err-leave-clause-err : goal.returns-in_err-leave-clause-err
+returns-in_err-leave-clause-err g c = err_same _ _ _ c.from_residual.ensures.1 (λ k can. limit_as k.task.m _ _ _ c.loop-place.invariant.context (c.in_err-leave.ensures.err k (record { sound = can.sound; passes = c.loop-place.invariant.passes k can })))

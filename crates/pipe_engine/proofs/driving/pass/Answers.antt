@@ -5,6 +5,8 @@ use Rattle.pipe_engine.specs.Paced.{TakesPaced, most_of, rows_due_from}
 use Rattle.pipe_engine.specs.Known.{words_of}
 use Rattle.pipe_driver.specs.Runs.{Parks}
 use Rattle.pipe_driver.proofs.Drives.{no_source, some_map, some_vec, first_is, has_led}
+use Rattle.pipe_engine.proofs.Breaking.{err_same}
+use Rattle.pipe_engine.proofs.Tellings.{pass_tells}
 use Rattle.pipe_engine.proofs.Mays.{may_run}
 use Rattle.pipe_engine.proofs.Asked.{asked-lost, asked-made, asked_passed}
 use Rattle.pipe_engine.proofs.driving.pass.Goals as goal
@@ -63,3 +65,13 @@ returns-in_default-park-clause-context g c = c.run_leg.ensures.context
 
 pub returns-clause-context : goal.returns-clause-context
 returns-clause-context g c = c.run_leg.ensures.context
+
+pub returns-in_err-run_leg-clause-err : goal.returns-in_err-run_leg-clause-err
+returns-in_err-run_leg-clause-err g c = err_same _ _ _ c.from_residual.ensures.1 (λ k can. (
+    let leg = c.remove-operators.result in
+    let legs = c.remove-operators.new.self.items in
+    let first = first_is c.args.current.legs.items legs leg (some_map (leg_as k.task.m.ordered) c.args.current.legs.items can.ready.ready.way.some) c.remove-operators.ensures.value c.remove-operators.ensures.items in
+    pass_tells (words_of g.H.KeyHasher.hash_of k) k.task c.args.current c.args.run.now c.args.pipelines.now.items c.in-Some.source leg legs _ _ can.sound can.ready c.in-Some.is first (c.in_err-run_leg.ensures.err k.settings)))
+
+pub returns-in_default-park-clause-err : goal.returns-in_default-park-clause-err
+returns-in_default-park-clause-err g c = λ k can. tt

@@ -1,6 +1,8 @@
 use Rattle.std.proofs.Common.{subst}
 use Rattle.pipe_frame.specs.Rows.{Same}
 use Rattle.pipe_engine.specs.Known.{words_of, known_of}
+use Rattle.std.proofs.lemmas.Result.{IfErr-weaker}
+use Rattle.pipe_engine.proofs.Tellings.{plan_tells}
 use Rattle.pipe_engine.proofs.Entry.{if_ok, root_rows, stand_between, stand_open, sound_of}
 use Rattle.pipe_engine.proofs.Limits.{keeps_limit, on_ok}
 use Rattle.pipe_engine.proofs.plan_run.execute_branches.Goals as goal
@@ -46,8 +48,8 @@ returns-clause-last g c = c.execute_pipeline.ensures.last
 pub returns-clause-paced : goal.returns-clause-paced
 returns-clause-paced g c = c.execute_pipeline.ensures.paced
 
-pub returns-clause-schema : goal.returns-clause-schema
-returns-clause-schema g c =
+pub returns-clause-frame : goal.returns-clause-frame
+returns-clause-frame g c =
     if_ok c.execute_pipeline.result
     (λ frame has asked is. (
     let r = words_of g.H.KeyHasher.hash_of (known_of asked) in
@@ -56,7 +58,7 @@ returns-clause-schema g c =
       between = stand_between r asked.ask c.args.run c.args.pipelines.items is;
       root = stand_open r asked.ask c.args.run c.args.pipelines.items is;
     }))))
-    c.execute_pipeline.ensures.schema
+    c.execute_pipeline.ensures.frame
 
 pub returns-clause-within : goal.returns-clause-within
 returns-clause-within g c =
@@ -69,3 +71,15 @@ returns-clause-within g c =
       root = stand_open r asked.ask c.args.run c.args.pipelines.items is;
     }))))
     c.execute_pipeline.ensures.within
+
+pub returns-clause-err : goal.returns-clause-err
+returns-clause-err g c =
+    IfErr-weaker c.execute_pipeline.result _ _
+    (λ e has asked is. (
+    let r = words_of g.H.KeyHasher.hash_of (known_of asked) in
+    plan_tells asked.ask.plan asked.ask.root c.args.run.runner.context.row_limit e is.well (has (known_of asked) (record {
+      sound = sound_of r asked.ask c.args.run c.args.pipelines.items is;
+      between = stand_between r asked.ask c.args.run c.args.pipelines.items is;
+      root = stand_open r asked.ask c.args.run c.args.pipelines.items is;
+    }))))
+    c.execute_pipeline.ensures.err

@@ -11,6 +11,8 @@ use Rattle.pipe_engine.specs.Known.{words_of}
 use Rattle.pipe_driver.specs.declared.pipe_line.PipeLine.{PipeLine}
 use Rattle.pipe_driver.specs.Runs.{Between, IsAnswer}
 use Rattle.pipe_driver.proofs.Fronts.{answer_newer}
+use Rattle.pipe_engine.proofs.Breaking.{err_same}
+use Rattle.pipe_engine.proofs.Tellings.{limit_as}
 use Rattle.pipe_engine.proofs.Asked.{answers, asked-ok, asked-answers, asked-answered, asked-risen, asked-then, asked_passed_then, rises}
 use Rattle.pipe_engine.proofs.Driven.{answer_there, fewer_left}
 use Rattle.pipe_engine.proofs.Limits.{runs_within}
@@ -69,7 +71,7 @@ fronts-preserved g c =
           let on = c.fronts.invariant.on k can in
           let B : List (PipeLine PhysSource (Part g.row.H.Denot)) → Type 0 = Between (words_of g.H.KeyHasher.hash_of k) k.task c.fronts.run in
           let A : Option Table → Type 0 = λ answer. IsRootAnswer answer k in
-          subst A (sym c.newer-answer.ensures) (newer_schema k c.fronts.answer c.in_ok-more.more (c.fronts.invariant.schema k can) (c.in_ok-more.ensures.schema k (record { sound = on.sound; between = subst B first on.between }))));
+          subst A (sym c.newer-answer.ensures) (newer_schema k c.fronts.answer c.in_ok-more.more (c.fronts.invariant.schema k can) (c.in_ok-more.ensures.frame k (record { sound = on.sound; between = subst B first on.between }))));
       asked = asked-answers g.C.StopCheck _ _ _ _ _ (asked-then g.C.StopCheck (answers c.fronts.answer) 1 1 _ _ _ _ _ (omega arith) c.fronts.invariant.asked (asked-risen g.C.StopCheck _ _ c.in_ok-more.more c.in_ok-more.ensures.asked c.in_ok-more.ensures.yes));
       context = c.run_pipeline.ensures.context ∙ c.fronts.invariant.context;
       paced = paced-then most _ _ _ _ _ _ (subst Q first c.fronts.invariant.paced) (subst P c.fronts.invariant.context c.in_ok-more.ensures.paced);
@@ -121,11 +123,17 @@ returns-clause-paced g c = (
     let Q : List (PipeLine PhysSource (Part g.row.H.Denot)) → Type 0 = λ ps. TakesPaced most (rows_due_of c.args.pipelines.items) (rows_due_of ps) (g.C.StopCheck.asked c.args.stop.now) (g.C.StopCheck.asked c.fronts.stop) in
     subst Q (nil_from_length c.fronts.left.items (omega (arith, c.in_default.ensures.cases.0))) c.fronts.invariant.paced)
 
-pub returns-clause-schema : goal.returns-clause-schema
-returns-clause-schema g c = λ k can. (
+pub returns-clause-frame : goal.returns-clause-frame
+returns-clause-frame g c = λ k can. (
     let A : Option Table → Type 0 = λ answer. IsRootAnswer answer k in
     subst A c.in-Some-answer.is (c.fronts.invariant.schema k can))
 
 pub returns-clause-within : goal.returns-clause-within
 returns-clause-within g c = λ k can.
     runs_within g.H.KeyHasher.hash_of k c.fronts.run c.fronts.left.items c.args.run.runner.context (c.fronts.invariant.on k can).between (nil_from_length c.fronts.left.items (omega (arith, c.in_default.ensures.cases.0))) c.fronts.invariant.parked c.fronts.invariant.context
+
+pub returns-in_err-more-clause-err : goal.returns-in_err-more-clause-err
+returns-in_err-more-clause-err g c = err_same _ _ _ c.from_residual.ensures.1 (λ k can. (
+    let on = c.fronts.invariant.on k can in
+    let B : List (PipeLine PhysSource (Part g.row.H.Denot)) → Type 0 = Between (words_of g.H.KeyHasher.hash_of k) k.task c.fronts.run in
+    limit_as k.task.m _ _ _ c.fronts.invariant.context (c.in_err-more.ensures.err k (record { sound = on.sound; between = subst B c.in-Some.ensures.items on.between }))))

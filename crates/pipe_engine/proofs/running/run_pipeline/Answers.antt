@@ -13,6 +13,8 @@ use Rattle.pipe_driver.specs.Runs.{IsAnswer}
 use Rattle.pipe_driver.proofs.Fronts.{answer_newer}
 use Rattle.pipe_driver.proofs.FrontSteps.{starts_by, ends_by, goes_by, open_later}
 use Rattle.pipe_engine.specs.Drives.{CanGo, IsRootAnswer}
+use Rattle.pipe_engine.proofs.Breaking.{err_same}
+use Rattle.pipe_engine.proofs.Tellings.{limit_as}
 use Rattle.pipe_engine.proofs.Asked.{asked-ok, asked-made, asked-then, asked_passed_then, rises}
 use Rattle.pipe_engine.proofs.Paces.{paced-first, paced-none, paced-then}
 use Rattle.pipe_engine.proofs.Schemas.{newer_schema}
@@ -84,7 +86,7 @@ branches-preserved g c =
       schema = λ k can. (
           let on = c.branches.invariant.on k can in
           let A : Option Table → Type 0 = λ answer. IsRootAnswer answer k in
-          subst A (sym c.newer-answer.ensures) (newer_schema k c.branches.answer c.in_ok-more.more (c.branches.invariant.schema k can) (c.in_ok-more.ensures.schema k (record { sound = can.sound; ready = on.on.ready }))));
+          subst A (sym c.newer-answer.ensures) (newer_schema k c.branches.answer c.in_ok-more.more (c.branches.invariant.schema k can) (c.in_ok-more.ensures.frame k (record { sound = can.sound; ready = on.on.ready }))));
       asked = asked-made g.C.StopCheck 1 0 _ _ _ _ (omega arith) (asked-then g.C.StopCheck 0 1 1 _ _ _ _ _ (omega arith) c.branches.invariant.asked c.in_ok-more.ensures.asked);
       context = c.run_way.ensures.context ∙ c.branches.invariant.context;
       paced = subst Q c.in-Some.ensures.items paced;
@@ -124,8 +126,11 @@ returns-in_err-more-clause-context g c = c.run_way.ensures.context ∙ c.branche
 pub returns-then-are_closed-clause-context : goal.returns-then-are_closed-clause-context
 returns-then-are_closed-clause-context g c = c.run_way.ensures.context ∙ c.branches.invariant.context
 
-pub returns-then-are_closed-clause-schema : goal.returns-then-are_closed-clause-schema
-returns-then-are_closed-clause-schema g c = λ k can. (
+pub returns-then-are_closed-clause-frame : goal.returns-then-are_closed-clause-frame
+returns-then-are_closed-clause-frame g c = λ k can. (
     let on = c.branches.invariant.on k can in
     let A : Option Table → Type 0 = λ answer. IsRootAnswer answer k in
-    subst A (sym c.newer-answer.ensures) (newer_schema k c.branches.answer c.in_ok-more.more (c.branches.invariant.schema k can) (c.in_ok-more.ensures.schema k (record { sound = can.sound; ready = on.on.ready }))))
+    subst A (sym c.newer-answer.ensures) (newer_schema k c.branches.answer c.in_ok-more.more (c.branches.invariant.schema k can) (c.in_ok-more.ensures.frame k (record { sound = can.sound; ready = on.on.ready }))))
+
+pub returns-in_err-more-clause-err : goal.returns-in_err-more-clause-err
+returns-in_err-more-clause-err g c = err_same _ _ _ c.from_residual.ensures.1 (λ k can. limit_as k.task.m _ _ _ c.branches.invariant.context (c.in_err-more.ensures.err k (record { sound = can.sound; ready = (c.branches.invariant.on k can).on.ready })))

@@ -8,6 +8,8 @@ use Rattle.pipe_engine.specs.Known.{words_of}
 use Rattle.pipe_driver.specs.Runs.{IsNext, sink_of}
 use Rattle.pipe_driver.specs.declared.run.Next.{Next}
 use Rattle.pipe_driver.proofs.FrontSteps.{fed_none, fed_leg, fed_goes, fed_stays, stopped_open, went_on}
+use Rattle.pipe_engine.proofs.Breaking.{err_same}
+use Rattle.pipe_engine.proofs.Tellings.{limit_as, not_many}
 use Rattle.pipe_engine.proofs.Asked.{asked-ok, asked-made, asked-then, asked-lost, asked_lost, asked_passed_then}
 use Rattle.pipe_engine.proofs.Paces.{paced-more, paced-none, paced-then}
 use Rattle.pipe_engine.proofs.running.run_way.Goals as goal
@@ -186,15 +188,24 @@ returns-in-Stay-clause-context g c = c.close.ensures.context ∙ c.feed.ensures.
 pub returns-in-Answer-clause-context : goal.returns-in-Answer-clause-context
 returns-in-Answer-clause-context g c = c.close.ensures.context ∙ c.feed.ensures.context ∙ c.ways.invariant.context
 
-pub returns-then-done-gt0-clause-schema : goal.returns-then-done-gt0-clause-schema
-returns-then-done-gt0-clause-schema g c = λ k can. tt
+pub returns-then-done-gt0-clause-frame : goal.returns-then-done-gt0-clause-frame
+returns-then-done-gt0-clause-frame g c = λ k can. tt
 
-pub returns-in-Stay-clause-schema : goal.returns-in-Stay-clause-schema
-returns-in-Stay-clause-schema g c = λ k can. tt
+pub returns-in-Stay-clause-frame : goal.returns-in-Stay-clause-frame
+returns-in-Stay-clause-frame g c = λ k can. tt
 
-pub returns-in-Answer-clause-schema : goal.returns-in-Answer-clause-schema
-returns-in-Answer-clause-schema g c = λ k can. (
+pub returns-in-Answer-clause-frame : goal.returns-in-Answer-clause-frame
+returns-in-Answer-clause-frame g c = λ k can. (
     let on = c.ways.invariant.on k can in
     let ran = c.in_ok-done.ensures.ran k (record { sound = can.sound; ready = on.ready }) in
     let N : Next PhysSource (Part g.row.H.Denot) → Type 0 = λ next. IsRootNext next k in
-    subst N c.in-Answer.is (c.in_ok-next.ensures.schema k (record { sound = can.sound; feeds = ran.feeds; at = ran.at; number = ran.number })))
+    subst N c.in-Answer.is (c.in_ok-next.ensures.frame k (record { sound = can.sound; feeds = ran.feeds; at = ran.at; number = ran.number })))
+
+pub returns-in_err-done-clause-err : goal.returns-in_err-done-clause-err
+returns-in_err-done-clause-err g c = err_same _ _ _ c.from_residual.ensures.1 (λ k can. limit_as k.task.m _ _ _ c.ways.invariant.context (c.in_err-done.ensures.err k (record { sound = can.sound; ready = (c.ways.invariant.on k can).ready })))
+
+pub returns-in_default-clause-err : goal.returns-in_default-clause-err
+returns-in_default-clause-err g c = λ k can. tt
+
+pub returns-in_err-next-clause-err : goal.returns-in_err-next-clause-err
+returns-in_err-next-clause-err g c = err_same _ _ _ c.from_residual-in_err-next.ensures.1 (λ k can. not_many k.task.m _ _ c.in_err-next.ensures.err)

@@ -1,13 +1,17 @@
-use Rattle.std.proofs.Common.{sym, subst, ◌∙◌}
+use Rattle.std.proofs.Common.{refl, sym, subst, ◌∙◌}
+use Rattle.std.specs.Prelude.{IfErr}
+use Rattle.std.proofs.lemmas.Result.{IfErr-weaker}
 use Rattle.pipe_frame.specs.Frame.{Table}
 use Rattle.pipe_ops.specs.declared.context.PExecutionContext.{PExecutionContext}
 use Rattle.pipe_create.specs.Nodes.{plan_in}
-use Rattle.pipe_driver.specs.Within.{AllWithin}
+use Rattle.pipe_driver.specs.Within.{AllWithin, EndsWith}
 use Rattle.pipe_engine.proofs.Asked.{asked-memory}
 use Rattle.pipe_engine.proofs.Entry.{if_ok}
 use Rattle.pipe_engine.proofs.Limits.{on_ok}
 use Rattle.pipe_lines.specs.Standing.{ask_in}
+use Rattle.pipe_lines.proofs.Complete.{only_memory_of}
 use Rattle.pipe_lines.proofs.Due.{due_enough, paced_as}
+use Rattle.pipe_lines.proofs.RootOrder.{order_is}
 use Rattle.pipe_lines.proofs.RootSink.{same_schema}
 use Rattle.pipe_lines.proofs.run.run_branches.Goals as goal
 
@@ -49,8 +53,15 @@ pub returns-in-Ok-clause-schema : goal.returns-in-Ok-clause-schema
 returns-in-Ok-clause-schema g c =
     let stand = c.in-Ok.ensures.stand in
     if_ok c.execute_branches.result
-    (λ frame has. same_schema {H = g.row.H.Denot} _ _ (sym (has (record { ask = ask_in c.args.plan.now; settings = stand.settings }) stand.stand) ∙ stand.root))
-    c.execute_branches.ensures.schema
+    (λ frame has. same_schema {H = g.row.H.Denot} _ _ (sym (has (record { ask = ask_in c.args.plan.now; settings = stand.settings }) stand.stand).schema ∙ stand.root))
+    c.execute_branches.ensures.frame
+
+pub returns-in-Ok-clause-in_order : goal.returns-in-Ok-clause-in_order
+returns-in-Ok-clause-in_order g c = λ sort. (
+    let stand = c.in-Ok.ensures.stand in
+    if_ok c.execute_branches.result
+    (λ frame has. order_is c.args.plan.now stand.settings.order frame.rows stand.order sort (has (record { ask = ask_in c.args.plan.now; settings = stand.settings }) stand.stand).order)
+    c.execute_branches.ensures.frame)
 
 pub returns-in-Ok-clause-within : goal.returns-in-Ok-clause-within
 returns-in-Ok-clause-within g c =
@@ -59,3 +70,24 @@ returns-in-Ok-clause-within g c =
     on_ok c.execute_branches.result
     (λ has. subst L c.in-Ok.ensures.context (has (record { ask = ask_in c.args.plan.now; settings = stand.settings }) stand.stand))
     c.execute_branches.ensures.within
+
+pub returns-in-Ok-clause-err : goal.returns-in-Ok-clause-err
+returns-in-Ok-clause-err g c =
+    let stand = c.in-Ok.ensures.stand in
+    IfErr-weaker c.execute_branches.result _ _
+    (λ e has. (let L : PExecutionContext → Type 0 = λ z. EndsWith z.row_limit (plan_in c.args.plan.now) c.args.plan.now.root e in
+    subst L c.in-Ok.ensures.context (has (record { ask = ask_in c.args.plan.now; settings = stand.settings }) stand.stand)))
+    c.execute_branches.ensures.err
+
+pub returns-in-Ok-clause-complete : goal.returns-in-Ok-clause-complete
+returns-in-Ok-clause-complete g c = λ within stays.
+    let stand = c.in-Ok.ensures.stand in
+    let root = c.args.plan.now.root in
+    let ends : IfErr c.execute_branches.result (EndsWith c.args.context.row_limit (plan_in c.args.plan.now) root) = IfErr-weaker c.execute_branches.result _ _
+    (λ e has. (let L : PExecutionContext → Type 0 = λ z. EndsWith z.row_limit (plan_in c.args.plan.now) root e in
+    subst L c.in-Ok.ensures.context (has (record { ask = ask_in c.args.plan.now; settings = stand.settings }) stand.stand)))
+    c.execute_branches.ensures.err in
+    only_memory_of (plan_in c.args.plan.now) root c.args.context.row_limit _ _ c.execute_branches.result ends c.execute_branches.ensures.yes within stays
+
+pub returns-in-Err-clause-complete : goal.returns-in-Err-clause-complete
+returns-in-Err-clause-complete g c = λ within stays. refl
