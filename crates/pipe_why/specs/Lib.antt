@@ -1,0 +1,2 @@
+-- how the text of a fault begins
+pub mod Heads

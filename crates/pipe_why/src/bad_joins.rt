@@ -1,6 +1,6 @@
 //! What is told of a join with bad keys.
 
-use crate::node_words::push_node;
+use crate::node_words::push_kind;
 use pipe_expr::{Expr, JoinType};
 use pipe_fields::plain_names;
 use pipe_frame::first_repeated;
@@ -114,8 +114,7 @@ pub(crate) fn push_bad_join(
     arena: &Arena,
     n: u32,
 ) -> Result<(), AllocError> {
-    out.push_str("BadJoin at ")?;
-    push_node(out, arena, n)?;
+    push_kind(out, arena, n)?;
     match arena.nodes.as_slice().get(n as usize) {
         Some(
             IR::Join {

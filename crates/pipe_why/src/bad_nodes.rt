@@ -1,6 +1,6 @@
 //! What is told of a bad node: an input that can't be read, or a node without what it needs.
 
-use crate::node_words::{numbers_read, push_node, under};
+use crate::node_words::{numbers_read, push_kind, push_node, under};
 use pipe_expr::FunctionIR;
 use pipe_plan::{Arena, IR};
 use pipe_why_text::push_count;
@@ -18,9 +18,8 @@ fn push_numbered(out: &mut String, count: usize, word: &str) -> Result<(), Alloc
 
 /// Appends that a root isn't there.
 fn push_no_root(out: &mut String, arena: &Arena, root: u32) -> Result<(), AllocError> {
-    write!(
-        out,
-        "BadNode: root is {root}, and there is no such node\nexpected: root: the number of a node: the plan has "
+    out.push_str(
+        ", the root: there is no such node\nexpected: root: the number of a node: the plan has ",
     )?;
     push_numbered(out, arena.nodes.len(), "node")?;
     write!(out, "\nfound: {root}\n")
@@ -183,8 +182,7 @@ pub(crate) fn push_bad_node(
     let Some(node) = arena.nodes.as_slice().get(n as usize) else {
         return push_no_root(out, arena, n);
     };
-    out.push_str("BadNode at ")?;
-    push_node(out, arena, n)?;
+    push_kind(out, arena, n)?;
     if push_inputs(alloc, out, arena, root, n, node)? {
         return Ok(());
     }

@@ -1,6 +1,6 @@
 //! What is told of a bad sort.
 
-use crate::node_words::push_node;
+use crate::node_words::push_kind;
 use pipe_frame::{Text, first_repeated};
 use pipe_plan::{Arena, IR, SortOptions};
 use pipe_why_text::{push_count, push_name};
@@ -66,8 +66,7 @@ pub(crate) fn push_bad_sort(
     arena: &Arena,
     n: u32,
 ) -> Result<(), AllocError> {
-    out.push_str("BadSort at ")?;
-    push_node(out, arena, n)?;
+    push_kind(out, arena, n)?;
     match arena.nodes.as_slice().get(n as usize) {
         Some(
             IR::Sort {

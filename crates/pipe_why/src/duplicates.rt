@@ -1,7 +1,7 @@
 //! What is told of a name that would stand twice.
 
 use crate::inputs::{columns_of, schema_of};
-use crate::node_words::push_node;
+use crate::node_words::{push_kind, push_node};
 use pipe_expr::{FunctionIR, NamedExpr, RenamePair};
 use pipe_frame::Text;
 use pipe_plan::{Arena, IR};
@@ -205,8 +205,7 @@ pub(crate) fn push_duplicate(
     n: u32,
     name: &Text,
 ) -> Result<(), AllocError> {
-    out.push_str("DuplicateName at ")?;
-    push_node(out, arena, n)?;
+    push_kind(out, arena, n)?;
     match arena.nodes.as_slice().get(n as usize) {
         Some(node) => push_at(alloc, out, arena, node, name),
         None => out.push_str("\n"),

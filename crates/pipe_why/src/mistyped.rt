@@ -2,7 +2,7 @@
 
 use crate::formulas::{push_untyped, type_or_none};
 use crate::inputs::{columns_of, schema_of, schemas_below};
-use crate::node_words::push_node;
+use crate::node_words::push_kind;
 use pipe_expr::{Expr, FunctionIR, NamedExpr};
 use pipe_fields::{Columns, are_same_types, column_type, columns_of as columns_at, expr_type};
 use pipe_frame::{Field, Text};
@@ -256,8 +256,7 @@ pub(crate) fn push_mistyped(
     arena: &Arena,
     n: u32,
 ) -> Result<(), AllocError> {
-    out.push_str("TypeMismatch at ")?;
-    push_node(out, arena, n)?;
+    push_kind(out, arena, n)?;
     match arena.nodes.as_slice().get(n as usize) {
         Some(node) => push_at(alloc, out, arena, n, node),
         None => out.push_str("\n"),

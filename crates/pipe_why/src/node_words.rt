@@ -47,13 +47,18 @@ pub(crate) fn kind_word(node: &IR) -> &'static str {
     }
 }
 
-/// Appends a node's number and kind.
-pub(crate) fn push_node(out: &mut String, arena: &Arena, n: u32) -> Result<(), AllocError> {
-    write!(out, "node {n}")?;
+/// Appends a node's kind.
+pub(crate) fn push_kind(out: &mut String, arena: &Arena, n: u32) -> Result<(), AllocError> {
     match arena.nodes.as_slice().get(n as usize) {
         Some(node) => write!(out, ", a {}", kind_word(node)),
         None => Ok(()),
     }
+}
+
+/// Appends a node's number and kind.
+pub(crate) fn push_node(out: &mut String, arena: &Arena, n: u32) -> Result<(), AllocError> {
+    write!(out, "node {n}")?;
+    push_kind(out, arena, n)
 }
 
 /// The numbers of the nodes that a node reads.

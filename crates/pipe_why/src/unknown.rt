@@ -1,7 +1,7 @@
 //! What is told of a column that isn't there.
 
 use crate::inputs::schema_of;
-use crate::node_words::{numbers_read, push_node};
+use crate::node_words::{numbers_read, push_kind, push_node};
 use pipe_expr::Expr;
 use pipe_frame::{Field, Schema, Text};
 use pipe_plan::{Arena, IR};
@@ -174,8 +174,7 @@ pub(crate) fn push_unknown(
     n: u32,
     name: &Text,
 ) -> Result<(), AllocError> {
-    out.push_str("UnknownColumn at ")?;
-    push_node(out, arena, n)?;
+    push_kind(out, arena, n)?;
     match arena.nodes.as_slice().get(n as usize) {
         Some(IR::DataFrameScan { frame, columns: _ }) => {
             push_scan(alloc, out, arena, *frame, name)

@@ -30,7 +30,7 @@ fn push_other(
 /// What is told of the value of a text that should be a job and spells none.
 fn job_text(alloc: Global, bytes: &[u8], value: &Value) -> Result<String, AllocError>
     ensures { IfOk result (λ text.
-        (SpellsJob (view value.now) → ⊥) → TellsNoJob (view value.now) text) }
+        (SpellsJob (view value.now) → ⊥) → TellsNoJob (view value.now) bytes.now text) }
 {
     let mut out = String::new(alloc);
     out.push_str("not a job: ")?;
@@ -58,7 +58,7 @@ fn edits_text(alloc: Global, bytes: &[u8], value: &Value) -> Result<String, Allo
 /// another command reads, that place or its fault there, or what that command will do.
 pub fn misfit_text(alloc: Global, bytes: &[u8], value: &Value) -> Result<String, AllocError>
     ensures { IfOk result (λ text. kind_of (view value.now) ≡ InputKind.Job
-        → (SpellsJob (view value.now) → ⊥) → TellsNoJob (view value.now) text) }
+        → (SpellsJob (view value.now) → ⊥) → TellsNoJob (view value.now) bytes.now text) }
 {
     match InputKind::of(value) {
         InputKind::Job => job_text(alloc, bytes, value),

@@ -1,11 +1,11 @@
 //! What is told of bytes that are no JSON text: where reading stops, what might have stood there, and what does. Where
-//! the parts of a value stand in its text. And the parts of sentences that are told of jobs.
+//! a part of a value stands in its text. And the parts of sentences that are told of jobs.
 #![tactic(auto)]
 
 mod bad_text;
-mod layout;
 mod literals;
 mod near;
+mod offset;
 mod place;
 mod reading_stop;
 mod steps;
@@ -13,9 +13,9 @@ mod string_stop;
 mod words;
 
 pub use bad_text::bad_json;
-pub use layout::{Layout, Placed, layout_of, offset_of};
 pub use literals::Literal;
 pub use near::{distance, is_near, nearest};
+pub use offset::offset_of;
 pub use place::push_place;
 pub use steps::{Step, copies, push_steps};
 pub use words::{

@@ -2,3 +2,5 @@
 pub mod Looks
 -- the names of columns
 pub mod Names
+-- members in the order of a text
+pub mod Orders

@@ -1,17 +1,19 @@
 -- Parts of a walk one after another, and one inside another.
 use Rattle.std.proofs.Common.{◌≡◌, ◌⊎◌, inl, inr, ap₂, ◌<◌, ◌+◌, ℕ, zero, suc, List, [], ◌∷◌, ◌++◌, ◌-◌, length, take, Option, Some, None, Result, Ok, Err, refl, sym, ap, ◌∙◌, subst, arith, true, true≢false, rules, BTreeMap, get_or}
 use Rattle.std.proofs.lemmas.List.{append_assoc, length-append, take_at}
-use Rattle.std.specs.Prelude.{option_and_then, option_map, is_some, IfSome, IsSome, OnOk, slice_index_or, String, Bool, false}
+use Rattle.std.specs.Prelude.{◌&&◌, option_and_then, option_map, is_some, IfSome, IsSome, OnOk, slice_index_or, String, Bool, false}
 use Rattle.std.specs.Borrow.{Bor}
 use Rattle.std.specs.Option.{option_or}
 use Rattle.std.specs.declared.alloc.Global.{Global}
 use Rattle.serde_json.specs.Data.{Data, null, boolean, number, string, array, object, Items, no_items, item}
-use Rattle.serde_json.specs.Find.{as_str, at, get, get_item}
+use Rattle.json.specs.Json.{Json}
+use Rattle.serde_json.specs.Find.{as_array, as_str, at, get, get_item}
+use Rattle.serde_json.specs.View.{items_of}
 use Rattle.pipe_value.specs.View.{members_view, view}
 use Rattle.pipe_value.specs.declared.value.Value.{Object, Value, the_lemmas}
-use Rattle.pipe_value.specs.Items.{elements, list_of, nullable_text}
+use Rattle.pipe_value.specs.Items.{IsArrayOf, elements, list_of, nullable_text}
 use Rattle.pipe_frame.specs.declared.data_type.DataType.{DataType}
-use Rattle.pipe_job.specs.Shape.{is_cell, is_maybe, is_single, is_text, text_in}
+use Rattle.pipe_job.specs.Shape.{all_items, is_cell, is_list, is_maybe, is_single, is_text, text_in}
 use Rattle.pipe_why_text.specs.declared.steps.Step.{Step}
 use Rattle.pipe_why_text.specs.declared.steps.Step.TheVariants as step
 use Rattle.pipe_why_wants.specs.Members.{HasMember, beside, couple_at, couple_items, edit_part, item_wanted, list_item, member_wanted, members_in, members_of, plain, type_of, want_in}
@@ -19,7 +21,8 @@ use Rattle.pipe_why_wants.specs.Wanted.{is_wanted}
 use Rattle.pipe_why_wants.specs.declared.want.Foreign.TheVariants as foreign
 use Rattle.pipe_why_wants.specs.declared.want.Want.{Want}
 use Rattle.pipe_why_wants.specs.declared.want.Want.TheVariants as want
-use Rattle.pipe_why_value.specs.Places.{AreGoodBefore, IsBadCell, IsFirstOfItems, IsGoodItem, IsOwn, IsTold, IsWrong, PassGoodItems, Passes, both, without_two, last_name, part, part_at, wanted_at, wanted_part}
+use Rattle.pipe_why_value.specs.Order.{tree_part}
+use Rattle.pipe_why_value.specs.Places.{AreGoodBefore, IsBadCell, IsFirst, IsGoodItem, IsGoodPart, IsOwn, IsTold, IsWrong, PassGoodParts, Passes, Place, both, without_two, last_name, part, part_at, wanted, wanted_at, wanted_part}
 use Rattle.pipe_why_value.specs.Walks.{AreCellsBefore, IsFirstBad, Looked, Within, Noted, Entered, Left}
 use Rattle.pipe_why_value.specs.declared.walk.Walk.{Walk}
 use Rattle.pipe_why_value.specs.declared.wrong.Misfit.{Misfit}
@@ -49,103 +52,129 @@ one_further [] s root d e h k =
 one_further (t ∷ steps) s root d e h k =
     further (part_at steps) (part_at (steps ++ s ∷ [])) (part t root) d e (λ x at_x. one_further steps s x d e at_x k) h
 
-abbrev value_of : Option (Want × Data) → Option Data
-value_of o = option_map (λ (p : Want × Data). p.1) o
+abbrev value_of : Option Place → Option Data
+value_of o = option_map (λ (p : Place). p.1) o
 
-pub wanted_further : (steps : List Step) (s : Step) (root p q : Want × Data) → wanted_at steps root ≡ Some p → wanted_part s p ≡ Some q → wanted_at (steps ++ s ∷ []) root ≡ Some q
+pub wanted_further : (steps : List Step) (s : Step) (root p q : Place) → wanted_at steps root ≡ Some p → wanted_part s p ≡ Some q → wanted_at (steps ++ s ∷ []) root ≡ Some q
 wanted_further [] s root p q h k =
     let same : root ≡ p = cc in
-    ap (λ (o : Option (Want × Data)). option_and_then (wanted_at []) o) (ap (wanted_part s) same ∙ k)
+    ap (λ (o : Option Place). option_and_then (wanted_at []) o) (ap (wanted_part s) same ∙ k)
 wanted_further (t ∷ steps) s root p q h k =
     further (wanted_at steps) (wanted_at (steps ++ s ∷ [])) (wanted_part t root) p q (λ x at_x. wanted_further steps s x p q at_x k) h
 
 -- where something may stand, something does
-both_second : (a : Option Want) (b : Option Data) (q : Want × Data) → both a b ≡ Some q → b ≡ Some q.1
-both_second None b q h = cc
-both_second (Some a) None q h = cc
-both_second (Some a) (Some b) q h = ap value_of h
+pub both_second : (a : Option Want) (b : Option Data) (t : Json) (q : Place) → both a b t ≡ Some q → b ≡ Some q.1
+both_second None b t q h = cc
+both_second (Some a) None t q h = cc
+both_second (Some a) (Some b) t q h = ap value_of h
 
-along : (steps : List Step) (p : Want × Data) (o : Option (Want × Data)) (e : Option Data)
-    → ((q : Want × Data) → wanted_at steps q ≡ Some p → part_at steps q.1 ≡ Some p.1)
-    → ((q : Want × Data) → o ≡ Some q → e ≡ Some q.1)
+along : (steps : List Step) (p : Place) (o : Option Place) (e : Option Data)
+    → ((q : Place) → wanted_at steps q ≡ Some p → part_at steps q.1 ≡ Some p.1)
+    → ((q : Place) → o ≡ Some q → e ≡ Some q.1)
     → option_and_then (wanted_at steps) o ≡ Some p → option_and_then (part_at steps) e ≡ Some p.1
 along steps p None e more one h = cc
 along steps p (Some q) e more one h = ap (option_and_then (part_at steps)) (one q refl) ∙ more q h
 
-pub part_of_wanted : (steps : List Step) (root p : Want × Data) → wanted_at steps root ≡ Some p → part_at steps root.1 ≡ Some p.1
+pub part_of_wanted : (steps : List Step) (root p : Place) → wanted_at steps root ≡ Some p → part_at steps root.1 ≡ Some p.1
 part_of_wanted [] root p h = ap value_of h
 part_of_wanted (s ∷ steps) root p h =
-    along steps p (wanted_part s root) (part s root.1) (λ q at_q. part_of_wanted steps q p at_q) (λ q at_q. both_second _ (part s root.1) q at_q) h
+    along steps p (wanted_part s root) (part s root.1) (λ q at_q. part_of_wanted steps q p at_q) (λ q at_q. both_second _ (part s root.1) _ q at_q) h
 
--- ---- items that were passed
+-- ---- parts that were passed
 
-pub passed_further : (steps : List Step) (s : Step) (root p : Want × Data) → wanted_at steps root ≡ Some p → PassGoodItems steps root → Passes s p → PassGoodItems (steps ++ s ∷ []) root
+pub passed_further : (steps : List Step) (s : Step) (root p : Place) → wanted_at steps root ≡ Some p → PassGoodParts steps root → Passes s p → PassGoodParts (steps ++ s ∷ []) root
 passed_further [] s root p h good passes =
     let same : root ≡ p = cc in
     (subst (Passes s) (sym same) passes, λ q there. tt)
 passed_further (t ∷ steps) s root p h good passes =
     (good.0, λ q there. passed_further steps s q p (ap (option_and_then (wanted_at steps)) (sym there) ∙ h) (good.1 q there) passes)
 
-passed_front : (n : ℕ) (steps : List Step) (root : Want × Data) → PassGoodItems steps root → PassGoodItems (take n steps) root
+passed_front : (n : ℕ) (steps : List Step) (root : Place) → PassGoodParts steps root → PassGoodParts (take n steps) root
 passed_front zero steps root h = tt
 passed_front (suc n) [] root h = tt
 passed_front (suc n) (s ∷ steps) root h = (h.0, λ q there. passed_front n steps q (h.1 q there))
 
-pub passed_above : (above : List Step) (s t : Step) (root : Want × Data) → PassGoodItems above root → PassGoodItems (without_two (above ++ s ∷ t ∷ [])) root
+pub passed_above : (above : List Step) (s t : Step) (root : Place) → PassGoodParts above root → PassGoodParts (without_two (above ++ s ∷ t ∷ [])) root
 passed_above above s t root h =
     let count : length above ≡ length (above ++ s ∷ t ∷ []) - 2 = omega (arith, length-append above (s ∷ t ∷ [])) in
-    subst (λ l. PassGoodItems l root) (sym (take_at above (s ∷ t ∷ []) (length (above ++ s ∷ t ∷ []) - 2) count)) h
+    subst (λ l. PassGoodParts l root) (sym (take_at above (s ∷ t ∷ []) (length (above ++ s ∷ t ∷ []) - 2) count)) h
 
--- what is told then is in the first item that is wrong
-pub first_of_items : (wrong : Wrong) (steps : List Step) (root : Want × Data) → PassGoodItems steps root → IsFirstOfItems root wrong steps
-first_of_items (wrong.Other w) steps root h = h
-first_of_items (wrong.Missing name w) steps root h = h
-first_of_items (wrong.Unknown known) steps root h = h
-first_of_items wrong.UnknownForm steps root h = h
-first_of_items (wrong.Members count) steps root h = h
-first_of_items (wrong.Cell t column count) steps root h = h
-first_of_items wrong.Wide steps root h = h
-first_of_items wrong.NoColumns steps root h = h
-first_of_items (wrong.SecondName earlier) steps root h = passed_front (length steps - 2) steps root h
-first_of_items (wrong.Height cells wanted) steps root h = passed_front (length steps - 2) steps root h
-first_of_items (wrong.Frames count) steps root h = h
-first_of_items (wrong.Parts count) steps root h = h
-first_of_items (wrong.Width cells columns) steps root h = h
+-- what is told then is in the first part that is wrong
+pub is_first : (wrong : Wrong) (steps : List Step) (root : Place) → PassGoodParts steps root → IsFirst root wrong steps
+is_first (wrong.Other w) steps root h = h
+is_first (wrong.Missing name w) steps root h = h
+is_first (wrong.Unknown known) steps root h = h
+is_first wrong.UnknownForm steps root h = h
+is_first (wrong.Members count) steps root h = h
+is_first (wrong.Cell t column count) steps root h = h
+is_first wrong.Wide steps root h = h
+is_first wrong.NoColumns steps root h = h
+is_first (wrong.SecondName earlier) steps root h = passed_front (length steps - 2) steps root h
+is_first (wrong.Height cells wanted) steps root h = passed_front (length steps - 2) steps root h
+is_first (wrong.Frames count) steps root h = h
+is_first (wrong.Parts count) steps root h = h
+is_first (wrong.Width cells columns) steps root h = h
 
 -- nothing was told before
 pub was_untold : (old new : Option Misfit) → ((m : Misfit) → old ≡ Some m → new ≡ Some m) → new ≡ None → old ≡ None
 was_untold None new kept none = refl
 was_untold (Some m) new kept none = absurd (clash m (sym none ∙ kept m refl))
 
-pub none_before : (p : Want × Data) → AreGoodBefore p 0
+pub none_before : (p : Place) → AreGoodBefore p 0
 none_before p j h = absurd (omega (arith, h))
 
-at_last : (p : Want × Data) (i j : ℕ) → AreGoodBefore p i → IsGoodItem p i → (j < i) ⊎ (j ≡ i) → IsGoodItem p j
+at_last : (p : Place) (i j : ℕ) → AreGoodBefore p i → IsGoodItem p i → (j < i) ⊎ (j ≡ i) → IsGoodItem p j
 at_last p i j before here (inl below) = before j below
 at_last p i j before here (inr same) = subst (IsGoodItem p) (sym same) here
 
-pub one_more_good : (p : Want × Data) (i : ℕ) → AreGoodBefore p i → IsGoodItem p i → AreGoodBefore p (i + 1)
+pub one_more_good : (p : Place) (i : ℕ) → AreGoodBefore p i → IsGoodItem p i → AreGoodBefore p (i + 1)
 one_more_good p i before here j h = at_last p i j before here (last_or_below j i h)
 
 -- what may stand where something does is all that may
-pub good_part : (s : Step) (p q : Want × Data) → wanted_part s p ≡ Some q → is_wanted q.0 q.1 ≡ true
-    → (r : Want × Data) → wanted_part s p ≡ Some r → is_wanted r.0 r.1 ≡ true
+pub good_part : (s : Step) (p q : Place) → wanted_part s p ≡ Some q → is_wanted q.0 q.1 ≡ true
+    → (r : Place) → wanted_part s p ≡ Some r → is_wanted r.0 r.1 ≡ true
 good_part s p q there good r here =
     let same : Some r ≡ Some q = sym here ∙ there in
     let is : r ≡ q = cc in
-    ap (λ (t : Want × Data). is_wanted t.0 t.1) is ∙ good
+    ap (λ (t : Place). is_wanted t.0 t.1) is ∙ good
 
-pub wanted_member : (w v : Want) (d e : Data) (name : List ℕ) → member_wanted w d name ≡ Some v → get name d ≡ Some e → wanted_part (step.Member name) (w, d) ≡ Some (v, e)
-wanted_member w v d e name h k = ap₂ (λ (a : Option Want) (b : Option Data). both a b) h k
+at_tree : (a : Option Want) (b : Option Data) (w : Want) (d : Data) (t u : Json) → a ≡ Some w → b ≡ Some d → t ≡ u → both a b t ≡ Some (w, d, u)
+at_tree a b w d t u h k same = ap₂ (λ (x : Option Want) (y : Option Data). both x y t) h k ∙ ap (λ (s : Json). Some (w, d, s)) same
 
-pub wanted_item : (w v : Want) (d e : Data) (i : ℕ) → item_wanted w i ≡ Some v → at i d ≡ Some e → wanted_part (step.Item i) (w, d) ≡ Some (v, e)
-wanted_item w v d e i h k = ap₂ (λ (a : Option Want) (b : Option Data). both a b) h k
+pub wanted_member : (w v : Want) (d e : Data) (t u : Json) (name : List ℕ) → member_wanted w d name ≡ Some v → get name d ≡ Some e → tree_part (step.Member name) t ≡ u
+    → wanted_part (step.Member name) (w, d, t) ≡ Some (v, e, u)
+wanted_member w v d e t u name h k same = at_tree (member_wanted w d name) (get name d) v e (tree_part (step.Member name) t) u h k same
+
+pub wanted_item : (w v : Want) (d e : Data) (t u : Json) (i : ℕ) → item_wanted w i ≡ Some v → at i d ≡ Some e → tree_part (step.Item i) t ≡ u
+    → wanted_part (step.Item i) (w, d, t) ≡ Some (v, e, u)
+wanted_item w v d e t u i h k same = at_tree (item_wanted w i) (at i d) v e (tree_part (step.Item i) t) u h k same
 
 -- what a table says of a member is what may stand there
-pub wanted_by : (w v : Want) (d e : Data) (table : List (List ℕ × Want)) (name read : List ℕ) → table ≡ members_of w d → read ≡ name
-    → option_and_then (beside (type_of d)) (want_in table read) ≡ Some v → get name d ≡ Some e → wanted_part (step.Member name) (w, d) ≡ Some (v, e)
-wanted_by w v d e table name read is same said there =
-    wanted_member w v d e name (ap₂ (λ (t : List (List ℕ × Want)) (n : List ℕ). option_and_then (beside (type_of d)) (want_in t n)) (sym is) (sym same) ∙ said) there
+pub wanted_by : (w v : Want) (d e : Data) (t u : Json) (table : List (List ℕ × Want)) (name : List ℕ) → table ≡ members_of w d
+    → option_and_then (beside (type_of d)) (want_in table name) ≡ Some v → get name d ≡ Some e → tree_part (step.Member name) t ≡ u
+    → wanted_part (step.Member name) (w, d, t) ≡ Some (v, e, u)
+wanted_by w v d e t u table name is said there same =
+    wanted_member w v d e t u name (ap (λ (k : List (List ℕ × Want)). option_and_then (beside (type_of d)) (want_in k name)) (sym is) ∙ said) there same
+
+-- where nothing may stand, all that does is good
+nowhere : (b : Option Data) (t : Json) (q : Place) → both None b t ≡ Some q → ⊥
+nowhere b t q h = cc
+
+pub not_wanted : (p : Place) (s : Step) → wanted s p ≡ None → IsGoodPart p s
+not_wanted p s none q there = absurd (nowhere (part s p.1) (tree_part s p.2) q (ap (λ (o : Option Want). both o (part s p.1) (tree_part s p.2)) (sym none) ∙ there))
+
+-- so is what isn't there
+absent : (a : Option Want) (t : Json) (q : Place) → both a None t ≡ Some q → ⊥
+absent None t q h = cc
+absent (Some w) t q h = cc
+
+pub not_there : (p : Place) (s : Step) → part s p.1 ≡ None → IsGoodPart p s
+not_there p s none q there = absurd (absent (wanted s p) (tree_part s p.2) q (ap (λ (o : Option Data). both (wanted s p) o (tree_part s p.2)) (sym none) ∙ there))
+
+pub not_in_table : (w : Want) (d : Data) (t : Json) (table : List (List ℕ × Want)) (name : List ℕ) → table ≡ members_of w d
+    → option_and_then (beside (type_of d)) (want_in table name) ≡ None → IsGoodPart (w, d, t) (step.Member name)
+not_in_table w d t table name is none =
+    not_wanted (w, d, t) (step.Member name) (ap (λ (k : List (List ℕ × Want)). option_and_then (beside (type_of d)) (want_in k name)) (sym is) ∙ none)
 
 pub couple_first : (w : Want) (p : Want × Want) → couple_items w ≡ Some p → item_wanted w 0 ≡ Some p.0
 couple_first w p h = ap (λ (o : Option (Want × Want)). option_or (option_and_then (couple_at 0) o) (option_or (list_item w) (edit_part w 0))) h
@@ -164,14 +193,14 @@ last_of (s ∷ []) name = refl
 last_of (s ∷ t ∷ steps) name = last_of (t ∷ steps) name
 
 -- nothing was done
-pub looked_none : (p : Want × Data) (old new : Walk) → new.steps.items ≡ old.steps.items → new.first ≡ old.first → Looked p old new
+pub looked_none : (p : Place) (old new : Walk) → new.steps.items ≡ old.steps.items → new.first ≡ old.first → Looked p old new
 looked_none p old new back first = record {
   back = back;
   kept = λ m was. first ∙ was;
   told = λ root here passed told. subst (λ f. IfSome f (IsTold root)) (sym first) told;
 }
 
-pub within_none : (p : Want × Data) (s : Step) (old new : Walk) → new.steps.items ≡ old.steps.items → new.first ≡ old.first → Within p s old new
+pub within_none : (p : Place) (s : Step) (old new : Walk) → new.steps.items ≡ old.steps.items → new.first ≡ old.first → Within p s old new
 within_none p s old new back first = record {
   back = back;
   kept = λ m was. first ∙ was;
@@ -186,29 +215,29 @@ noted_none wrong old new back first = record {
 }
 
 -- one part after another
-pub looked_twice : (p : Want × Data) (old mid new : Walk) → Looked p old mid → Looked p mid new → Looked p old new
+pub looked_twice : (p : Place) (old mid new : Walk) → Looked p old mid → Looked p mid new → Looked p old new
 looked_twice p old mid new a b = record {
   back = b.back ∙ a.back;
   kept = λ m was. b.kept m (a.kept m was);
   told = λ root here passed told.
       b.told root (ap (λ (s : List Step). wanted_at s root) a.back ∙ here)
-      (λ none. subst (λ (s : List Step). PassGoodItems s root) (sym a.back) (passed (was_untold old.first mid.first a.kept none)))
+      (λ none. subst (λ (s : List Step). PassGoodParts s root) (sym a.back) (passed (was_untold old.first mid.first a.kept none)))
       (a.told root here passed told);
 }
 
 -- a part that stands a step further
-pub within_looked : (s : Step) (p q : Want × Data) (old new : Walk) → wanted_part s p ≡ Some q → (old.first ≡ None → Passes s p) → Looked q old new → Within p s old new
+pub within_looked : (s : Step) (p q : Place) (old new : Walk) → wanted_part s p ≡ Some q → (old.first ≡ None → Passes s p) → Looked q old new → Within p s old new
 within_looked s p q old new there passes look = record {
   back = look.back;
   kept = look.kept;
   told = λ root above was here passed told.
       look.told root (ap (λ (t : List Step). wanted_at t root) was ∙ wanted_further above s root p q here there)
-      (λ none. subst (λ (t : List Step). PassGoodItems t root) (sym was) (passed_further above s root p here (passed none) (passes none)))
+      (λ none. subst (λ (t : List Step). PassGoodParts t root) (sym was) (passed_further above s root p here (passed none) (passes none)))
       told;
 }
 
 -- a part behind a step, and back
-pub looked_behind : (s : Step) (p : Want × Data) (old entered looked new : Walk)
+pub looked_behind : (s : Step) (p : Place) (old entered looked new : Walk)
     → Entered s old entered → Within p s entered looked → Left looked new → Looked p old new
 looked_behind s p old entered looked new enter look leave = record {
   back = leave.steps old.steps.items s (look.back ∙ enter.steps);
@@ -218,24 +247,24 @@ looked_behind s p old entered looked new enter look leave = record {
       (look.told root old.steps.items enter.steps here (λ none. passed (sym enter.first ∙ none)) (subst (λ f. IfSome f (IsTold root)) (sym enter.first) told));
 }
 
-pub looked_inside : (s : Step) (p q : Want × Data) (old entered looked new : Walk)
+pub looked_inside : (s : Step) (p q : Place) (old entered looked new : Walk)
     → wanted_part s p ≡ Some q → (old.first ≡ None → Passes s p) → Entered s old entered → Looked q entered looked → Left looked new → Looked p old new
 looked_inside s p q old entered looked new there passes enter look leave =
     looked_behind s p old entered looked new enter (within_looked s p q entered looked there (λ none. passes (sym enter.first ∙ none)) look) leave
 
 -- something wrong noted where the walk stands, or a step further
-pub noted_here : (p : Want × Data) (wrong : Wrong) (old new : Walk) → Noted wrong old new → IsWrong wrong old.steps.items p.1
-    → ((root : Want × Data) → wanted_at old.steps.items root ≡ Some p → IsOwn root wrong old.steps.items) → Looked p old new
+pub noted_here : (p : Place) (wrong : Wrong) (old new : Walk) → Noted wrong old new → IsWrong wrong old.steps.items p.1
+    → ((root : Place) → wanted_at old.steps.items root ≡ Some p → IsOwn root wrong old.steps.items) → Looked p old new
 noted_here p wrong old new note bad own = record {
   back = note.back;
   kept = note.kept;
   told = λ root here passed told.
-      note.told root p.1 (part_of_wanted old.steps.items root p here) bad (own root here) (λ none. first_of_items wrong old.steps.items root (passed none)) told;
+      note.told root p.1 (part_of_wanted old.steps.items root p here) bad (own root here) (λ none. is_first wrong old.steps.items root (passed none)) told;
 }
 
-pub noted_within : (s : Step) (p : Want × Data) (e : Data) (wrong : Wrong) (old new : Walk) → Noted wrong old new → part s p.1 ≡ Some e → (old.first ≡ None → Passes s p)
+pub noted_within : (s : Step) (p : Place) (e : Data) (wrong : Wrong) (old new : Walk) → Noted wrong old new → part s p.1 ≡ Some e → (old.first ≡ None → Passes s p)
     → ((above : List Step) → old.steps.items ≡ above ++ s ∷ [] → IsWrong wrong old.steps.items e)
-    → ((root : Want × Data) (above : List Step) → old.steps.items ≡ above ++ s ∷ [] → wanted_at above root ≡ Some p → IsOwn root wrong old.steps.items)
+    → ((root : Place) (above : List Step) → old.steps.items ≡ above ++ s ∷ [] → wanted_at above root ≡ Some p → IsOwn root wrong old.steps.items)
     → Within p s old new
 noted_within s p e wrong old new note there passes bad own = record {
   back = note.back;
@@ -244,16 +273,16 @@ noted_within s p e wrong old new note there passes bad own = record {
       note.told root e
       (ap (λ (t : List Step). part_at t root.1) was ∙ one_further above s root.1 p.1 e (part_of_wanted above root p here) there)
       (bad above was) (own root above was here)
-      (λ none. first_of_items wrong old.steps.items root (subst (λ (t : List Step). PassGoodItems t root) (sym was) (passed_further above s root p here (passed none) (passes none))))
+      (λ none. is_first wrong old.steps.items root (subst (λ (t : List Step). PassGoodParts t root) (sym was) (passed_further above s root p here (passed none) (passes none))))
       told;
 }
 
 -- something wrong noted two steps further
-pub noted_deeper : (s t : Step) (p : Want × Data) (e f : Data) (wrong : Wrong) (old a b n c d : Walk)
+pub noted_deeper : (s t : Step) (p : Place) (e f : Data) (wrong : Wrong) (old a b n c d : Walk)
     → Entered s old a → Entered t a b → Noted wrong b n → Left n c → Left c d → part s p.1 ≡ Some e → part t e ≡ Some f
     → ((steps : List Step) → IsWrong wrong steps f)
-    → ((root : Want × Data) (above : List Step) → wanted_at above root ≡ Some p → IsOwn root wrong (above ++ s ∷ t ∷ []))
-    → ((root : Want × Data) (above : List Step) → PassGoodItems above root → IsFirstOfItems root wrong (above ++ s ∷ t ∷ [])) → Looked p old d
+    → ((root : Place) (above : List Step) → wanted_at above root ≡ Some p → IsOwn root wrong (above ++ s ∷ t ∷ []))
+    → ((root : Place) (above : List Step) → PassGoodParts above root → IsFirst root wrong (above ++ s ∷ t ∷ [])) → Looked p old d
 noted_deeper s t p e f wrong old a b n c d one two note leave leave_again there inner bad own first = record {
   back = leave_again.steps old.steps.items s (leave.steps a.steps.items t (note.back ∙ two.steps) ∙ one.steps);
   kept = λ m was. leave_again.first ∙ leave.first ∙ note.kept m (two.first ∙ one.first ∙ was);
@@ -264,7 +293,7 @@ noted_deeper s t p e f wrong old a b n c d one two note leave leave_again there 
       let steps : b.steps.items ≡ old.steps.items ++ s ∷ t ∷ [] = two.steps ∙ ap (λ (l : List Step). l ++ t ∷ []) one.steps ∙ append_assoc old.steps.items (s ∷ []) (t ∷ []) in
       subst (λ g. IfSome g (IsTold root)) (sym (leave_again.first ∙ leave.first))
       (note.told root f at_b (bad b.steps.items) (subst (λ l. IsOwn root wrong l) (sym steps) (own root old.steps.items here))
-      (λ none. subst (λ l. IsFirstOfItems root wrong l) (sym steps) (first root old.steps.items (passed (sym one.first ∙ sym two.first ∙ none))))
+      (λ none. subst (λ l. IsFirst root wrong l) (sym steps) (first root old.steps.items (passed (sym one.first ∙ sym two.first ∙ none))))
       (subst (λ g. IfSome g (IsTold root)) (sym (two.first ∙ one.first)) told));
 }
 
@@ -317,7 +346,7 @@ noted wrong m old new steps same back before first = record {
     stands = ap (λ (t : List Step). part_at t root.1) steps ∙ here;
     wrong = subst (λ w. IsWrong w m.steps.items d) (sym same) (subst (λ t. IsWrong wrong t d) (sym steps) bad);
     own = subst (λ w. IsOwn root w m.steps.items) (sym same) (subst (λ t. IsOwn root wrong t) (sym steps) own);
-    first = subst (λ w. IsFirstOfItems root w m.steps.items) (sym same) (subst (λ t. IsFirstOfItems root wrong t) (sym steps) (items before));
+    first = subst (λ w. IsFirst root w m.steps.items) (sym same) (subst (λ t. IsFirst root wrong t) (sym steps) (items before));
   });
 }
 
@@ -358,17 +387,37 @@ pub none_looked_at : (t : DataType) (d : Data) → AreCellsBefore t d 0
 none_looked_at t d j h = absurd (omega (arith, h))
 
 -- the cells of a column before a place
-pub good_cells : (t : DataType) (d : Data) (row : ℕ) → row < length (elements d) → AreCellsBefore t d row → AreGoodBefore (want.Cells t, d) row
-good_cells t d row inside before j h =
-    good_part (step.Item j) (want.Cells t, d) (want.Cell t, slice_index_or (elements d) j null)
-    (wanted_item (want.Cells t) (want.Cell t) d (slice_index_or (elements d) j null) j refl (item_there d j (omega (arith, inside, h)))) (before j h)
+pub good_cells : (t : DataType) (d : Data) (k : Json) (row : ℕ) → row < length (elements d) → AreCellsBefore t d row → AreGoodBefore (want.Cells t, d, k) row
+good_cells t d k row inside before j h =
+    good_part (step.Item j) (want.Cells t, d, k) (want.Cell t, slice_index_or (elements d) j null, tree_part (step.Item j) k)
+    (wanted_item (want.Cells t) (want.Cell t) d (slice_index_or (elements d) j null) k (tree_part (step.Item j) k) j refl (item_there d j (omega (arith, inside, h))) refl) (before j h)
+
+all_cells : (t : DataType) (ds : Items) → ((j : ℕ) → j < length (list_of ds) → is_cell t (slice_index_or (list_of ds) j null) ≡ true) → all_items (is_cell t) ds ≡ true
+all_cells t no_items each = refl
+all_cells t (item d ds) each =
+    ap₂ (λ (a b : Bool). a && b) (each 0 (omega arith)) (all_cells t ds (λ j h. each (suc j) (omega (arith, h))))
+
+-- where each item is a cell, the array spells cells
+pub cells_spelled : (t : DataType) (d : Data) (count : ℕ) → IsArrayOf d count → AreCellsBefore t d count → is_wanted (want.Cells t) d ≡ true
+cells_spelled t null count is before = let apart : null ≡ array (items_of (elements null)) = is.is_array in cc
+cells_spelled t (boolean b) count is before = let apart : boolean b ≡ array (items_of (elements (boolean b))) = is.is_array in cc
+cells_spelled t (number n) count is before = let apart : number n ≡ array (items_of (elements (number n))) = is.is_array in cc
+cells_spelled t (string s) count is before = let apart : string s ≡ array (items_of (elements (string s))) = is.is_array in cc
+cells_spelled t (array ds) count is before = all_cells t ds (λ j h. before j (omega (arith, h, is.counted)))
+cells_spelled t (object ms) count is before = let apart : object ms ≡ array (items_of (elements (object ms))) = is.is_array in cc
+
+-- what is no array spells none
+pub no_cells : (t : DataType) (d : Data) → as_array d ≡ None → is_wanted (want.Cells t) d ≡ false
+no_cells t null h = refl
+no_cells t (boolean b) h = refl
+no_cells t (number n) h = refl
+no_cells t (string s) h = refl
+no_cells t (array ds) h = cc
+no_cells t (object ms) h = refl
 
 -- nothing is said of the cells of an edit's row
-nothing_wanted : (b : Option Data) (q : Want × Data) → both None b ≡ Some q → ⊥
-nothing_wanted b q h = cc
-
-pub row_cells : (d : Data) (place : ℕ) → AreGoodBefore (want.Foreign foreign.Row, d) place
-row_cells d place j h q there = absurd (nothing_wanted (at j d) q there)
+pub row_cells : (d : Data) (t : Json) (place : ℕ) → AreGoodBefore (want.Foreign foreign.Row, d, t) place
+row_cells d t place j h = not_wanted (want.Foreign foreign.Row, d, t) (step.Item j) refl
 
 -- taking the last step back leaves those before it
 pub left_steps : (steps : List Step) (s : Step) (old new : List Step) → new ≡ take (length old - 1) old → old ≡ steps ++ s ∷ [] → new ≡ steps
@@ -385,6 +434,11 @@ pub not_single : (ms : List (String Global × Value)) → (length ms ≡ 1 → �
 not_single [] h = refl
 not_single (m ∷ []) h = absurd (h refl)
 not_single (m ∷ n ∷ ms) h = refl
+
+pub single : (ms : List (String Global × Value)) → length ms ≡ 1 → is_single (object (members_view ms)) ≡ true
+single [] h = absurd (omega (arith, h))
+single (m ∷ []) h = refl
+single (m ∷ n ∷ ms) h = absurd (omega (arith, h))
 
 -- what is null or a text is a cell of texts
 pub text_found : (d : Data) → is_some (nullable_text d) ≡ true → is_maybe is_text d ≡ true
@@ -426,7 +480,7 @@ is_some_mapped f None = refl
 is_some_mapped f (Some x) = refl
 
 -- the first place that is told, where one is
-pub told_first : (root : Want × Data) (first : Option Misfit) (m : Misfit) → IfSome first (IsTold root) → (first ≡ None → ⊥) → ((n : Misfit) → first ≡ Some n → m ≡ n) → IsTold root m
+pub told_first : (root : Place) (first : Option Misfit) (m : Misfit) → IfSome first (IsTold root) → (first ≡ None → ⊥) → ((n : Misfit) → first ≡ Some n → m ≡ n) → IsTold root m
 told_first root None m told some same = absurd (some refl)
 told_first root (Some n) m told some same = subst (IsTold root) (sym (same n refl)) told
 

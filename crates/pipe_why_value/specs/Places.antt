@@ -2,6 +2,7 @@
 use Rattle.std.specs.Prelude.{◌≡◌, ◌≢◌, ◌<◌, ◌⊎◌, ℕ, List, [], ◌∷◌, ◌++◌, codes, length, take, ◌-◌, slice_index_or, ◌||◌, if◌then◌else◌, is_some, Option, Some, None, option_and_then, Bool, true, false}
 use Rattle.serde_json.specs.Data.{Data, null, string}
 use Rattle.serde_json.specs.Find.{at, get}
+use Rattle.json.specs.Json.{Json}
 use Rattle.pipe_value.specs.Items.{elements}
 use Rattle.pipe_frame.specs.declared.data_type.DataType.{DataType}
 use Rattle.pipe_job.specs.Shape.{contains_text, is_cell, is_single, text_in}
@@ -12,6 +13,7 @@ use Rattle.pipe_why_wants.specs.Wanted.{Misspells, form_words, is_wanted}
 use Rattle.pipe_why_wants.specs.declared.want.Foreign.TheVariants as foreign
 use Rattle.pipe_why_wants.specs.declared.want.Want.{Want}
 use Rattle.pipe_why_wants.specs.declared.want.Want.TheVariants as want
+use Rattle.pipe_why_value.specs.Order.{StandsBefore, tree_part}
 use Rattle.pipe_why_value.specs.declared.input_kind.InputKind.{InputKind}
 use Rattle.pipe_why_value.specs.declared.input_kind.InputKind.TheVariants as kind
 use Rattle.pipe_why_value.specs.declared.wrong.Misfit.{Misfit}
@@ -43,44 +45,51 @@ last_name (s ∷ t ∷ steps) = last_name (t ∷ steps)
 
 -- ---- what may stand at a place
 
+-- a place of a whole: what may stand there, what does, and how that is written in the text
+abbrev pub Place : Type 0
+Place = Want × Data × Json
+
 -- what may stand where a step leads
-abbrev pub wanted : Step → Want × Data → Option Want
+abbrev pub wanted : Step → Place → Option Want
 wanted (step.Member name) p = member_wanted p.0 p.1 name
 wanted (step.Item i) p = item_wanted p.0 i
 
-abbrev pub both : {A B : Type 0} → Option A → Option B → Option (A × B)
-both None b = None
-both (Some a) None = None
-both (Some a) (Some b) = Some (a, b)
+abbrev pub both : Option Want → Option Data → Json → Option Place
+both None d t = None
+both (Some w) None t = None
+both (Some w) (Some d) t = Some (w, d, t)
 
--- what may stand where a step leads, and what does: none where nothing does, or nothing may
-abbrev pub wanted_part : Step → Want × Data → Option (Want × Data)
-wanted_part s p = both (wanted s p) (part s p.1)
+-- the place to which a step leads: none where nothing stands there, or nothing may
+abbrev pub wanted_part : Step → Place → Option Place
+wanted_part s p = both (wanted s p) (part s p.1) (tree_part s p.2)
 
--- the same where steps lead, of a value and what may stand in its place
-abbrev pub wanted_at : List Step → Want × Data → Option (Want × Data)
+-- the same of steps
+abbrev pub wanted_at : List Step → Place → Option Place
 wanted_at [] p = Some p
 wanted_at (s ∷ steps) p = option_and_then (wanted_at steps) (wanted_part s p)
 
 -- ---- what stands before a place
 
--- what stands at an item spells what may stand there
-abbrev pub IsGoodItem : Want × Data → ℕ → Type 0
-IsGoodItem p i = (q : Want × Data) → wanted_part (step.Item i) p ≡ Some q → is_wanted q.0 q.1 ≡ true
+-- what stands where a step leads spells what may stand there
+abbrev pub IsGoodPart : Place → Step → Type 0
+IsGoodPart p s = (q : Place) → wanted_part s p ≡ Some q → is_wanted q.0 q.1 ≡ true
+
+abbrev pub IsGoodItem : Place → ℕ → Type 0
+IsGoodItem p i = IsGoodPart p (step.Item i)
 
 -- so does what stands at each item before a place
-abbrev pub AreGoodBefore : Want × Data → ℕ → Type 0
+abbrev pub AreGoodBefore : Place → ℕ → Type 0
 AreGoodBefore p i = (j : ℕ) → j < i → IsGoodItem p j
 
--- a step leads to a member, or to an item before which each spells what may stand there
-abbrev pub Passes : Step → Want × Data → Type 0
-Passes (step.Member name) p = Unit {0}
+-- a step leads to a member or an item before which, in the order of the text, each spells what may stand there
+abbrev pub Passes : Step → Place → Type 0
+Passes (step.Member name) p = (other : List ℕ) → StandsBefore p.2 other name → IsGoodPart p (step.Member other)
 Passes (step.Item i) p = AreGoodBefore p i
 
 -- each step does, where something may stand before it
-abbrev pub PassGoodItems : List Step → Want × Data → Type 0
-PassGoodItems [] p = Unit {0}
-PassGoodItems (s ∷ steps) p = Passes s p × ((q : Want × Data) → wanted_part s p ≡ Some q → PassGoodItems steps q)
+abbrev pub PassGoodParts : List Step → Place → Type 0
+PassGoodParts [] p = Unit {0}
+PassGoodParts (s ∷ steps) p = Passes s p × ((q : Place) → wanted_part s p ≡ Some q → PassGoodParts steps q)
 
 -- whether a value has a member
 abbrev pub has_member : List ℕ → Data → Bool
@@ -127,26 +136,26 @@ IsWrong (wrong.Parts count) steps d = (length (elements d) ≡ count) × (count 
 IsWrong (wrong.Width cells columns) steps d = (length (elements d) ≡ cells) × (cells ≢ columns)
 
 -- of the whole these steps lead to where this may stand
-abbrev pub MayStand : Want × Data → List Step → Want → Type 0
-MayStand root steps w = (d : Data) × (wanted_at steps root ≡ Some (w, d))
+abbrev pub MayStand : Place → List Step → Want → Type 0
+MayStand root steps w = (d : Data) × (t : Json) × (wanted_at steps root ≡ Some (w, d, t))
 
 -- the steps lead to a member of an object in whose place this may stand, and which may have these members
-pub record IsMember (root : Want × Data) (steps : List Step) (table : List (List ℕ × Want)) : Type 0 where
+pub record IsMember (root : Place) (steps : List Step) (table : List (List ℕ × Want)) : Type 0 where
   pub above : List Step
   pub name : List ℕ
-  pub object : Want × Data
+  pub object : Place
   pub steps_are : steps ≡ above ++ step.Member name ∷ []
   pub stands : wanted_at above root ≡ Some object
   pub table_is : table ≡ members_of object.0 object.1
 
 -- the steps lead to an object that may have a member
-pub record MayHave (root : Want × Data) (steps : List Step) (member : List ℕ × Want) : Type 0 where
-  pub object : Want × Data
+pub record MayHave (root : Place) (steps : List Step) (member : List ℕ × Want) : Type 0 where
+  pub object : Place
   pub stands : wanted_at steps root ≡ Some object
   pub has : HasMember (members_of object.0 object.1) member
 
 -- the steps lead to a cell of a column of a type, or of a row of an edit
-pub record IsCellOf (root : Want × Data) (steps : List Step) (t : DataType) : Type 0 where
+pub record IsCellOf (root : Place) (steps : List Step) (t : DataType) : Type 0 where
   pub above : List Step
   pub place : ℕ
   pub steps_are : steps ≡ above ++ step.Item place ∷ []
@@ -157,18 +166,19 @@ abbrev pub name_at : Data → ℕ → List ℕ
 name_at columns i = text_in (get (codes "name") (slice_index_or (elements columns) i null))
 
 -- the steps lead to the name of a column that an earlier one has
-pub record IsSecond (root : Want × Data) (steps : List Step) (earlier : ℕ) : Type 0 where
+pub record IsSecond (root : Place) (steps : List Step) (earlier : ℕ) : Type 0 where
   pub above : List Step
   pub columns : Data
+  pub tree : Json
   pub place : ℕ
   pub steps_are : steps ≡ above ++ step.Item place ∷ step.Member (codes "name") ∷ []
-  pub stands : wanted_at above root ≡ Some (want.Columns, columns)
+  pub stands : wanted_at above root ≡ Some (want.Columns, columns, tree)
   pub before : earlier < place
   pub same : name_at columns earlier ≡ name_at columns place
 
 -- what is told to be wanted where these steps lead is what may stand there, and what is said of what stands elsewhere
 -- is so
-abbrev pub IsOwn : Want × Data → Wrong → List Step → Type 0
+abbrev pub IsOwn : Place → Wrong → List Step → Type 0
 IsOwn root (wrong.Other w) steps = MayStand root steps w
 IsOwn root (wrong.Missing name w) steps = MayHave root steps (name.now, w)
 IsOwn root (wrong.Unknown known) steps = IsMember root steps (members_in known.now)
@@ -187,28 +197,29 @@ IsOwn root (wrong.Width cells columns) steps = MayStand root steps (want.Foreign
 abbrev pub without_two : List Step → List Step
 without_two steps = take (length steps - 2) steps
 
--- of each array on the way what is told is in the first item that doesn't spell what may stand there; of the names and the
--- heights of columns, which are looked at behind all columns, it is said of the arrays on the way to these
-abbrev pub IsFirstOfItems : Want × Data → Wrong → List Step → Type 0
-IsFirstOfItems root (wrong.Other w) steps = PassGoodItems steps root
-IsFirstOfItems root (wrong.Missing name w) steps = PassGoodItems steps root
-IsFirstOfItems root (wrong.Unknown known) steps = PassGoodItems steps root
-IsFirstOfItems root wrong.UnknownForm steps = PassGoodItems steps root
-IsFirstOfItems root (wrong.Members count) steps = PassGoodItems steps root
-IsFirstOfItems root (wrong.Cell t column count) steps = PassGoodItems steps root
-IsFirstOfItems root wrong.Wide steps = PassGoodItems steps root
-IsFirstOfItems root wrong.NoColumns steps = PassGoodItems steps root
-IsFirstOfItems root (wrong.SecondName earlier) steps = PassGoodItems (without_two steps) root
-IsFirstOfItems root (wrong.Height cells wanted) steps = PassGoodItems (without_two steps) root
-IsFirstOfItems root (wrong.Frames count) steps = PassGoodItems steps root
-IsFirstOfItems root (wrong.Parts count) steps = PassGoodItems steps root
-IsFirstOfItems root (wrong.Width cells columns) steps = PassGoodItems steps root
+-- of each array and each object on the way what is told is in the first part, in the order of the text, that doesn't spell
+-- what may stand there; of the name and the height of a column, which are looked at behind all columns, it is said of what
+-- is on the way to these
+abbrev pub IsFirst : Place → Wrong → List Step → Type 0
+IsFirst root (wrong.Other w) steps = PassGoodParts steps root
+IsFirst root (wrong.Missing name w) steps = PassGoodParts steps root
+IsFirst root (wrong.Unknown known) steps = PassGoodParts steps root
+IsFirst root wrong.UnknownForm steps = PassGoodParts steps root
+IsFirst root (wrong.Members count) steps = PassGoodParts steps root
+IsFirst root (wrong.Cell t column count) steps = PassGoodParts steps root
+IsFirst root wrong.Wide steps = PassGoodParts steps root
+IsFirst root wrong.NoColumns steps = PassGoodParts steps root
+IsFirst root (wrong.SecondName earlier) steps = PassGoodParts (without_two steps) root
+IsFirst root (wrong.Height cells wanted) steps = PassGoodParts (without_two steps) root
+IsFirst root (wrong.Frames count) steps = PassGoodParts steps root
+IsFirst root (wrong.Parts count) steps = PassGoodParts steps root
+IsFirst root (wrong.Width cells columns) steps = PassGoodParts steps root
 
 -- a value stands where the steps of what is told lead in the whole, what is told is wrong with it, what is told to be wanted
--- there is what may stand there, and in each array on the way it is in the first item that is wrong
-pub record IsTold (root : Want × Data) (m : Misfit) : Type 0 where
+-- there is what may stand there, and in each array and object on the way it is in the first part that is wrong
+pub record IsTold (root : Place) (m : Misfit) : Type 0 where
   pub value : Data
   pub stands : part_at m.steps.items root.1 ≡ Some value
   pub wrong : IsWrong m.wrong m.steps.items value
   pub own : IsOwn root m.wrong m.steps.items
-  pub first : IsFirstOfItems root m.wrong m.steps.items
+  pub first : IsFirst root m.wrong m.steps.items

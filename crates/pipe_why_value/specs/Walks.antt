@@ -10,7 +10,7 @@ use Rattle.pipe_why_text.specs.declared.steps.Step.{Step}
 use Rattle.pipe_why_wants.specs.Members.{beside}
 use Rattle.pipe_why_wants.specs.declared.want.Want.{Want}
 use Rattle.pipe_why_wants.specs.declared.want.Want.TheVariants as want
-use Rattle.pipe_why_value.specs.Places.{IsBadCell, IsFirstOfItems, IsOwn, IsTold, IsWrong, PassGoodItems, name_at, part_at, wanted_at}
+use Rattle.pipe_why_value.specs.Places.{IsBadCell, IsFirst, IsOwn, IsTold, IsWrong, PassGoodParts, Place, name_at, part_at, wanted_at}
 use Rattle.pipe_why_value.specs.declared.looking.MemberWant.{MemberWant}
 use Rattle.pipe_why_value.specs.declared.looking.MemberWant.TheVariants as member
 use Rattle.pipe_why_value.specs.declared.walk.Walk.{Walk}
@@ -18,33 +18,33 @@ use Rattle.pipe_why_value.specs.declared.wrong.Misfit.{Misfit}
 use Rattle.pipe_why_value.specs.declared.wrong.Wrong.{Wrong}
 
 -- what is told stays rightly told
-abbrev pub StaysTold : Want × Data → (old new : Walk) → Type 0
+abbrev pub StaysTold : Place → (old new : Walk) → Type 0
 StaysTold root old new = IfSome old.first (IsTold root) → IfSome new.first (IsTold root)
 
--- as long as nothing is told, the items that were passed on the way are good
-abbrev pub Passed : Want × Data → List Step → Walk → Type 0
-Passed root steps walk = walk.first ≡ None → PassGoodItems steps root
+-- as long as nothing is told, the parts that were passed on the way are good
+abbrev pub Passed : Place → List Step → Walk → Type 0
+Passed root steps walk = walk.first ≡ None → PassGoodParts steps root
 
 -- a part of a walk that stands at a value, in whose place this may stand, ends where it began, what was told first is
 -- told still, and what is told then is wrong where it is told
-pub record Looked (p : Want × Data) (old new : Walk) : Type 0 where
+pub record Looked (p : Place) (old new : Walk) : Type 0 where
   pub back : new.steps.items ≡ old.steps.items
   pub kept : (m : Misfit) → old.first ≡ Some m → new.first ≡ Some m
-  pub told : (root : Want × Data) → wanted_at old.steps.items root ≡ Some p → Passed root old.steps.items old → StaysTold root old new
+  pub told : (root : Place) → wanted_at old.steps.items root ≡ Some p → Passed root old.steps.items old → StaysTold root old new
 
 -- so does one that stands a step behind it
-pub record Within (p : Want × Data) (s : Step) (old new : Walk) : Type 0 where
+pub record Within (p : Place) (s : Step) (old new : Walk) : Type 0 where
   pub back : new.steps.items ≡ old.steps.items
   pub kept : (m : Misfit) → old.first ≡ Some m → new.first ≡ Some m
-  pub told : (root : Want × Data) (above : List Step) → old.steps.items ≡ above ++ s ∷ [] → wanted_at above root ≡ Some p
+  pub told : (root : Place) (above : List Step) → old.steps.items ≡ above ++ s ∷ [] → wanted_at above root ≡ Some p
       → Passed root above old → StaysTold root old new
 
 -- something wrong was noted where the walk stands
 pub record Noted (wrong : Wrong) (old new : Walk) : Type 0 where
   pub back : new.steps.items ≡ old.steps.items
   pub kept : (m : Misfit) → old.first ≡ Some m → new.first ≡ Some m
-  pub told : (root : Want × Data) (d : Data) → part_at old.steps.items root.1 ≡ Some d → IsWrong wrong old.steps.items d
-      → IsOwn root wrong old.steps.items → (old.first ≡ None → IsFirstOfItems root wrong old.steps.items) → StaysTold root old new
+  pub told : (root : Place) (d : Data) → part_at old.steps.items root.1 ≡ Some d → IsWrong wrong old.steps.items d
+      → IsOwn root wrong old.steps.items → (old.first ≡ None → IsFirst root wrong old.steps.items) → StaysTold root old new
 
 -- a step was made
 pub record Entered (s : Step) (old new : Walk) : Type 0 where
@@ -73,5 +73,5 @@ AreNames columns i names = (name : List ℕ) (j : ℕ) → get_by_text names nam
 abbrev pub IsWantBy : Option Want → Option DataType → MemberWant → Type 0
 IsWantBy said t (member.Is w) = option_and_then (beside t) said ≡ Some w
 IsWantBy said t (member.Cells u) = option_and_then (beside t) said ≡ Some (want.Cells u)
-IsWantBy said t member.Untold = Unit {0}
+IsWantBy said t member.Untold = option_and_then (beside t) said ≡ None
 IsWantBy said t member.Unknown = said ≡ None

@@ -1,6 +1,7 @@
 //! The rows of edits beside the columns of the tables that they edit.
 
 ghost use Rattle.std.specs.Prelude.{◌≡◌, ◌<◌, ◌≤◌, None, Some, IfOk, IfSome, OnOk, length};
+ghost use Rattle.json.specs.Json.{Json as Written};
 ghost use Rattle.pipe_value.specs.Items.{elements};
 ghost use Rattle.pipe_value.specs.View.{view};
 ghost use Rattle.pipe_why_wants.specs.Members.{item_wanted};
@@ -129,7 +130,7 @@ fn bad_cell(
 /// Looks at so many cells of a row of a table of as many columns.
 fn look_at_cells(walk: &mut Walk, side: &Value, row: &Value, count: usize) -> Result<(), AllocError>
     requires { count ≤ length (elements (view row.now)) }
-    ensures { OnOk result (Looked (Want.Foreign Foreign.Row, view row.now) walk.old walk.new) }
+    ensures { OnOk result ((t : Written) → Looked (Want.Foreign Foreign.Row, view row.now, t) walk.old walk.new) }
 {
     let alloc = walk.alloc;
     let columns = walk.tables.columns(side);
@@ -150,7 +151,7 @@ fn look_at_cells(walk: &mut Walk, side: &Value, row: &Value, count: usize) -> Re
 /// Looks at the so many cells of the row of an edit of the table that it names.
 fn look_at_width(walk: &mut Walk, side: &Value, row: &Value, cells: usize) -> Result<(), AllocError>
     requires { cells ≡ length (elements (view row.now)) }
-    ensures { OnOk result (Looked (Want.Foreign Foreign.Row, view row.now) walk.old walk.new) }
+    ensures { OnOk result ((t : Written) → Looked (Want.Foreign Foreign.Row, view row.now, t) walk.old walk.new) }
 {
     let columns = walk.tables.columns(side).len();
     if columns == 0 {
@@ -164,7 +165,7 @@ fn look_at_width(walk: &mut Walk, side: &Value, row: &Value, cells: usize) -> Re
 
 /// Looks at the row of an edit of the table that it names.
 fn look_at_row(walk: &mut Walk, side: &Value, row: &Value) -> Result<(), AllocError>
-    ensures { OnOk result (Looked (Want.Foreign Foreign.Row, view row.now) walk.old walk.new) }
+    ensures { OnOk result ((t : Written) → Looked (Want.Foreign Foreign.Row, view row.now, t) walk.old walk.new) }
 {
     match row.array_len()? {
         Some(cells) => look_at_width(walk, side, row, cells),
@@ -181,14 +182,14 @@ fn look_at_word(
 ) -> Result<(), AllocError>
     requires { place < length (elements (view edit.now)) }
     ensures looked { OnOk result
-        (item_wanted (Want.Foreign Foreign.Edit) place ≡ Some (Want.Foreign want)
+        ((t : Written) → item_wanted (Want.Foreign Foreign.Edit) place ≡ Some (Want.Foreign want)
         → (walk.old.first ≡ None
-        → AreGoodBefore (Want.Foreign Foreign.Edit, view edit.now) place)
-        → Looked (Want.Foreign Foreign.Edit, view edit.now) walk.old walk.new) }
+        → AreGoodBefore (Want.Foreign Foreign.Edit, view edit.now, t) place)
+        → Looked (Want.Foreign Foreign.Edit, view edit.now, t) walk.old walk.new) }
     ensures good { OnOk result
-        (item_wanted (Want.Foreign Foreign.Edit) place ≡ Some (Want.Foreign want)
+        ((t : Written) → item_wanted (Want.Foreign Foreign.Edit) place ≡ Some (Want.Foreign want)
         → walk.new.first ≡ None
-        → IsGoodItem (Want.Foreign Foreign.Edit, view edit.now) place) }
+        → IsGoodItem (Want.Foreign Foreign.Edit, view edit.now, t) place) }
 {
     let word = edit.item(walk.alloc, place)?;
     walk.enter_item(place)?;
@@ -200,9 +201,9 @@ fn look_at_word(
 /// Looks at the row of an edit.
 fn look_at_third(walk: &mut Walk, edit: &Value) -> Result<(), AllocError>
     requires { length (elements (view edit.now)) ≡ 3 }
-    ensures { OnOk result ((walk.old.first ≡ None
-        → AreGoodBefore (Want.Foreign Foreign.Edit, view edit.now) 2)
-        → Looked (Want.Foreign Foreign.Edit, view edit.now) walk.old walk.new) }
+    ensures { OnOk result ((t : Written) → (walk.old.first ≡ None
+        → AreGoodBefore (Want.Foreign Foreign.Edit, view edit.now, t) 2)
+        → Looked (Want.Foreign Foreign.Edit, view edit.now, t) walk.old walk.new) }
 {
     let alloc = walk.alloc;
     let side = edit.item(alloc, 0)?;
@@ -215,7 +216,7 @@ fn look_at_third(walk: &mut Walk, edit: &Value) -> Result<(), AllocError>
 
 /// Looks at the parts of an edit: the side, what is done, and the row.
 pub(crate) fn look_at_edit(walk: &mut Walk, value: &Value) -> Result<(), AllocError>
-    ensures { OnOk result (Looked (Want.Foreign Foreign.Edit, view value.now) walk.old walk.new) }
+    ensures { OnOk result ((t : Written) → Looked (Want.Foreign Foreign.Edit, view value.now, t) walk.old walk.new) }
 {
     let Some(count) = value.array_len()? else {
         return Ok(());

@@ -7,6 +7,7 @@ mod edits;
 mod input_kind;
 mod looking;
 mod misfit;
+mod order;
 mod table;
 mod told;
 mod walk;

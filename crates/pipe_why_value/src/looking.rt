@@ -1,24 +1,28 @@
 //! The walk through a value that should spell a job, or what another command reads, in the order of its text: the first
 //! place at which something else stands than may, and how many further ones there are.
 
-ghost use Rattle.std.specs.Prelude.{◌≡◌, ◌<◌, ◌≤◌, ℕ, Some, None, true, length, OnOk, string_bytes};
+ghost use Rattle.std.specs.Prelude.{◌≡◌, ◌<◌, ◌≤◌, ℕ, Some, None, true, length, OnOk, IsSome};
+ghost use Rattle.json.specs.Json.{Json as Written};
 ghost use Rattle.serde_json.specs.Data.{Data};
 ghost use Rattle.serde_json.specs.Find.{get};
 ghost use Rattle.pipe_value.specs.Items.{elements};
 ghost use Rattle.pipe_value.specs.View.{view};
 ghost use Rattle.pipe_why_text.specs.declared.steps.Step.TheVariants as step;
+ghost use Rattle.pipe_job.specs.Shape.{is_single};
 ghost use Rattle.pipe_why_wants.specs.Members.{item_wanted, members_in, members_of, type_of, want_in};
 ghost use Rattle.pipe_why_wants.specs.Wanted.{SpellsJob, is_wanted};
-ghost use Rattle.pipe_why_value.specs.Places.{AreGoodBefore, IsGoodItem};
+ghost use Rattle.pipe_why_value.specs.Places.{AreGoodBefore, IsGoodItem, IsGoodPart, Passes};
+ghost use Rattle.pipe_why_value.specs.Order.{tree_part, written};
 ghost use Rattle.pipe_why_value.specs.Walks.{IsWantBy, Looked, Within};
 
 use crate::edits::look_at_edit;
+use crate::order::{Last, item_tree, last_at, last_members, member_tree, name_at, written_members};
 use crate::table::look_at_table;
 use crate::walk::{Walk, type_in, word_in};
 use crate::wrong::Wrong;
+use json::Value as Json;
 use pipe_frame::DataType;
 use pipe_value::Value;
-use pipe_why_text::{Layout, Placed};
 use pipe_why_wants::{Foreign, Member, Want, couple_wants, form, item_want, members_of};
 use std::alloc::AllocError;
 
@@ -66,17 +70,17 @@ pub(crate) fn look_at(
     walk: &mut Walk,
     want: Want,
     value: &Value,
-    layout: Option<&Layout>,
+    tree: Option<&Json<'_>>,
     depth: usize,
 ) -> Result<(), AllocError>
-    ensures looked { OnOk result (Looked (want, view value.now) walk.old walk.new) }
+    ensures looked { OnOk result (Looked (want, view value.now, written tree.entry) walk.old walk.new) }
     ensures good { OnOk result
         (walk.new.first ≡ None → is_wanted want (view value.now) ≡ true) }
     ensures job { OnOk result
         (walk.new.first ≡ None → want ≡ Want.Job → SpellsJob (view value.now)) }
 {
     let before = walk.found;
-    parts(walk, want, value, layout, depth)?;
+    parts(walk, want, value, tree, depth)?;
     if walk.found != before && walk.first.is_some() {
         return Ok(());
     }
@@ -89,17 +93,17 @@ fn parts(
     walk: &mut Walk,
     want: Want,
     value: &Value,
-    layout: Option<&Layout>,
+    tree: Option<&Json<'_>>,
     depth: usize,
 ) -> Result<(), AllocError>
-    ensures { OnOk result (Looked (want, view value.now) walk.old walk.new) }
+    ensures { OnOk result (Looked (want, view value.now, written tree.entry) walk.old walk.new) }
 {
     let Some(depth) = depth.checked_sub(1) else {
         return Ok(());
     };
     match value {
-        Value::Object(_) => object(walk, want, value, layout, depth),
-        Value::Array(_) | Value::Packed(..) => array(walk, want, value, layout, depth),
+        Value::Object(_) => object(walk, want, value, tree, depth),
+        Value::Array(_) | Value::Packed(..) => array(walk, want, value, tree, depth),
         Value::Null | Value::Bool(_) | Value::Number(_) | Value::String(_) => Ok(()),
     }
 }
@@ -117,14 +121,14 @@ fn object(
     walk: &mut Walk,
     want: Want,
     value: &Value,
-    layout: Option<&Layout>,
+    tree: Option<&Json<'_>>,
     depth: usize,
 ) -> Result<(), AllocError>
-    ensures { OnOk result (Looked (want, view value.now) walk.old walk.new) }
+    ensures { OnOk result (Looked (want, view value.now, written tree.entry) walk.old walk.new) }
 {
     match want {
-        Want::Expr => expr(walk, value, layout, depth),
-        _ => known_object(walk, want, value, layout, depth),
+        Want::Expr => expr(walk, value, tree, depth),
+        _ => known_object(walk, want, value, tree, depth),
     }
 }
 
@@ -134,13 +138,13 @@ fn known_object(
     walk: &mut Walk,
     want: Want,
     value: &Value,
-    layout: Option<&Layout>,
+    tree: Option<&Json<'_>>,
     depth: usize,
 ) -> Result<(), AllocError>
-    ensures { OnOk result (Looked (want, view value.now) walk.old walk.new) }
+    ensures { OnOk result (Looked (want, view value.now, written tree.entry) walk.old walk.new) }
 {
     let before = walk.found;
-    members(walk, known_members(want, value), value, layout, depth)?;
+    members(walk, known_members(want, value), value, tree, depth)?;
     match want {
         Want::Frame if walk.found == before => look_at_table(walk, value),
         _ => Ok(()),
@@ -153,16 +157,16 @@ fn members(
     walk: &mut Walk,
     known: &'static [Member],
     value: &Value,
-    layout: Option<&Layout>,
+    tree: Option<&Json<'_>>,
     depth: usize,
 ) -> Result<(), AllocError>
     ensures { OnOk result ((w : Want) → members_in known.now ≡ members_of w (view value.now)
-        → Looked (w, view value.now) walk.old walk.new) }
+        → Looked (w, view value.now, written tree.entry) walk.old walk.new) }
 {
     if known.is_empty() {
         return Ok(());
     }
-    placed_members(walk, known, value, layout, depth)?;
+    placed_members(walk, known, value, tree, depth)?;
     walk.missing(known, value)
 }
 
@@ -172,41 +176,81 @@ fn placed_members(
     walk: &mut Walk,
     known: &'static [Member],
     value: &Value,
-    layout: Option<&Layout>,
+    tree: Option<&Json<'_>>,
     depth: usize,
 ) -> Result<(), AllocError>
     ensures { OnOk result ((w : Want) → members_in known.now ≡ members_of w (view value.now)
-        → Looked (w, view value.now) walk.old walk.new) }
+        → Looked (w, view value.now, written tree.entry) walk.old walk.new) }
 {
-    let Some(layout) = layout else {
+    let Some(object) = tree else {
         return Ok(());
     };
-    for placed in layout.members() {
-        member(walk, known, placed, value, depth)?;
+    let members = written_members(object);
+    let lasts = last_members(walk.alloc, members)?;
+    for i in 0..members.len() {
+        let name = name_at(members, i);
+        member(
+            walk,
+            known,
+            name,
+            last_at(&lasts, name, i),
+            value,
+            tree,
+            depth,
+        )?;
     }
     Ok(())
 }
 
-/// Looks at a member of an object, where it counts.
+/// Looks at the member of a name of an object, if it is the last one of that name, which counts.
 #[cycle(walk)]
 fn member(
     walk: &mut Walk,
     known: &'static [Member],
-    placed: &Placed,
+    name: &str,
+    last: Option<Last>,
     parent: &Value,
+    tree: Option<&Json<'_>>,
     depth: usize,
 ) -> Result<(), AllocError>
-    ensures { OnOk result ((w : Want) → members_in known.now ≡ members_of w (view parent.now)
-        → Looked (w, view parent.now) walk.old walk.new) }
+    ensures looked { OnOk result ((w : Want) → members_in known.now ≡ members_of w (view parent.now)
+        → (walk.old.first ≡ None → IsSome last
+        → Passes (step.Member name.now) (w, view parent.now, written tree.entry))
+        → Looked (w, view parent.now, written tree.entry) walk.old walk.new) }
+    ensures good { OnOk result ((w : Want) → members_in known.now ≡ members_of w (view parent.now)
+        → IsSome last → walk.new.first ≡ None
+        → IsGoodPart (w, view parent.now, written tree.entry) (step.Member name.now)) }
 {
-    let Some(value) = parent.get(placed.name.as_str()) else {
+    match last {
+        Some(last) => last_member(walk, known, name, last, parent, tree, depth),
+        None => Ok(()),
+    }
+}
+
+/// Looks at the last member of a name of an object, where the object has it.
+#[cycle(walk)]
+fn last_member(
+    walk: &mut Walk,
+    known: &'static [Member],
+    name: &str,
+    last: Last,
+    parent: &Value,
+    tree: Option<&Json<'_>>,
+    depth: usize,
+) -> Result<(), AllocError>
+    ensures looked { OnOk result ((w : Want) → members_in known.now ≡ members_of w (view parent.now)
+        → (walk.old.first ≡ None
+        → Passes (step.Member name.now) (w, view parent.now, written tree.entry))
+        → Looked (w, view parent.now, written tree.entry) walk.old walk.new) }
+    ensures good { OnOk result ((w : Want) → members_in known.now ≡ members_of w (view parent.now)
+        → walk.new.first ≡ None
+        → IsGoodPart (w, view parent.now, written tree.entry) (step.Member name.now)) }
+{
+    let Some(value) = parent.get(name) else {
         return Ok(());
     };
-    if placed.stands_again {
-        return Ok(());
-    }
-    let repeated = walk.enter_member(placed)?;
-    member_value(walk, known, placed, parent, value, depth)?;
+    let repeated = walk.enter_member(name, last)?;
+    member_value(walk, known, name, parent, value, tree, depth)?;
     walk.leave_member(repeated);
     Ok(())
 }
@@ -216,19 +260,25 @@ fn member(
 fn member_value(
     walk: &mut Walk,
     known: &'static [Member],
-    placed: &Placed,
+    name: &str,
     parent: &Value,
     value: &Value,
+    tree: Option<&Json<'_>>,
     depth: usize,
 ) -> Result<(), AllocError>
-    ensures { OnOk result ((w : Want) → members_in known.now ≡ members_of w (view parent.now)
-        → get (string_bytes placed.now.name) (view parent.now) ≡ Some (view value.now)
-        → Within (w, view parent.now) (step.Member (string_bytes placed.now.name))
+    ensures looked { OnOk result ((w : Want) → members_in known.now ≡ members_of w (view parent.now)
+        → get name.now (view parent.now) ≡ Some (view value.now)
+        → (walk.old.first ≡ None
+        → Passes (step.Member name.now) (w, view parent.now, written tree.entry))
+        → Within (w, view parent.now, written tree.entry) (step.Member name.now)
         walk.old walk.new) }
+    ensures good { OnOk result ((w : Want) → members_in known.now ≡ members_of w (view parent.now)
+        → get name.now (view parent.now) ≡ Some (view value.now) → walk.new.first ≡ None
+        → IsGoodPart (w, view parent.now, written tree.entry) (step.Member name.now)) }
 {
-    match member_want(known, placed.name.as_str(), parent) {
+    match member_want(known, name, parent) {
         MemberWant::Cells(dtype) => walk.cells(dtype, parent, value),
-        MemberWant::Is(want) => look_at(walk, want, value, Some(&placed.layout), depth),
+        MemberWant::Is(want) => look_at(walk, want, value, member_tree(tree, name), depth),
         MemberWant::Untold => Ok(()),
         // Where a node's kind isn't told, its members aren't known.
         MemberWant::Unknown => if 1 < known.len() {
@@ -239,33 +289,23 @@ fn member_value(
     }
 }
 
-/// The layout of an object's last member.
-fn last_layout(layout: Option<&Layout>) -> Option<&Layout> {
-    match layout {
-        Some(layout) => match layout.members().last() {
-            Some(placed) => Some(&placed.layout),
-            None => None,
-        },
-        None => None,
-    }
-}
-
 /// Looks at the member of a name of an expression.
 #[cycle(walk)]
 fn form_member(
     walk: &mut Walk,
     name: &str,
     value: &Value,
-    layout: Option<&Layout>,
+    tree: Option<&Json<'_>>,
     depth: usize,
 ) -> Result<(), AllocError>
-    ensures { OnOk result (Looked (Want.Expr, view value.now) walk.old walk.new) }
+    ensures { OnOk result (is_single (view value.now) ≡ true
+        → Looked (Want.Expr, view value.now, written tree.entry) walk.old walk.new) }
 {
     let Some(inner) = value.get(name) else {
         return Ok(());
     };
     walk.enter(name)?;
-    form_value(walk, name, inner, last_layout(layout), depth)?;
+    form_value(walk, name, inner, member_tree(tree, name), depth)?;
     walk.leave();
     Ok(())
 }
@@ -276,14 +316,15 @@ fn form_value(
     walk: &mut Walk,
     name: &str,
     value: &Value,
-    layout: Option<&Layout>,
+    tree: Option<&Json<'_>>,
     depth: usize,
 ) -> Result<(), AllocError>
-    ensures { OnOk result ((d : Data) → get name.now d ≡ Some (view value.now)
-        → Within (Want.Expr, d) (step.Member name.now) walk.old walk.new) }
+    ensures { OnOk result ((d : Data) (t : Written) → get name.now d ≡ Some (view value.now)
+        → tree_part (step.Member name.now) t ≡ written tree.entry → is_single d ≡ true
+        → Within (Want.Expr, d, t) (step.Member name.now) walk.old walk.new) }
 {
     match form(name) {
-        Some(want) => look_at(walk, want, value, layout, depth),
+        Some(want) => look_at(walk, want, value, tree, depth),
         None => walk.note(Wrong::UnknownForm),
     }
 }
@@ -293,10 +334,10 @@ fn form_value(
 fn expr(
     walk: &mut Walk,
     value: &Value,
-    layout: Option<&Layout>,
+    tree: Option<&Json<'_>>,
     depth: usize,
 ) -> Result<(), AllocError>
-    ensures { OnOk result (Looked (Want.Expr, view value.now) walk.old walk.new) }
+    ensures { OnOk result (Looked (Want.Expr, view value.now, written tree.entry) walk.old walk.new) }
 {
     let Value::Object(members) = value else {
         return Ok(());
@@ -305,7 +346,7 @@ fn expr(
         return walk.note(Wrong::Members(members.len()));
     }
     for (name, _) in members.iter() {
-        form_member(walk, name.as_str(), value, layout, depth)?;
+        form_member(walk, name.as_str(), value, tree, depth)?;
     }
     Ok(())
 }
@@ -316,14 +357,14 @@ fn array(
     walk: &mut Walk,
     want: Want,
     value: &Value,
-    layout: Option<&Layout>,
+    tree: Option<&Json<'_>>,
     depth: usize,
 ) -> Result<(), AllocError>
-    ensures { OnOk result (Looked (want, view value.now) walk.old walk.new) }
+    ensures { OnOk result (Looked (want, view value.now, written tree.entry) walk.old walk.new) }
 {
     match want {
         Want::Foreign(Foreign::Edit) => look_at_edit(walk, value),
-        _ => array_items(walk, want, value, layout, depth),
+        _ => array_items(walk, want, value, tree, depth),
     }
 }
 
@@ -333,18 +374,18 @@ fn array_items(
     walk: &mut Walk,
     want: Want,
     value: &Value,
-    layout: Option<&Layout>,
+    tree: Option<&Json<'_>>,
     depth: usize,
 ) -> Result<(), AllocError>
-    ensures { OnOk result (Looked (want, view value.now) walk.old walk.new) }
+    ensures { OnOk result (Looked (want, view value.now, written tree.entry) walk.old walk.new) }
 {
     let Some(count) = value.array_len()? else {
         return Ok(());
     };
     if let Some((first, second)) = couple_wants(want) {
         if count == 2 {
-            item(walk, first, value, 0, layout, depth)?;
-            return item(walk, second, value, 1, layout, depth);
+            item(walk, first, value, 0, tree, depth)?;
+            return item(walk, second, value, 1, tree, depth);
         }
         return match want {
             Want::Foreign(Foreign::TwoFrames) => walk.note(Wrong::Frames(count)),
@@ -352,7 +393,7 @@ fn array_items(
         };
     }
     match item_want(want) {
-        Some(item) => items(walk, item, value, count, layout, depth),
+        Some(item) => items(walk, item, value, count, tree, depth),
         None => Ok(()),
     }
 }
@@ -364,25 +405,17 @@ fn items(
     want: Want,
     value: &Value,
     count: usize,
-    layout: Option<&Layout>,
+    tree: Option<&Json<'_>>,
     depth: usize,
 ) -> Result<(), AllocError>
     requires { count ≤ length (elements (view value.now)) }
     ensures { OnOk result ((w : Want) → ((i : ℕ) → item_wanted w i ≡ Some want)
-        → Looked (w, view value.now) walk.old walk.new) }
+        → Looked (w, view value.now, written tree.entry) walk.old walk.new) }
 {
     for i in 0..count {
-        item(walk, want, value, i, layout, depth)?;
+        item(walk, want, value, i, tree, depth)?;
     }
     Ok(())
-}
-
-/// The layout of an item of an array.
-fn item_layout(layout: Option<&Layout>, i: usize) -> Option<&Layout> {
-    match layout {
-        Some(layout) => layout.item(i),
-        None => None,
-    }
 }
 
 /// Looks at an item of an array.
@@ -392,19 +425,19 @@ fn item(
     want: Want,
     value: &Value,
     i: usize,
-    layout: Option<&Layout>,
+    tree: Option<&Json<'_>>,
     depth: usize,
 ) -> Result<(), AllocError>
     requires { i < length (elements (view value.now)) }
     ensures looked { OnOk result ((w : Want) → item_wanted w i ≡ Some want
-        → (walk.old.first ≡ None → AreGoodBefore (w, view value.now) i)
-        → Looked (w, view value.now) walk.old walk.new) }
+        → (walk.old.first ≡ None → AreGoodBefore (w, view value.now, written tree.entry) i)
+        → Looked (w, view value.now, written tree.entry) walk.old walk.new) }
     ensures good { OnOk result ((w : Want) → item_wanted w i ≡ Some want
-        → walk.new.first ≡ None → IsGoodItem (w, view value.now) i) }
+        → walk.new.first ≡ None → IsGoodItem (w, view value.now, written tree.entry) i) }
 {
     let found = value.item(walk.alloc, i)?;
     walk.enter_item(i)?;
-    look_at(walk, want, found.value(), item_layout(layout, i), depth)?;
+    look_at(walk, want, found.value(), item_tree(tree, i), depth)?;
     walk.leave();
     Ok(())
 }

@@ -1,20 +1,22 @@
 //! The first place of a value that isn't what a command reads, and what is told of it.
 
-ghost use Rattle.std.specs.Prelude.{◌≡◌, ◌↔◌, None, Some, true, false, IfOk, IfSome, OnOk};
+ghost use Rattle.std.specs.Prelude.{◌≡◌, ◌↔◌, None, Some, true, false, IfOk, IfSome, IsUtf8, OnOk};
 ghost use Rattle.pipe_value.specs.View.{view};
 ghost use Rattle.pipe_why_wants.specs.Wanted.{Misspells, SpellsJob};
+ghost use Rattle.pipe_why_value.specs.Order.{tree_of};
 ghost use Rattle.pipe_why_value.specs.Places.{IsTold, whole_want};
-ghost use Rattle.pipe_why_value.specs.Telling.{Tells};
+ghost use Rattle.pipe_why_value.specs.Telling.{TellsOf};
 ghost use Rattle.pipe_why_value.specs.declared.wrong.Misfit.{Misfit};
 
 use crate::edits::Tables;
 use crate::input_kind::InputKind;
 use crate::looking::look_at;
+use crate::order::tree_of;
 use crate::told::push_told;
 use crate::walk::Walk;
 use crate::wrong::{Misfit, Misfits, Wrong};
+use json::Scratch;
 use pipe_value::Value;
-use pipe_why_text::layout_of;
 use pipe_why_wants::{Foreign, Want, is_spelled};
 use std::alloc::{AllocError, Global};
 
@@ -67,8 +69,8 @@ pub fn misfits_of(
     value: &Value,
     kind: InputKind,
 ) -> Result<Misfits, AllocError>
-    ensures told { IfOk result
-        (λ misfits. IfSome misfits.first (IsTold (whole_want kind, view value.now))) }
+    ensures told { IfOk result (λ misfits.
+        IfSome misfits.first (IsTold (whole_want kind, view value.now, tree_of text.now))) }
     ensures none { IfOk result (λ misfits.
         kind ≡ InputKind.Job → ((misfits.first ≡ None) ↔ SpellsJob (view value.now))) }
 {
@@ -78,10 +80,11 @@ pub fn misfits_of(
             found: 0,
         });
     }
-    let layout = layout_of(alloc, text)?;
+    let mut scratch = Scratch::new(alloc);
+    let tree = tree_of(alloc, text, &mut scratch)?;
     let tables = tables_of(alloc, value, kind)?;
     let mut walk = Walk::new(alloc, is_wide(value), tables);
-    look_at(&mut walk, whole_of(kind), value, Some(&layout), DEPTH)?;
+    look_at(&mut walk, whole_of(kind), value, Some(&tree), DEPTH)?;
     Ok(walk.misfits())
 }
 
@@ -99,6 +102,16 @@ fn first_or_whole(alloc: Global, first: Option<Misfit>, kind: InputKind) -> Misf
     }
 }
 
+/// The text that the bytes are, the empty one where they are none.
+fn text_in(bytes: &[u8]) -> &str
+    ensures { IsUtf8 bytes.now → result.now ≡ bytes.now }
+{
+    match simdutf8::compat::from_utf8(bytes) {
+        Ok(text) => text,
+        Err(_) => "",
+    }
+}
+
 /// Appends the first place of the bytes at which their value isn't what an input of a kind is, and how many further
 /// ones there are; the whole, where no place tells it.
 pub fn push_misfit(
@@ -109,9 +122,9 @@ pub fn push_misfit(
     kind: InputKind,
 ) -> Result<(), AllocError>
     ensures { OnOk result (kind ≡ InputKind.Job → (SpellsJob (view value.now) → ⊥)
-        → Tells (whole_want kind, view value.now) out.old out.new) }
+        → TellsOf (whole_want kind) (view value.now) bytes.now out.old out.new) }
 {
-    let text = simdutf8::compat::from_utf8(bytes).unwrap_or("");
+    let text = text_in(bytes);
     let Misfits { first, found } = misfits_of(alloc, text, value, kind)?;
     let misfit = first_or_whole(alloc, first, kind);
     push_told(alloc, out, text, &misfit, found)

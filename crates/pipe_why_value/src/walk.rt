@@ -1,21 +1,24 @@
 //! The state of a walk through a value: where it stands, and what it has found.
 
-ghost use Rattle.std.specs.Prelude.{◌≡◌, ◌++◌, ◌∷◌, List, [], Some, None, true, IsSome, OnOk, codes, string_bytes};
+ghost use Rattle.std.specs.Prelude.{◌≡◌, ◌++◌, ◌∷◌, List, [], Some, None, true, IsSome, OnOk, codes};
+ghost use Rattle.json.specs.Json.{Json as Written};
 ghost use Rattle.serde_json.specs.Data.{Data, string};
 ghost use Rattle.serde_json.specs.Find.{at, get};
+ghost use Rattle.pipe_value.specs.Items.{IsArrayOf};
 ghost use Rattle.pipe_value.specs.View.{view};
 ghost use Rattle.pipe_job.specs.Shape.{text_in};
 ghost use Rattle.pipe_why_wants.specs.Members.{HasMember, members_in, members_of, plain, type_of};
 ghost use Rattle.pipe_why_wants.specs.Wanted.{SpellsJob, is_wanted};
-ghost use Rattle.pipe_why_value.specs.Places.{AreGoodBefore, IsFirstOfItems, IsOwn, IsWrong, PassGoodItems, wanted_at};
+ghost use Rattle.pipe_why_value.specs.Places.{AreGoodBefore, IsBadCell, IsFirst, IsOwn, IsWrong, PassGoodParts, Place, wanted_at};
 ghost use Rattle.pipe_why_value.specs.Walks.{Entered, Left, Looked, Noted};
 
-use crate::cells::{BadCells, bad_cells};
+use crate::cells::bad_cells;
 use crate::edits::Tables;
+use crate::order::Last;
 use crate::wrong::{Misfit, Misfits, Wrong};
 use pipe_frame::{DataType, Text};
 use pipe_value::Value;
-use pipe_why_text::{Placed, Step, copies};
+use pipe_why_text::{Step, copies};
 use pipe_why_wants::{Member, Want, is_spelled, type_named};
 use std::alloc::{AllocError, Global};
 
@@ -64,8 +67,8 @@ pub(crate) fn type_in(value: &Value) -> Option<DataType>
 }
 
 /// How many members stand twice on the way to a member, with so many on the way to its object.
-fn repeated_with(repeated: usize, placed: &Placed) -> usize {
-    if placed.stood_before {
+fn repeated_with(repeated: usize, last: Last) -> usize {
+    if last.is_repeated {
         repeated.saturating_add(1)
     } else {
         repeated
@@ -160,7 +163,7 @@ impl Walk {
 
     /// Takes note of a value that doesn't spell what is wanted, of whose parts nothing was noted.
     pub(crate) fn judge(&mut self, want: Want, value: &Value) -> Result<(), AllocError>
-        ensures looked { OnOk result (Looked (want, view value.now) self.old self.new) }
+        ensures looked { OnOk result ((t : Written) → Looked (want, view value.now, t) self.old self.new) }
         ensures good { OnOk result
             (self.new.first ≡ None → is_wanted want (view value.now) ≡ true) }
         ensures job { OnOk result
@@ -177,13 +180,12 @@ impl Walk {
     }
 
     /// Goes to a member that counts. What is given is for the way back.
-    pub(crate) fn enter_member(&mut self, placed: &Placed) -> Result<usize, AllocError>
-        ensures { OnOk result
-            (Entered (Step.Member (string_bytes placed.now.name)) self.old self.new) }
+    pub(crate) fn enter_member(&mut self, name: &str, last: Last) -> Result<usize, AllocError>
+        ensures { OnOk result (Entered (Step.Member name.now) self.old self.new) }
     {
         let repeated = self.repeated;
-        self.repeated = repeated_with(repeated, placed);
-        self.enter(placed.name.as_str())?;
+        self.repeated = repeated_with(repeated, last);
+        self.enter(name)?;
         Ok(repeated)
     }
 
@@ -197,11 +199,12 @@ impl Walk {
 
     /// Takes note of something wrong with an item.
     pub(crate) fn note_item(&mut self, i: usize, wrong: Wrong) -> Result<(), AllocError>
-        ensures { OnOk result ((p : Want × Data) (e : Data) → at i p.1 ≡ Some e
+        ensures looked { OnOk result ((p : Place) (e : Data) → at i p.1 ≡ Some e
             → (self.old.first ≡ None → AreGoodBefore p i)
             → ((steps : List Step) → IsWrong wrong steps e)
-            → ((root : Want × Data) (above : List Step) → wanted_at above root ≡ Some p
+            → ((root : Place) (above : List Step) → wanted_at above root ≡ Some p
             → IsOwn root wrong (above ++ Step.Item i ∷ [])) → Looked p self.old self.new) }
+        ensures some { OnOk result (IsSome self.new.first) }
     {
         self.enter_item(i)?;
         self.note(wrong)?;
@@ -211,13 +214,13 @@ impl Walk {
 
     /// Takes note of something wrong with a member of an item.
     pub(crate) fn note_at(&mut self, i: usize, name: &str, wrong: Wrong) -> Result<(), AllocError>
-        ensures { OnOk result ((p : Want × Data) (e f : Data)
+        ensures { OnOk result ((p : Place) (e f : Data)
             → at i p.1 ≡ Some e → get name.now e ≡ Some f
             → ((steps : List Step) → IsWrong wrong steps f)
-            → ((root : Want × Data) (above : List Step) → wanted_at above root ≡ Some p
+            → ((root : Place) (above : List Step) → wanted_at above root ≡ Some p
             → IsOwn root wrong (above ++ Step.Item i ∷ Step.Member name.now ∷ []))
-            → ((root : Want × Data) (above : List Step) → PassGoodItems above root
-            → IsFirstOfItems root wrong (above ++ Step.Item i ∷ Step.Member name.now ∷ []))
+            → ((root : Place) (above : List Step) → PassGoodParts above root
+            → IsFirst root wrong (above ++ Step.Item i ∷ Step.Member name.now ∷ []))
             → Looked p self.old self.new) }
     {
         self.enter_item(i)?;
@@ -232,7 +235,7 @@ impl Walk {
     fn missing_member(&mut self, member: &Member, value: &Value) -> Result<(), AllocError>
         ensures { OnOk result ((w : Want)
             → HasMember (members_of w (view value.now)) (plain member.now)
-            → Looked (w, view value.now) self.old self.new) }
+            → (t : Written) → Looked (w, view value.now, t) self.old self.new) }
     {
         match value.get(member.0) {
             Some(_) => Ok(()),
@@ -247,7 +250,7 @@ impl Walk {
         value: &Value,
     ) -> Result<(), AllocError>
         ensures { OnOk result ((w : Want) → members_in known.now ≡ members_of w (view value.now)
-            → Looked (w, view value.now) self.old self.new) }
+            → (t : Written) → Looked (w, view value.now, t) self.old self.new) }
     {
         for member in known {
             self.missing_member(member, value)?;
@@ -255,24 +258,20 @@ impl Walk {
         Ok(())
     }
 
-    /// Looks at the cells of a column.
-    pub(crate) fn cells(
+    /// Takes note of the first bad cell of a column, one of so many.
+    fn bad_cell(
         &mut self,
         dtype: DataType,
         parent: &Value,
-        value: &Value,
+        row: usize,
+        count: usize,
     ) -> Result<(), AllocError>
-        ensures { OnOk result (Looked (Want.Cells dtype, view value.now) self.old self.new) }
+        ensures looked { OnOk result ((d : Data) (t : Written) → IsBadCell dtype d row
+            → (self.old.first ≡ None → AreGoodBefore (Want.Cells dtype, d, t) row)
+            → Looked (Want.Cells dtype, d, t) self.old self.new) }
+        ensures some { OnOk result (IsSome self.new.first) }
     {
-        let alloc = self.alloc;
-        let Some(count) = value.array_len()? else {
-            return self.note(Wrong::Other(Want::Cells(dtype)));
-        };
-        let BadCells { first, count } = bad_cells(alloc, dtype, value, count)?;
-        let Some(row) = first else {
-            return Ok(());
-        };
-        let column = String::from_str(alloc, word_in(parent, "name"))?;
+        let column = String::from_str(self.alloc, word_in(parent, "name"))?;
         self.note_item(
             row,
             Wrong::Cell {
@@ -283,5 +282,44 @@ impl Walk {
         )?;
         self.found = self.found.saturating_add(count.saturating_sub(1));
         Ok(())
+    }
+
+    /// Looks at so many cells of a column.
+    fn counted_cells(
+        &mut self,
+        dtype: DataType,
+        parent: &Value,
+        value: &Value,
+        count: usize,
+    ) -> Result<(), AllocError>
+        requires { IsArrayOf (view value.now) count }
+        ensures looked { OnOk result
+            ((t : Written) → Looked (Want.Cells dtype, view value.now, t) self.old self.new) }
+        ensures good { OnOk result
+            (self.new.first ≡ None → is_wanted (Want.Cells dtype) (view value.now) ≡ true) }
+    {
+        let bad = bad_cells(self.alloc, dtype, value, count)?;
+        match bad.first {
+            Some(row) => self.bad_cell(dtype, parent, row, bad.count),
+            None => Ok(()),
+        }
+    }
+
+    /// Looks at the cells of a column.
+    pub(crate) fn cells(
+        &mut self,
+        dtype: DataType,
+        parent: &Value,
+        value: &Value,
+    ) -> Result<(), AllocError>
+        ensures looked { OnOk result
+            ((t : Written) → Looked (Want.Cells dtype, view value.now, t) self.old self.new) }
+        ensures good { OnOk result
+            (self.new.first ≡ None → is_wanted (Want.Cells dtype) (view value.now) ≡ true) }
+    {
+        match value.array_len()? {
+            Some(count) => self.counted_cells(dtype, parent, value, count),
+            None => self.note(Wrong::Other(Want::Cells(dtype))),
+        }
     }
 }

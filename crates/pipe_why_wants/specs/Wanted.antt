@@ -26,13 +26,13 @@ is_foreign foreign.Side d = is_one_of (codes "left" ∷ codes "right" ∷ []) d
 is_foreign foreign.Word d = is_one_of (codes "insert" ∷ codes "remove" ∷ []) d
 is_foreign foreign.Row d = is_some (as_array d)
 
--- whether a value spells what is wanted of it; of a whole job, a literal, the sides of an operator and the cells of a
--- column this is their outermost form, whose parts have tests of their own
+-- whether a value spells what is wanted of it; of a whole job, a literal and the sides of an operator this is their
+-- outermost form, whose parts have tests of their own
 abbrev pub is_wanted : Want → Data → Bool
 is_wanted want.Job d = is_object d
 is_wanted want.Literal d = is_object d
 is_wanted want.Sides d = is_couple d
-is_wanted (want.Cells t) d = is_some (as_array d)
+is_wanted (want.Cells t) d = is_list (is_cell t) d
 is_wanted want.Version d = is_version d
 is_wanted want.Whole32 d = is_unsigned 32 d
 is_wanted want.Whole64 d = is_unsigned 64 d

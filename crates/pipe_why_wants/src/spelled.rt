@@ -4,7 +4,7 @@ ghost use Rattle.std.specs.Prelude.{◌≡◌, true, false, is_some, IfOk};
 ghost use Rattle.serde_json.specs.Find.{as_array};
 ghost use Rattle.pipe_value.specs.View.{view};
 ghost use Rattle.pipe_job.specs.Kinds.{is_version};
-ghost use Rattle.pipe_job.specs.Shape.{is_cell, is_couple, is_exactly};
+ghost use Rattle.pipe_job.specs.Shape.{is_cell, is_couple, is_exactly, is_list};
 ghost use Rattle.pipe_why_wants.specs.Wanted.{HasShape, Misspells, SpellsJob, is_wanted};
 
 use crate::want::{Foreign, Want};
@@ -45,6 +45,25 @@ pub fn is_cell(alloc: Global, dtype: DataType, value: &Value) -> Result<bool, Al
         DataType::String => is_read::<Option<Text>>(alloc, value),
         DataType::Binary => is_read::<Option<Bytes>>(alloc, value),
         DataType::Int128 => is_read::<Option<i128>>(alloc, value),
+    }
+}
+
+/// Whether a value is an array of cells of a type.
+fn are_cells(alloc: Global, dtype: DataType, value: &Value) -> Result<bool, AllocError>
+    ensures no { IfOk result (λ holds.
+        holds ≡ false → is_list (is_cell dtype) (view value.now) ≡ false) }
+    ensures yes { IfOk result (λ holds.
+        holds ≡ true → is_list (is_cell dtype) (view value.now) ≡ true) }
+{
+    match dtype {
+        DataType::Int32 => is_read::<List<Option<i32>>>(alloc, value),
+        DataType::Int64 => is_read::<List<Option<i64>>>(alloc, value),
+        DataType::UInt32 => is_read::<List<Option<u32>>>(alloc, value),
+        DataType::UInt64 => is_read::<List<Option<u64>>>(alloc, value),
+        DataType::Boolean => is_read::<List<Option<bool>>>(alloc, value),
+        DataType::String => is_read::<List<Option<Text>>>(alloc, value),
+        DataType::Binary => is_read::<List<Option<Bytes>>>(alloc, value),
+        DataType::Int128 => is_read::<List<Option<i128>>>(alloc, value),
     }
 }
 
@@ -234,7 +253,7 @@ pub fn is_spelled(alloc: Global, want: Want, value: &Value) -> Result<bool, Allo
         Want::Frame => is_read::<DataFrame>(alloc, value),
         Want::Frames => is_read::<List<DataFrame>>(alloc, value),
         Want::Sides => is_couple(alloc, value),
-        Want::Cells(_) => is_array(value),
+        Want::Cells(dtype) => are_cells(alloc, dtype, value),
         Want::Job => is_job(alloc, value),
         Want::Literal => Ok(is_object(value)),
         Want::Foreign(foreign) => is_foreign_spelled(alloc, foreign, value),

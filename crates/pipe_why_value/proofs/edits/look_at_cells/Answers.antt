@@ -15,6 +15,6 @@ returns c =
     let place = c.in-Some.place in
     let bad = subst (λ f. IfSome f (IsBadPair d)) c.in-Some.is c.in_ok-place.ensures in
     on_ok c.note_item.result
-    (λ looked. looked (want.Foreign foreign.Row, d) (slice_index_or (elements d) place null) (item_there d place bad.0) (λ none. row_cells d place) (λ steps. bad.1)
-    (λ root above here. record { above = above; place = place; steps_are = refl; stands = inr (d, here) }))
-    c.note_item.ensures
+    (λ looked t. looked (want.Foreign foreign.Row, d, t) (slice_index_or (elements d) place null) (item_there d place bad.0) (λ none. row_cells d t place) (λ steps. bad.1)
+    (λ root above here. record { above = above; place = place; steps_are = refl; stands = inr (d, t, here) }))
+    c.note_item.ensures.looked

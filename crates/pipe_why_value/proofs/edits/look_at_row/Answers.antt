@@ -15,5 +15,5 @@ returns-in-None c =
     let none : as_array d ≡ None = subst (λ f. MatchOption f (as_array d ≡ None) (IsArrayOf d)) c.in-None.is c.in_ok-cells.ensures in
     let bad : is_some (as_array d) ≡ false = ap is_some none in
     on_ok c.note.result
-    (λ noted. noted_here (want.Foreign foreign.Row, d) (wrong.Other (want.Foreign foreign.Row)) c.args.walk.now c.note.new.self noted bad (λ root here. (d, here)))
+    (λ noted t. noted_here (want.Foreign foreign.Row, d, t) (wrong.Other (want.Foreign foreign.Row)) c.args.walk.now c.note.new.self noted bad (λ root here. (d, t, here)))
     c.note.ensures.noted

@@ -9,5 +9,5 @@ pub returns-then-cells-columns : goal.returns-then-cells-columns
 returns-then-cells-columns c =
     let d = view c.args.row.now in
     on_ok c.note.result
-    (λ noted. noted_here (want.Foreign foreign.Row, d) _ c.args.walk.now c.note.new.self noted (sym c.requires, c.if-cells-columns.true) (λ root here. (d, here)))
+    (λ noted t. noted_here (want.Foreign foreign.Row, d, t) _ c.args.walk.now c.note.new.self noted (sym c.requires, c.if-cells-columns.true) (λ root here. (d, t, here)))
     c.note.ensures.noted

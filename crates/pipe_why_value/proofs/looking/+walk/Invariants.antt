@@ -4,7 +4,9 @@ use Rattle.pipe_why_wants.specs.Members.{item_wanted, members_in, members_of}
 use Rattle.pipe_why_wants.specs.declared.want.Want.{Want}
 use Rattle.pipe_why_wants.specs.declared.want.Want.TheVariants as want
 use Rattle.pipe_why_value.specs.Places.{AreGoodBefore}
+use Rattle.pipe_why_value.specs.Order.{names_in, written}
 use Rattle.pipe_why_value.specs.Walks.{Looked}
+use Rattle.pipe_why_value.proofs.Orders.{AreGoodLasts}
 use Rattle.pipe_why_value.proofs.looking.+walk.Given as goal
 
 abbrev pub decreases-look_at : goal.decreases-look_at
@@ -50,16 +52,22 @@ abbrev pub decreases-item : goal.decreases-item
 decreases-item l = 20 * l.depth + 12
 
 abbrev pub decreases-member_value : goal.decreases-member_value
-decreases-member_value l = 20 * l.depth + 11
+decreases-member_value l = 20 * l.depth + 10
+
+abbrev pub decreases-last_member : goal.decreases-last_member
+decreases-last_member l = 20 * l.depth + 11
 
 abbrev pub invariant-items-loop-i : goal.invariant-items-loop-i
 invariant-items-loop-i l = (w : Want) → ((i : ℕ) → item_wanted w i ≡ Some l.want) → record {
-  looked : Looked (w, view l.value) l.fn.walk l.walk;
-  good : l.walk.first ≡ None → AreGoodBefore (w, view l.value) l.i;
+  looked : Looked (w, view l.value, written l.fn.tree) l.fn.walk l.walk;
+  good : l.walk.first ≡ None → AreGoodBefore (w, view l.value, written l.fn.tree) l.i;
 }
 
-abbrev pub invariant-placed_members-loop-placed : goal.invariant-placed_members-loop-placed
-invariant-placed_members-loop-placed l = (w : Want) → members_in l.known ≡ members_of w (view l.value) → Looked (w, view l.value) l.fn.walk l.walk
+abbrev pub invariant-placed_members-loop-i : goal.invariant-placed_members-loop-i
+invariant-placed_members-loop-i l = (w : Want) → members_in l.known ≡ members_of w (view l.value) → record {
+  looked : Looked (w, view l.value, written l.fn.tree) l.fn.walk l.walk;
+  good : l.walk.first ≡ None → AreGoodLasts (w, view l.value, written l.fn.tree) (names_in l.members) l.i;
+}
 
 abbrev pub invariant-expr-loop-name : goal.invariant-expr-loop-name
-invariant-expr-loop-name l = Looked (want.Expr, view l.value) l.fn.walk l.walk
+invariant-expr-loop-name l = Looked (want.Expr, view l.value, written l.fn.tree) l.fn.walk l.walk

@@ -10,8 +10,8 @@ pub returns-then-count-eq0 : goal.returns-then-count-eq0
 returns-then-count-eq0 c =
     let d = view c.args.columns.now in
     on_ok c.note.result
-    (λ noted. noted_here (want.Columns, d) wrong.NoColumns c.args.walk.now c.note.new.self noted (empty (elements d) (sym c.requires ∙ c.if-count-eq0.true)) (λ root here. (d, here)))
+    (λ noted t. noted_here (want.Columns, d, t) wrong.NoColumns c.args.walk.now c.note.new.self noted (empty (elements d) (sym c.requires ∙ c.if-count-eq0.true)) (λ root here. (d, t, here)))
     c.note.ensures.noted
 
 pub returns-else-count-eq0 : goal.returns-else-count-eq0
-returns-else-count-eq0 c = looked_none (want.Columns, view c.args.columns.now) c.args.walk.now _ refl refl
+returns-else-count-eq0 c = λ t. looked_none (want.Columns, view c.args.columns.now, t) c.args.walk.now _ refl refl

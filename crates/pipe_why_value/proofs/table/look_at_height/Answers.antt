@@ -8,7 +8,7 @@ pub returns : goal.returns
 returns c =
     let d = view c.args.columns.now in
     on_ok c.note_at.result
-    (λ looked. looked (want.Columns, d) (view c.value.result.now) (view c.in-Some.values.now)
+    (λ looked t. looked (want.Columns, d, t) (view c.value.result.now) (view c.in-Some.values.now)
     (item_there d c.args.i c.requires ∙ ap Some (sym (c.value.ensures ∙ c.in_ok-column.ensures)))
     (sym c.in-Some.ensures)
     (λ steps. (sym c.in_ok-cells.ensures, c.if-cells-wanted.false)) (λ root above here. tt)

@@ -5,7 +5,7 @@ use Rattle.pipe_why_value.proofs.Looks.{looked_none, looked_twice}
 use Rattle.pipe_why_value.proofs.table.look_at_heights.Goals as goal
 
 pub loop-i-init : goal.loop-i-init
-loop-i-init c = looked_none (want.Columns, view c.args.columns.now) c.args.walk.now _ refl refl
+loop-i-init c = λ t. looked_none (want.Columns, view c.args.columns.now, t) c.args.walk.now _ refl refl
 
 pub loop-i-preserved : goal.loop-i-preserved
-loop-i-preserved c = looked_twice (want.Columns, view c.args.columns.now) c.args.walk.now c.loop-i.walk _ c.loop-i.invariant c.in_ok-look_at_height.ensures
+loop-i-preserved c = λ t. looked_twice (want.Columns, view c.args.columns.now, t) c.args.walk.now c.loop-i.walk _ (c.loop-i.invariant t) (c.in_ok-look_at_height.ensures t)

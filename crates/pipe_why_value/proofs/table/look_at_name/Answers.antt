@@ -21,13 +21,14 @@ returns-in-Some-2-clause-looked c =
     let here : name_at d i ≡ bytes = ap (λ e. text_in (get (codes "name") e)) column ∙ sym (ap text_in c.in-Some.ensures) ∙ sym (c.in_ok-name.ensures.ok ∙ c.text_of.ensures) in
     let was = c.requires.names bytes c.in-Some-2.earlier (sym c.in_ok-earlier.ensures.old ∙ c.in-Some-2.is) in
     on_ok c.note_at.result
-    (λ looked. looked (want.Columns, d) (view c.value.result.now) (view c.in-Some.name.now)
+    (λ looked t. looked (want.Columns, d, t) (view c.value.result.now) (view c.in-Some.name.now)
     (item_there d i c.requires.place ∙ ap Some column)
     (sym c.in-Some.ensures)
     (λ steps. tt)
     (λ root above at. record {
       above = above;
       columns = d;
+      tree = t;
       place = i;
       steps_are = refl;
       stands = at;

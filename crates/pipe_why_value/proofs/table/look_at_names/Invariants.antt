@@ -1,3 +1,4 @@
+use Rattle.json.specs.Json.{Json}
 use Rattle.pipe_value.specs.View.{view}
 use Rattle.pipe_why_wants.specs.declared.want.Want.TheVariants as want
 use Rattle.pipe_why_value.specs.Walks.{AreNames, Looked}
@@ -5,6 +6,6 @@ use Rattle.pipe_why_value.proofs.table.look_at_names.Given as goal
 
 abbrev pub invariant-loop-i : goal.invariant-loop-i
 invariant-loop-i l = record {
-  looked : Looked (want.Columns, view l.columns) l.fn.walk l.walk;
+  looked : (t : Json) → Looked (want.Columns, view l.columns, t) l.fn.walk l.walk;
   names : AreNames (view l.columns) l.i l.names;
 }

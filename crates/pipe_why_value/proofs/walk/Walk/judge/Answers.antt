@@ -9,8 +9,8 @@ pub returns-then-is_too_wide-clause-looked : goal.returns-then-is_too_wide-claus
 returns-then-is_too_wide-clause-looked c =
     let d = view c.args.value.now in
     on_ok c.note.result
-    (λ noted. noted_here (c.args.want, d) wrong.Wide c.args.self.now c.note.new.self noted (c.is_too_wide.ensures.value c.if-is_too_wide.true)
-    (λ root here. (d, here ∙ ap (λ (w : Want). Some (w, d)) (c.is_too_wide.ensures.want c.if-is_too_wide.true))))
+    (λ noted t. noted_here (c.args.want, d, t) wrong.Wide c.args.self.now c.note.new.self noted (c.is_too_wide.ensures.value c.if-is_too_wide.true)
+    (λ root here. (d, t, here ∙ ap (λ (w : Want). Some (w, d, t)) (c.is_too_wide.ensures.want c.if-is_too_wide.true))))
     c.note.ensures.noted
 
 pub returns-then-is_too_wide-clause-job : goal.returns-then-is_too_wide-clause-job
@@ -26,7 +26,7 @@ pub returns-clause-good : goal.returns-clause-good
 returns-clause-good c = on_ok c.note-2.result (λ some none. absurd (some_none c.note-2.new.self.first some none)) c.note-2.ensures.some
 
 pub returns-then-holds-clause-looked : goal.returns-then-holds-clause-looked
-returns-then-holds-clause-looked c = looked_none (c.args.want, view c.args.value.now) c.args.self.now _ refl refl
+returns-then-holds-clause-looked c = λ t. looked_none (c.args.want, view c.args.value.now, t) c.args.self.now _ refl refl
 
 pub returns-then-holds-clause-job : goal.returns-then-holds-clause-job
 returns-then-holds-clause-job c = λ none want. c.in_ok-holds.ensures.job c.if-holds.true want
@@ -35,7 +35,7 @@ pub returns-clause-looked : goal.returns-clause-looked
 returns-clause-looked c =
     let d = view c.args.value.now in
     on_ok c.note-2.result
-    (λ noted. noted_here (c.args.want, d) (wrong.Other c.args.want) c.args.self.now c.note-2.new.self noted (c.in_ok-holds.ensures.no c.if-holds.false) (λ root here. (d, here)))
+    (λ noted t. noted_here (c.args.want, d, t) (wrong.Other c.args.want) c.args.self.now c.note-2.new.self noted (c.in_ok-holds.ensures.no c.if-holds.false) (λ root here. (d, t, here)))
     c.note-2.ensures.noted
 
 pub returns-clause-job : goal.returns-clause-job

@@ -4,9 +4,9 @@ use Rattle.pipe_why_value.proofs.Looks.{looked_none, looked_twice, member_by_sli
 use Rattle.pipe_why_value.proofs.walk.Walk.missing.Goals as goal
 
 pub loop-member-init : goal.loop-member-init
-loop-member-init c = λ w table. looked_none (w, view c.args.value.now) c.args.self.now _ refl refl
+loop-member-init c = λ w table t. looked_none (w, view c.args.value.now, t) c.args.self.now _ refl refl
 
 pub loop-member-preserved : goal.loop-member-preserved
-loop-member-preserved c = λ w table.
-    looked_twice (w, view c.args.value.now) c.args.self.now c.loop-member.self _ (c.loop-member.invariant w table)
-    (c.in_ok-missing_member.ensures w (search (member_there, member_by_slice, table, c.loop-member-test.true)))
+loop-member-preserved c = λ w table t.
+    looked_twice (w, view c.args.value.now, t) c.args.self.now c.loop-member.self _ (c.loop-member.invariant w table t)
+    (c.in_ok-missing_member.ensures w (search (member_there, member_by_slice, table, c.loop-member-test.true)) t)

@@ -8,6 +8,6 @@ pub returns-in-None : goal.returns-in-None
 returns-in-None c =
     let d = view c.args.value.now in
     on_ok c.note.result
-    (λ noted w has. noted_here (w, d) (wrong.Missing c.args.member.now.0 c.args.member.now.1) c.args.self.now c.note.new.self noted (sym c.in-None.ensures)
-    (λ root here. record { object = (w, d); stands = here; has = has }))
+    (λ noted w has t. noted_here (w, d, t) (wrong.Missing c.args.member.now.0 c.args.member.now.1) c.args.self.now c.note.new.self noted (sym c.in-None.ensures)
+    (λ root here. record { object = (w, d, t); stands = here; has = has }))
     c.note.ensures.noted
