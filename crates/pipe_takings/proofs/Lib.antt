@@ -4,3 +4,4 @@ pub mod Sources
 pub mod Parts
 pub mod Kept
 pub mod GoingOn
+pub mod Few

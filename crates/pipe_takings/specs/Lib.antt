@@ -4,5 +4,7 @@ pub mod Notes
 pub mod Noted
 -- what a source gave, round by round
 pub mod Rounds
+-- how often workers take to a question
+pub mod Paced
 -- the laws
 pub mod Laws

@@ -1,6 +1,7 @@
 //! The laws of what lanes noted.
 
 ghost use Rattle.pipe_takings.specs.Laws.{NotesBegin, NotesGoOn, SourcesAreTaken, JoinsAreFlushed};
+ghost use Rattle.pipe_takings.specs.Laws.{TakesAreFew, FlushesTakeNothing};
 
 /// Before the first round nothing is noted.
 pub fn notes_begin()
@@ -22,4 +23,15 @@ pub fn sources_are_taken()
 /// once.
 pub fn joins_are_flushed()
     ensures { JoinsAreFlushed }
+{}
+
+/// Where the chunks of a source went through rounds of lanes, what they noted are at most as many takes a round as a
+/// batch has chunks, each of some rows, at most as many as a chunk has.
+pub fn takes_are_few()
+    ensures { TakesAreFew }
+{}
+
+/// Where the partitions of a join went to lanes, what they noted has no take.
+pub fn flushes_take_nothing()
+    ensures { FlushesTakeNothing }
 {}

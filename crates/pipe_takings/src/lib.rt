@@ -11,7 +11,10 @@ mod noting;
 mod writing;
 
 pub use draining::drain_notes;
-pub use laws::{joins_are_flushed, notes_begin, notes_go_on, sources_are_taken};
+pub use laws::{
+    flushes_take_nothing, joins_are_flushed, notes_begin, notes_go_on, sources_are_taken,
+    takes_are_few,
+};
 pub use note::Note;
 pub use noting::{noted_flush, noted_round};
 pub use writing::{write_flushes, write_takes};
