@@ -58,7 +58,9 @@ fn branch_lines<T: Threads + Sync>(
         threads: rt,
         gate: &OpenGate,
     };
-    let ran = run_branches(alloc, &tools, &mut NeverStop::new(), plan, context, Fnv);
+    let mut stop = NeverStop::new();
+    let mut journal = Vec::new(alloc);
+    let ran = run_branches(alloc, &tools, &mut stop, plan, context, Fnv, &mut journal);
     let Tools {
         threads: _,
         gate: _,

@@ -27,7 +27,7 @@ counts-pick : (t : Bool) (k a b : ℕ) → b ≡ (if t then last_count else (a +
 counts-pick true k a b e = inr (omega (arith, e))
 counts-pick false k a b e = inl (omega (arith, e))
 
-counts-one : (k a b : ℕ) → b ≡ counted k a → Counts k a b
+pub counts-one : (k a b : ℕ) → b ≡ counted k a → Counts k a b
 counts-one k a b e = counts-pick _ k a b e
 
 rises-none : (a : ℕ) → RisesBy 0 a a

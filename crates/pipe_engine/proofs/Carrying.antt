@@ -1,7 +1,7 @@
 -- Lanes through which rows went are those of a leg as before.
 use Rattle.std.proofs.Common.{◌≡◌, ℕ, zero, suc, ◌+◌, ◌<◌, ◌≤◌, List, [], ◌∷◌, ◌++◌, length, map, get_or, refl, sym, ap, subst, ◌∙◌, arith, Option, None}
 use Rattle.std.specs.Prelude.{All}
-use Rattle.std.specs.List.{flat_map}
+use Rattle.std.specs.List.{flat_map, AllByRecursion}
 use Rattle.pipe_frame.specs.Rows.{Row}
 use Rattle.pipe_frame.specs.Weights.{total}
 use Rattle.pipe_frame.specs.declared.field.Field.{Field}
@@ -25,6 +25,7 @@ use Rattle.pipe_slots.specs.declared.phys_operator.PhysOperator.{PhysOperator}
 use Rattle.pipe_slots.specs.declared.slot.Slot.{Slot}
 use Rattle.pipe_passage.specs.Passages.{phys_words, acts_now, IsPassing, GivesSchemas, schemas_of}
 use Rattle.pipe_passage.specs.LaneSeats.{sum_of, AllRest}
+use Rattle.pipe_takings.specs.Notes.{HasNothing}
 use Rattle.pipe_passage.proofs.Opened.{rest-length}
 use Rattle.pipe_engine.specs.Carried.{Carried}
 use Rattle.pipe_sinks.specs.Sinks.{SinkSetting, setting_in, sink_rows}
@@ -115,9 +116,9 @@ all_grown_after (k ∷ c) (x ∷ a) (y ∷ b) (z ∷ m) e g = (grown_after k x y
 -- ---- all of it
 
 pub carry : {H : Type 0} (hash_of : H → List ℕ → ℕ) (limit : ℕ) (from : List Field) (rows : List Row) (old new : Lanes H) (ss : List (Slot H)) (free : List (List SeatMarks))
-    → IsPassing hash_of sink_words limit from old ss free → DoTheSame (phys_words hash_of) sink_words old new → AreAlike (phys_words hash_of) from ss new → All (IsFit (phys_words hash_of) sink_words ss limit from) new → All IsCalm new → AllWithin limit (counts_in new)
+    → IsPassing hash_of sink_words limit from old ss free → DoTheSame (phys_words hash_of) sink_words old new → AreAlike (phys_words hash_of) from ss new → All (IsFit (phys_words hash_of) sink_words ss limit from) new → All IsCalm new → AllWithin limit (counts_in new) → AllByRecursion HasNothing new
     → WentAll (phys_words hash_of) sink_words ss from rows old new → Carried hash_of limit from rows old new ss free
-carry {H = H} hash_of limit from rows old new ss free was same alike fit calm within went =
+carry {H = H} hash_of limit from rows old new ss free was same alike fit calm within none went =
     let long = same_length hash_of old new same.lanes in
     let many = works_many hash_of limit from ss old was.some was.fit in
     let acts_long = grown-length (acts_in (phys_words hash_of) old) (acts_in (phys_words hash_of) new) went.acts went.grown in
@@ -145,15 +146,17 @@ carry {H = H} hash_of limit from rows old new ss free was same alike fit calm wi
         schemas = was.schemas;
         gives = λ i d less. schemas_same hash_of from (lane_operators (get_or old i d)) (lane_operators (get_or new i d)) (same_at hash_of old new same.lanes i d less).work.each ∙ was.gives i d (below i less);
         rest = subst L (sym long) was.rest;
+        noted_none = none;
       };
+      long = long;
       settings = λ s is. λ i d less. (same_at hash_of old new same.lanes i d less).setting ∙ is i d (below i less);
       gives = λ schemas is. λ i d less. schemas_same hash_of from (lane_operators (get_or old i d)) (lane_operators (get_or new i d)) (same_at hash_of old new same.lanes i d less).work.each ∙ is i d (below i less);
     }
 
 -- the same of what a source has left, whose first frame has the schema
 pub carry_left : {H : Type 0} (hash_of : H → List ℕ → ℕ) (limit : ℕ) (from : List Field) (left : List Left) (old new : Lanes H) (ss : List (Slot H)) (free : List (List SeatMarks))
-    → schema_left left ≡ from → IsPassing hash_of sink_words limit from old ss free → DoTheSame (phys_words hash_of) sink_words old new → AreAlike (phys_words hash_of) (schema_left left) ss new → All (IsFit (phys_words hash_of) sink_words ss limit (schema_left left)) new → All IsCalm new → AllWithin limit (counts_in new)
+    → schema_left left ≡ from → IsPassing hash_of sink_words limit from old ss free → DoTheSame (phys_words hash_of) sink_words old new → AreAlike (phys_words hash_of) (schema_left left) ss new → All (IsFit (phys_words hash_of) sink_words ss limit (schema_left left)) new → All IsCalm new → AllWithin limit (counts_in new) → AllByRecursion HasNothing new
     → WentAll (phys_words hash_of) sink_words ss (schema_left left) (left_rows left) old new → Carried hash_of limit from (left_rows left) old new ss free
-carry_left {H = H} hash_of limit from left old new ss free e was same alike fit calm within went =
+carry_left {H = H} hash_of limit from left old new ss free e was same alike fit calm within none went =
     let P : List Field → Type 0 = λ z. IsPassing hash_of sink_words limit z old ss free → Carried hash_of limit z (left_rows left) old new ss free in
-    (subst P e (λ known. carry hash_of limit (schema_left left) (left_rows left) old new ss free known same alike fit calm within went)) was
+    (subst P e (λ known. carry hash_of limit (schema_left left) (left_rows left) old new ss free known same alike fit calm within none went)) was

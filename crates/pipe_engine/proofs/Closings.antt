@@ -26,7 +26,7 @@ use Rattle.pipe_driver.proofs.Drives.{run_with, ways_append}
 none_left : {R S P : Type 0} (k : Task) (run : Run R S P) (a : SinkAt) (count : ℕ) → count ≡ k.number (sink_of k a) → number_at run.counts.left.items count ≡ 0 → (counts_as k run).sinks (sink_of k a) ≡ 0
 none_left k run a count e none = sym (ap (number_at run.counts.left.items) e) ∙ none
 
-done_with : {R S P : Type 0} (r : RunnerWords R S P) (k : Task) (old : Run R S P) (runner : R) (a : SinkAt) (count : ℕ) (result : FinalizedSink (Unit {0}) S) (todo : List (PipeLine S P)) → (is : Feeds r k old a todo)
+pub done_with : {R S P : Type 0} (r : RunnerWords R S P) (k : Task) (old : Run R S P) (runner : R) (a : SinkAt) (count : ℕ) (result : FinalizedSink (Unit {0}) S) (todo : List (PipeLine S P)) → (is : Feeds r k old a todo)
     → number_at old.counts.left.items count ≡ 0 → IsSinkOf k.m (sink_of k a) a → count ≡ k.number (sink_of k a) → Finalizes r.brings a (r.fits old.runner) (r.fits runner) result → Becomes (r.fits runner k.m) (Closes r.brings k.m is.w a result)
 done_with r k old runner a count result todo is none sink number did = did k.m is.w is.fits sink (is.fed.closed (none_left k old a count number none)) is.empty
 
@@ -107,7 +107,7 @@ close_alone r k old runner parked (at.Sort n) count source todo sound is none si
       same,
     )
 
-takes_as : {S P : Type 0} (o n : ℕ) (q : PipeLine S P) (old new : List (PipeLine S P)) → Unparks n q old new → TakesOut n (way_as o q) (ways_as o old) (ways_as o new)
+pub takes_as : {S P : Type 0} (o n : ℕ) (q : PipeLine S P) (old new : List (PipeLine S P)) → Unparks n q old new → TakesOut n (way_as o q) (ways_as o old) (ways_as o new)
 takes_as o n q old new out = record {
   before = ways_as o out.before;
   after = ways_as o out.after;
@@ -116,11 +116,11 @@ takes_as o n q old new out = record {
   start = out.start;
 }
 
-all_front : {A : Type 0} (P : A → Type 0) (a b : List A) → AllByRecursion P (a ++ b) → AllByRecursion P a
+pub all_front : {A : Type 0} (P : A → Type 0) (a b : List A) → AllByRecursion P (a ++ b) → AllByRecursion P a
 all_front P [] b h = tt
 all_front P (x ∷ a) b h = (h.0, all_front P a b h.1)
 
-all_back : {A : Type 0} (P : A → Type 0) (a b : List A) → AllByRecursion P (a ++ b) → AllByRecursion P b
+pub all_back : {A : Type 0} (P : A → Type 0) (a b : List A) → AllByRecursion P (a ++ b) → AllByRecursion P b
 all_back P [] b h = h
 all_back P (x ∷ a) b h = all_back P a b h.1
 

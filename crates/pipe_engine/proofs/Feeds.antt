@@ -32,7 +32,7 @@ sink_some r k run at count todo is e =
 numbered_as : (k : Task) (old new : List ℕ) → length new ≡ length old → AreNumbered k old → AreNumbered k new
 numbered_as k old new e is = record { apart = λ s t lt same. is.apart s t (omega arith) same }
 
-sink_lowered : (k : Task) (s count left : ℕ) (old new : List ℕ) → AreNumbered k old → count ≡ k.number s → 0 < number_at old count → Lowered count left old new → IsLowered s (λ t. number_at old (k.number t)) (λ t. number_at new (k.number t))
+pub sink_lowered : (k : Task) (s count left : ℕ) (old new : List ℕ) → AreNumbered k old → count ≡ k.number s → 0 < number_at old count → Lowered count left old new → IsLowered s (λ t. number_at old (k.number t)) (λ t. number_at new (k.number t))
 sink_lowered k s count left old new numbered e some low =
     let there = positive_in old count some in
     let at_s : number_at new (k.number s) ≡ left = chosen (k.number s) count (number_at new (k.number s)) left (number_at old (k.number s)) (low.all (k.number s)) (sym e) in

@@ -3,6 +3,7 @@ use Rattle.std.proofs.Common.{◌≡◌, ◌≢◌, ℕ, zero, suc, ◌+◌, ◌
 use Rattle.std.specs.Prelude.{All}
 use Rattle.std.specs.List.{flat_map, AllByRecursion}
 use Rattle.std.specs.Global.{Vec}
+use Rattle.pipe_events.specs.declared.event.Event.{Event}
 use Rattle.pipe_frame.specs.Frame.{Table}
 use Rattle.pipe_frame.specs.Rows.{Row, Same}
 use Rattle.pipe_frame.specs.Weights.{total}
@@ -113,8 +114,8 @@ beside_sink there kept came h k = record {
 abbrev pub with_given : {H : Type 0} → Engine H → Vec ℕ → Engine H
 with_given e given = record e { given = given }
 
-abbrev pub with_leg : {H : Type 0} → Engine H → Slots H → Option (OpenLeg H) → ℕ → Engine H
-with_leg e slots leg index = record e { slots = slots; leg = leg; next_index = index }
+abbrev pub with_leg : {H : Type 0} → Engine H → Slots H → Option (OpenLeg H) → ℕ → Vec Event → Engine H
+with_leg e slots leg index journal = record e { slots = slots; leg = leg; next_index = index; journal = journal }
 
 pub rest_kept : {H : Type 0} (k : Bool) (s t : Slot H) (a b : List SeatMarks) → s ≡ cond k slot.Empty t → a ≡ cond k [] b → IsRest 0 t b → IsRest 0 s a
 rest_kept {H = H} true s t a b e g is = let P : Slot H → Type 0 = λ z. IsRest 0 z a in subst P (sym e) tt
@@ -145,16 +146,16 @@ is_taken x m w given sts ops at b j s t acts are on e is = by_test (s ≡ slot.E
     (λ k. e ∙ ap (λ z. cond z slot.Empty t) k)
     (λ k. e ∙ ap (λ z. cond z slot.Empty t) k ∙ empty_of x m w j t acts (not_placed x m given sts ops at b j are on k) is)
 
-pub run_fits : {H : Type 0} (hash_of : H → List ℕ → ℕ) (x : Settings H) (old : Engine H) (source : PhysSource) (part : Part H) (p : Passage H (PhysSink H)) (seats : List (List SeatMarks)) (lanes : Vec (Lane (PhysOperator H) (PhysSink H))) (slots : Slots H) (index : ℕ) (from : List Field) (frame whole : Option Table)
-    → HasFrame source frame → IsKeptFrame part.at part.stages.items frame whole
+pub run_fits : {H : Type 0} (hash_of : H → List ℕ → ℕ) (x : Settings H) (old : Engine H) (source : PhysSource) (part : Part H) (p : Passage H (PhysSink H)) (seats : List (List SeatMarks)) (lanes : Vec (Lane (PhysOperator H) (PhysSink H))) (slots : Slots H) (index : ℕ) (journal : Vec Event) (from : List Field) (frame whole : Option Table)
+    → length p.lanes.items ≤ old.context.workers → HasFrame source frame → IsKeptFrame part.at part.stages.items frame whole
     → IsTaken (operators_of part.stages.items) old.slots slots p.shared.items seats
     → HasOpened hash_of sink_words old.context.row_limit part.stages.items part.basin p.shared.items seats p.seats.items p.lanes.items
     → ((start : ℕ) (ops : List ℕ) → nodes_in p.lanes.items ≡ start ∷ ops → from ≡ x.schema_at start)
     → Carried hash_of old.context.row_limit from (left_rows (left_of source)) p.lanes.items lanes.items p.shared.items p.seats.items
     → old.leg ≡ None
-    → RunsLeg (Brings source x) (StandsFor part x) (Fits hash_of old x) (Fits hash_of (with_leg old slots (Some (record { at = part.at; passage = record p { lanes = lanes }; sink = part.basin.sink; whole = whole })) index) x)
+    → RunsLeg (Brings source x) (StandsFor part x) (Fits hash_of old x) (Fits hash_of (with_leg old slots (Some (record { at = part.at; passage = record p { lanes = lanes }; sink = part.basin.sink; whole = whole })) index journal) x)
     (IsBefore (Some (record { at = part.at; passage = record p { lanes = lanes }; sink = part.basin.sink; whole = whole })))
-run_fits {H = H} hash_of x old source part p seats lanes slots index from frame whole has kept taken opened from_is carried idle m w start leg fits stands brings above above_sink built =
+run_fits {H = H} hash_of x old source part p seats lanes slots index journal from frame whole few has kept taken opened from_is carried idle m w start leg fits stands brings above above_sink built =
     let sound = fits.sound in
     let sts = part.stages.items in
     let b = part.basin in
@@ -251,6 +252,7 @@ run_fits {H = H} hash_of x old source part p seats lanes slots index from frame 
                 (λ none. into_empty (flat_map (held_in sink_rows) p.lanes.items) (left_rows (left_of source)) went.out held1 opened.empty
                 (flows_none ks acting (left_rows (left_of source)) went.out (opened.works (x.schema_at start) ∙ ap (λ z. works_of (phys_words hash_of) (x.schema_at start) (operators_of z) ss) none ∙ no_works (phys_words hash_of) (x.schema_at start) ss) went.flows) went.held);
             place = frame_place x m start source part.at sts ops b frame whole has kept stands.stages brings stands.order;
+            few = (let long = went.long in omega arith);
           };
         };
         is = record {

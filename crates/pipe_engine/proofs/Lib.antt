@@ -25,9 +25,15 @@ pub mod SpecFound
 pub mod SourceSends
 pub mod Asked
 pub mod Paces
+pub mod Pacing
 pub mod Schemas
 pub mod Counted
 pub mod Limits
+pub mod Noted
+pub mod Journals
+pub mod Kept
+pub mod Turning
+pub mod FirstNoted
 pub mod Wholes
 pub mod Gives
 pub mod Closes

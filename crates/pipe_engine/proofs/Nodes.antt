@@ -3,6 +3,7 @@ use Rattle.std.proofs.Common.{◌≡◌, ◌≢◌, ℕ, ◌+◌, ◌<◌, Bool,
 use Rattle.std.specs.Prelude.{All}
 use Rattle.std.specs.List.{flat_map, AllByRecursion}
 use Rattle.std.specs.Global.{Vec}
+use Rattle.pipe_events.specs.declared.event.Event.{Event}
 use Rattle.pipe_frame.specs.Rows.{Row, Same}
 use Rattle.pipe_frame.specs.Weights.{total}
 use Rattle.pipe_frame.specs.declared.field.Field.{Field}
@@ -34,7 +35,7 @@ use Rattle.pipe_slots.specs.declared.slot.Slot.{Slot}
 use Rattle.pipe_slots.specs.declared.slot.Slot.TheVariants as slot
 use Rattle.pipe_slots.specs.declared.slots.Slots.{Slots}
 use Rattle.pipe_passage.specs.LaneSeats.{sum_of, IsRest, HasSeats}
-use Rattle.pipe_passage.specs.Passages.{phys_words, acts_now, GivesSchemas, IsPassing, HasLeft}
+use Rattle.pipe_passage.specs.Passages.{phys_words, acts_now, GivesSchemas, IsPassing, HasLeft, noted}
 use Rattle.pipe_passage.specs.Passages as passages
 use Rattle.pipe_passage.specs.declared.passage.Passage.{Passage}
 use Rattle.pipe_along.specs.Along.{AllMakeOf, more_of, come_to}
@@ -43,12 +44,13 @@ use Rattle.pipe_engine.specs.Carried.{IsBack, Carried, ReadsNothing, first_node}
 use Rattle.pipe_engine.specs.Engine.{IsBare, IsTabled, SlotFits, IsRowStage, StageFits, StagesFit, LegFits, LegFitsOrNone, Fits, AreCounted, IsAdded, IsBefore, rows_of_leg, rows_of_sink, sink_at, rows_for, nodes_before, behind, join_work}
 use Rattle.pipe_engine.specs.Passed.{with_more}
 use Rattle.pipe_sinks.specs.Sinks.{SinkSetting, setting_in, sink_rows}
+use Rattle.pipe_takings.specs.declared.note.Note.{Note}
 use Rattle.pipe_sinks.specs.SinkWords.{sink_words}
 use Rattle.pipe_engine.specs.Stands.{Settings}
 use Rattle.pipe_engine.specs.declared.engine.Engine.{Engine}
 use Rattle.pipe_engine.specs.declared.engine.OpenLeg.{OpenLeg}
 use Rattle.pipe_sinks.specs.declared.phys_sink.PhysSink.{PhysSink}
-use Rattle.pipe_engine.proofs.Carrying.{carry}
+use Rattle.pipe_engine.proofs.Carrying.{carry, map_length}
 use Rattle.pipe_along.proofs.Flowing.{arrived, more_none, not_on, first_apart}
 use Rattle.pipe_engine.proofs.Counted.{leave_counted, settle_counted}
 use Rattle.pipe_engine.proofs.Legs.{with_given, with_leg, probed_off, into_sink, beside_sink}
@@ -153,12 +155,15 @@ none_on k node now ne off = let z = ap one (eq-false node k (λ e. ne (sym e))) 
 enough_first : {H : Type 0} (lanes : ℕ) (ss : List (Slot H)) (s : Slot H) (rest : List (Slot H)) → ss ≡ s ∷ rest → AllByRecursion (HasSeats lanes) ss → HasSeats lanes s × AllByRecursion (HasSeats lanes) rest
 enough_first {H = H} lanes ss s rest e is = let P : List (Slot H) → Type 0 = AllByRecursion (HasSeats lanes) in subst P e is
 
+noted_long : {O K : Type 0} (old new : List (Lane O K)) → map noted new ≡ map noted old → length new ≡ length old
+noted_long old new e = sym (map_length noted new) ∙ ap length e ∙ map_length noted old
+
 pub leave_fits : {H : Type 0} (hash_of : H → List ℕ → ℕ) (x : Settings H) (old : Engine H) (leg : OpenLeg H) (p : Passage H (PhysSink H)) (s : Slot H) (seats : List SeatMarks) (slots : Slots H) (given : Vec ℕ) (node : ℕ)
     → old.leg ≡ Some leg
     → IsAdded (first_node (nodes_in leg.passage.lanes.items)) (number_at (counts_in leg.passage.lanes.items) 0) old.context.row_limit old.given.items given.items
     → ((limit : ℕ) (from : List Field) → IsPassing hash_of sink_words limit from leg.passage.lanes.items leg.passage.shared.items leg.passage.seats.items → HasLeft hash_of sink_words limit from s seats leg.passage.lanes.items p.lanes.items leg.passage.shared.items p.shared.items leg.passage.seats.items p.seats.items)
     → IsBack node s seats old.slots slots
-    → Leaves node (Fits hash_of old x) (Fits hash_of (with_leg (with_given old given) slots (Some (later leg p)) old.next_index) x) (IsBefore old.leg) (IsBefore (Some (later leg p)))
+    → Leaves node (Fits hash_of old x) (Fits hash_of (with_leg (with_given old given) slots (Some (later leg p)) old.next_index old.journal) x) (IsBefore old.leg) (IsBefore (Some (later leg p)))
 leave_fits {H = H} hash_of x old leg p s seats slots given node opened added lefts back m w now at fits before =
     let sound = fits.sound in
     let was = leg_of hash_of x m w old leg fits opened in
@@ -237,6 +242,7 @@ leave_fits {H = H} hash_of x old leg p s seats slots given node opened added lef
           empty = was.empty;
           whole = gone_whole (m.above was.given) now (m.above node) node (rows_of_leg leg.passage) (rows_of_leg p) leg.whole above was.whole;
           place = was.place;
+          few = (let long = noted_long leg.passage.lanes.items p.lanes.items left.entries in let most = was.few in omega arith);
         };
       },
       (ap behind b.nodes, known.1),
@@ -347,21 +353,21 @@ more_into there kept held mid now out came h same k l = record {
       let e4 = total-append f kept now in omega arith);
 }
 
-pub settle_fits : {H : Type 0} (hash_of : H → List ℕ → ℕ) (x : Settings H) (old : Engine H) (leg : OpenLeg H) (p : Passage H (PhysSink H)) (slots : Slots H) (counts : Vec ℕ) (node : ℕ) (nothing : Bool) (from : List Field)
+pub settle_fits : {H : Type 0} (hash_of : H → List ℕ → ℕ) (x : Settings H) (old : Engine H) (leg : OpenLeg H) (p : Passage H (PhysSink H)) (slots : Slots H) (counts : Vec ℕ) (node : ℕ) (nothing : Bool) (from : List Field) (parts : ℕ) (notes notes' : List Note) (journal : Vec Event)
     → old.leg ≡ Some leg
     → IsAdded (first_node (nodes_in leg.passage.lanes.items)) (number_at (counts_in leg.passage.lanes.items) 0) old.context.row_limit old.given.items counts.items
     → ((given : ℕ) (ops : List ℕ) → nodes_in leg.passage.lanes.items ≡ given ∷ ops → from ≡ x.schema_at given)
-    → passages.HasSettled hash_of sink_words old.context.row_limit from leg.passage.lanes.items p.lanes.items leg.passage.shared.items p.shared.items leg.passage.seats.items p.seats.items
+    → passages.HasSettled hash_of sink_words old.context.row_limit from leg.passage.lanes.items p.lanes.items leg.passage.shared.items p.shared.items leg.passage.seats.items p.seats.items parts notes notes'
     → IsSpentAt node nothing leg.passage.shared.items old.slots slots
-    → Settles node (Fits hash_of old x) (Fits hash_of (with_leg (with_given old counts) slots (Some (later leg p)) old.next_index) x) (IsBefore old.leg) (IsBefore (Some (later leg p)))
-settle_fits {H = H} hash_of x old leg p slots counts node nothing from opened added from_is settled spends m w now at fits before above_node seen built =
+    → Settles node (Fits hash_of old x) (Fits hash_of (with_leg (with_given old counts) slots (Some (later leg p)) old.next_index journal) x) (IsBefore old.leg) (IsBefore (Some (later leg p)))
+settle_fits {H = H} hash_of x old leg p slots counts node nothing from parts notes notes' journal opened added from_is settled spends m w now at fits before above_node seen built =
     let sound = fits.sound in
     let limit = old.context.row_limit in
     let was = leg_of hash_of x m w old leg fits opened in
     let known = before_of old.leg leg (node ∷ now) at opened before in
     let above : m.above was.given ≡ node ∷ now = ap behind (sym was.nodes) ∙ known.0 in
     let schema : from ≡ x.schema_at was.given = from_is was.given (m.above was.given) was.nodes in
-    let W : List Field → Type 0 = λ z. passages.HasSettled hash_of sink_words limit z leg.passage.lanes.items p.lanes.items leg.passage.shared.items p.shared.items leg.passage.seats.items p.seats.items in
+    let W : List Field → Type 0 = λ z. passages.HasSettled hash_of sink_words limit z leg.passage.lanes.items p.lanes.items leg.passage.shared.items p.shared.items leg.passage.seats.items p.seats.items parts notes notes' in
     let done = subst W schema settled in
     let left = done.left in
     let s = done.slot in
@@ -371,7 +377,7 @@ settle_fits {H = H} hash_of x old leg p slots counts node nothing from opened ad
     let b = left_behind hash_of x m w limit leg done.mid ss free s seats node was.given now sound above was.above_sink was.nodes was.gives was.stages left in
     let rows = rows_of_parts parts_in (part_in hash_of) done.closed in
     let own = owns hash_of x m w was.given node b.work s done.closed seats sound fits.some b.first left.all_in done.closes seen in
-    let carried = carry hash_of limit left.next rows done.mid p.lanes.items ss free left.passing done.same done.passing.alike done.passing.fit done.passing.calm done.passing.within done.went in
+    let carried = carry hash_of limit left.next rows done.mid p.lanes.items ss free left.passing done.same done.passing.alike done.passing.fit done.passing.calm done.passing.within done.passing.noted_none done.went in
     let C : List Field → Type 0 = λ z. Carried hash_of limit z rows done.mid p.lanes.items ss free in
     let went : Carried hash_of limit (x.schema_at node) rows done.mid p.lanes.items ss free = subst C b.schema carried in
     let sink = sink_node m.ordered leg.at in
@@ -473,6 +479,7 @@ settle_fits {H = H} hash_of x old leg p slots counts node nothing from opened ad
             empty = was.empty;
             whole = gone_whole (m.above was.given) now (m.above node) node (rows_of_leg leg.passage) (rows_of_leg p) leg.whole above was.whole;
             place = was.place;
+            few = (let long = noted_long leg.passage.lanes.items done.mid left.entries in let same = carried.long in let most = was.few in omega arith);
           };
         };
         is = record {

@@ -11,7 +11,7 @@ use Rattle.pipe_batches.proofs.Batches.{batch-rows}
 use Rattle.pipe_engine.specs.Asked.{RisesBy}
 use Rattle.pipe_engine.specs.Paced.{TakesPaced}
 
-counts-both : (n k a b c : ℕ) → Counts n a b → Counts k b c → Counts (n + k) a c
+pub counts-both : (n k a b c : ℕ) → Counts n a b → Counts k b c → Counts (n + k) a c
 counts-both n k a b c first second =
     elim second [
       | inl p ↦ elim first [ inl q ↦ inl (omega (arith, p, q)) | inr q ↦ inr (omega (arith, p, q)) ]
@@ -19,7 +19,7 @@ counts-both n k a b c first second =
     ]
 
 -- a count that hasn't fallen has risen by the difference
-rises-count : (n a b : ℕ) → RisesBy n a b → Counts (b - a) a b
+pub rises-count : (n a b : ℕ) → RisesBy n a b → Counts (b - a) a b
 rises-count n a b h = elim h [ inl p ↦ inl (omega (arith, p)) | inr q ↦ inr q ]
 
 -- one call after another

@@ -34,6 +34,7 @@ pub record Carried {H : Type 0} (hash_of : H → List ℕ → ℕ) (limit : ℕ)
   pub works : works_in (phys_words hash_of) from ss new ≡ works_in (phys_words hash_of) from ss old
   pub nodes : nodes_in new ≡ nodes_in old
   pub passing : IsPassing hash_of sink_words limit from new ss free
+  pub long : length new ≡ length old
   pub settings : (s : SinkSetting H) → All (IsSet setting_in s) old → All (IsSet setting_in s) new
   pub gives : (schemas : List (List Field)) → All (GivesSchemas from schemas) old →
       All (GivesSchemas from schemas) new

@@ -227,6 +227,7 @@ pub record LegFits {H : Type 0} (hash_of : H → List ℕ → ℕ) (x : Settings
   pub empty : sink_rows leg.sink ≡ []
   pub whole : IsWhole (m.above given) (rows_of_leg leg.passage) leg.whole
   pub place : IsWholeAt x leg.at leg.whole
+  pub few : length leg.passage.lanes.items ≤ context.workers
 
 -- ---- all of it
 

@@ -22,5 +22,9 @@ pub mod Drives
 pub mod Asked
 -- how many rows are taken to a question
 pub mod Paced
+-- the journal of a run beside the driver's state
+pub mod Noted
+-- what the engine's calls write into its journal
+pub mod Journals
 -- what is known where a node has too many rows
 pub mod Refused

@@ -5,7 +5,9 @@ use Rattle.pipe_ops.specs.declared.context.PExecutionContext.{PExecutionContext}
 use Rattle.pipe_batches.specs.Rounds.{left_rows}
 use Rattle.pipe_source.specs.Supplies.{left_of}
 use Rattle.pipe_source.specs.declared.phys_source.PhysSource.{PhysSource}
+use Rattle.pipe_takings.specs.Paced.{KeepsPace}
 use Rattle.pipe_engine.specs.Drives.{Line}
+use Rattle.pipe_engine.specs.declared.engine.Engine.{Engine}
 
 -- so many rows at most are taken between two questions: four chunks for each worker
 abbrev pub most_of : PExecutionContext → ℕ
@@ -29,3 +31,9 @@ pub record TakesPaced (most due_old due_new asked_old asked_new : ℕ) : Type 0 
   pub questions : ℕ
   pub asked : Counts questions asked_old asked_new
   pub few : due_old ≤ due_new + most * questions
+
+-- what an engine wrote since into its journal keeps the pace of its workers
+abbrev pub HasKeptPace : {H : Type 0} → (asked_old asked_new : ℕ) → (old new : Engine H) → Type 0
+HasKeptPace asked_old asked_new old new =
+    KeepsPace old.context.workers old.context.chunk_rows asked_old asked_new old.journal.items
+    new.journal.items

@@ -1,15 +1,16 @@
 //! The driver: legs one after another, each into its sink; a sink is closed after the last leg that feeds it.
 
-ghost use Rattle.std.specs.Prelude.{◌≡◌, ◌+◌, ◌<◌, [], length, drop, IfOk, IfErr, OnOk};
+ghost use Rattle.std.specs.Prelude.{◌≡◌, ℕ, ◌+◌, ◌<◌, [], length, drop, IfOk, IfErr, OnOk};
 ghost use Rattle.pipe_driver.specs.Tables.{number_at};
 ghost use Rattle.pipe_engine.specs.Asked.{WasAsked, stops};
 ghost use Rattle.pipe_engine.specs.Engine.{IsIdle};
 ghost use Rattle.pipe_engine.specs.Drives.{ForSome, ForEach, CanGo, Led, CanPass, IsLeftAt, Ran, CanClose, ComesNext, IsRootNext};
-ghost use Rattle.pipe_engine.specs.Paced.{TakesPaced, most_of, rows_due_from};
+ghost use Rattle.pipe_engine.specs.Journals.{Keeps, NotedAt, NotedGoing, NotedAfter, NotedThen};
+ghost use Rattle.pipe_engine.specs.Paced.{HasKeptPace, TakesPaced, most_of, rows_due_from};
 ghost use Rattle.pipe_engine.specs.Refused.{IsNotMany, IsRefused};
 
 use crate::engine::{PlanLine, PlanRun, Tools};
-use crate::finishing::finish;
+use crate::journal::close_place;
 use crate::leg::{end_leg, leave_node, run_leg, settle_node};
 use crate::part::Part;
 use pipe_branches::SinkAt;
@@ -35,11 +36,16 @@ fn pass<R: Threads + Sync, H: KeyHasher, C: StopCheck, G: Gate + Sync>(
     requires can { ForSome (CanGo H.hash_of run.old current pipelines.now.items) }
     ensures led { IfOk result (λ leg. ForEach (CanGo H.hash_of run.old current pipelines.now.items)
         (Led H.hash_of current run.old run.new pipelines.now.items leg)) }
+    ensures noted { OnOk result (ForEach (CanGo H.hash_of run.old current pipelines.now.items)
+        (Keeps run.old (NotedGoing run.old current pipelines.now.items)
+        (NotedAt run.new pipelines.now.items))) }
     ensures err { IfErr result (λ e. ForEach (CanGo H.hash_of run.old current pipelines.now.items)
         (IsRefused run.old.runner.context.row_limit e)) }
     ensures asked { WasAsked C.StopCheck 0 stop.old stop.new result }
     ensures paced { OnOk result (TakesPaced (most_of run.old.runner.context)
         (rows_due_from current.source) 0 (C.asked stop.old) (C.asked stop.new)) }
+    ensures kept { OnOk result (HasKeptPace (C.asked stop.old) (C.asked stop.new)
+        run.old.runner run.new.runner) }
     ensures context { run.new.runner.context ≡ run.old.runner.context }
 {
     let PipeLine {
@@ -82,12 +88,18 @@ fn leave<R: Threads + Sync, H: KeyHasher, C: StopCheck, G: Gate + Sync>(
     ensures passes { OnOk result (ForEach
         (CanPass H.hash_of run.old (drop place operators.now) at pipelines.now.items)
         (IsLeftAt H.hash_of run.new (drop (place + 1) operators.now) at pipelines.now.items)) }
+    ensures noted { OnOk result (ForEach
+        (CanPass H.hash_of run.old (drop place operators.now) at pipelines.now.items)
+        (Keeps run.old (NotedAt run.old pipelines.now.items)
+        (NotedAt run.new pipelines.now.items))) }
     ensures err { IfErr result (λ e. ForEach
         (CanPass H.hash_of run.old (drop place operators.now) at pipelines.now.items)
         (IsRefused run.old.runner.context.row_limit e)) }
     ensures parked { OnOk result (run.new.parked ≡ run.old.parked) }
     ensures counts { OnOk result (run.new.counts ≡ run.old.counts) }
     ensures asked { WasAsked C.StopCheck 0 stop.old stop.new result }
+    ensures kept { OnOk result (HasKeptPace (C.asked stop.old) (C.asked stop.new)
+        run.old.runner run.new.runner) }
     ensures context { run.new.runner.context ≡ run.old.runner.context }
 {
     let node = operators[place];
@@ -111,11 +123,16 @@ pub(crate) fn feed<R: Threads + Sync, H: KeyHasher, C: StopCheck, G: Gate + Sync
     requires can { ForSome (CanGo H.hash_of run.old current pipelines.now.items) }
     ensures ran { IfOk result (λ fed. ForEach (CanGo H.hash_of run.old current pipelines.now.items)
         (Ran H.hash_of current run.old run.new pipelines.now.items fed)) }
+    ensures noted { IfOk result (λ fed. ForEach (CanGo H.hash_of run.old current pipelines.now.items)
+        (Keeps run.old (NotedGoing run.old current pipelines.now.items)
+        (NotedAfter run.new fed.at pipelines.now.items))) }
     ensures err { IfErr result (λ e. ForEach (CanGo H.hash_of run.old current pipelines.now.items)
         (IsRefused run.old.runner.context.row_limit e)) }
     ensures asked { WasAsked C.StopCheck 1 stop.old stop.new result }
     ensures paced { OnOk result (TakesPaced (most_of run.old.runner.context)
         (rows_due_from current.source) 0 (C.asked stop.old) (C.asked stop.new)) }
+    ensures kept { OnOk result (HasKeptPace (C.asked stop.old) (C.asked stop.new)
+        run.old.runner run.new.runner) }
     ensures context { run.new.runner.context ≡ run.old.runner.context }
 {
     let leg = pass(alloc, tools, stop, run, pipelines, current)?;
@@ -152,12 +169,18 @@ fn leave_all<R: Threads + Sync, H: KeyHasher, C: StopCheck, G: Gate + Sync>(
     ensures passes { OnOk result (ForEach
         (CanPass H.hash_of run.old operators.now at pipelines.now.items)
         (IsLeftAt H.hash_of run.new [] at pipelines.now.items)) }
+    ensures noted { OnOk result (ForEach
+        (CanPass H.hash_of run.old operators.now at pipelines.now.items)
+        (Keeps run.old (NotedAt run.old pipelines.now.items)
+        (NotedAt run.new pipelines.now.items))) }
     ensures err { IfErr result (λ e. ForEach
         (CanPass H.hash_of run.old operators.now at pipelines.now.items)
         (IsRefused run.old.runner.context.row_limit e)) }
     ensures parked { OnOk result (run.new.parked ≡ run.old.parked) }
     ensures counts { OnOk result (run.new.counts ≡ run.old.counts) }
     ensures asked { WasAsked C.StopCheck 0 stop.old stop.new result }
+    ensures kept { OnOk result (HasKeptPace (C.asked stop.old) (C.asked stop.new)
+        run.old.runner run.new.runner) }
     ensures context { run.new.runner.context ≡ run.old.runner.context }
 {
     for place in 0..operators.len() {
@@ -179,13 +202,19 @@ pub(crate) fn close<R: Threads + Sync, H: KeyHasher, G: Gate + Sync>(
     requires last { number_at run.old.counts.left.items fed.count ≡ 0 }
     ensures next { IfOk result (λ next. ForEach (CanClose H.hash_of run.old fed pipelines.now.items)
         (ComesNext H.hash_of run.old run.new fed pipelines.now.items next)) }
+    ensures noted { IfOk result (λ next. ForEach
+        (CanClose H.hash_of run.old fed pipelines.now.items)
+        (Keeps run.old (NotedAfter run.old fed.at pipelines.now.items)
+        (NotedThen run.new pipelines.now.items next))) }
     ensures err { IfErr result IsNotMany }
     ensures calm { stops result ≡ 0 }
     ensures frame { IfOk result (λ next. ForEach
         (CanClose H.hash_of run.old fed pipelines.now.items) (IsRootNext next)) }
+    ensures kept { OnOk result ((asked : ℕ) →
+        HasKeptPace asked asked run.old.runner run.new.runner) }
     ensures context { run.new.runner.context ≡ run.old.runner.context }
 {
-    match finish(alloc, tools, &mut run.runner, fed.at)? {
+    match close_place(alloc, tools, &mut run.runner, fed.at)? {
         FinalizedSink::Finished(frame) => Ok(Next::Answer(frame)),
         FinalizedSink::Operator(()) => Ok(Next::Stay),
         FinalizedSink::Source(source) => match unpark(&mut run.parked, node_at(fed.at)) {

@@ -3,6 +3,7 @@
 use crate::part::Part;
 use pipe_branches::SinkAt;
 use pipe_driver::{PipeLine, Run};
+use pipe_events::Event;
 use pipe_frame::DataFrame;
 use pipe_index::HashesKeys;
 use pipe_ops::PExecutionContext;
@@ -59,6 +60,8 @@ pub struct Engine<H: HashesKeys> {
     pub leg: Option<OpenLeg<H>>,
     /// The index of the next chunk.
     pub next_index: u64,
+    /// What the legs that have run did, leg by leg.
+    pub journal: Vec<Event>,
 }
 
 /// A pipeline of a plan, and what is there while such pipelines run.

@@ -6,6 +6,7 @@ mod driving;
 mod engine;
 mod feeding;
 mod finishing;
+mod journal;
 mod keeping;
 mod leg;
 mod part;

@@ -13,4 +13,6 @@ pub struct Part<H: HashesKeys> {
     pub at: SinkAt,
     pub stages: Vec<Stage<PhysOperator<H>>>,
     pub basin: Basin<PhysSink<H>>,
+    /// The nodes whose rows its source's frames have, in order.
+    pub scans: Vec<u32>,
 }

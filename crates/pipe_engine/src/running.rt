@@ -6,16 +6,21 @@ ghost use Rattle.pipe_engine.specs.Asked.{WasAsked, stops};
 ghost use Rattle.pipe_engine.specs.Engine.{IsIdle};
 ghost use Rattle.pipe_engine.specs.Drives.{ForSome, ForEach, CanGo, Stopped, FedSinks, CanBegin, RanFront, CanRun, HasRoot};
 ghost use Rattle.pipe_engine.specs.Drives.{IsRootAnswer, HasRootSchema, RunsWithin};
-ghost use Rattle.pipe_engine.specs.Paced.{TakesPaced, most_of, rows_due_from, rows_due_of};
+ghost use Rattle.pipe_engine.specs.Journals.{Keeps, NotedAt, NotedGoing, WroteWhole};
+ghost use Rattle.pipe_engine.specs.Paced.{HasKeptPace, TakesPaced};
+ghost use Rattle.pipe_engine.specs.Paced.{most_of, rows_due_from, rows_due_of};
 ghost use Rattle.pipe_engine.specs.Refused.{IsRefused};
+ghost use Rattle.pipe_takings.specs.Paced.{KeepsPace};
 
 use crate::driving::{close, feed};
 use crate::engine::{PlanLine, PlanRun, Tools};
 use pipe_driver::{Next, RunError, are_closed, newer};
+use pipe_events::Event;
 use pipe_frame::{DataFrame, Gate, StopCheck};
 use pipe_rows::KeyHasher;
 use std::alloc::Global;
 use std::collections::VecDeque;
+use std::mem::replace;
 use std::thread::Threads;
 
 /// Runs a pipeline and each one that goes on, up to a sink that isn't closed or that of a build or the root. The
@@ -34,6 +39,9 @@ fn run_way<R: Threads + Sync, H: KeyHasher, C: StopCheck, G: Gate + Sync>(
     ensures stopped { IfOk result (λ answer. ForEach
         (CanGo H.hash_of run.old first pipelines.now.items)
         (Stopped H.hash_of run.old run.new pipelines.now.items answer)) }
+    ensures noted { OnOk result (ForEach (CanGo H.hash_of run.old first pipelines.now.items)
+        (Keeps run.old (NotedGoing run.old first pipelines.now.items)
+        (NotedAt run.new pipelines.now.items))) }
     ensures fed { OnOk result (ForEach (CanGo H.hash_of run.old first pipelines.now.items)
         (FedSinks first run.old run.new fed.old.items fed.new.items)) }
     ensures err { IfErr result (λ e. ForEach (CanGo H.hash_of run.old first pipelines.now.items)
@@ -43,6 +51,8 @@ fn run_way<R: Threads + Sync, H: KeyHasher, C: StopCheck, G: Gate + Sync>(
     ensures asked { WasAsked C.StopCheck 1 stop.old stop.new result }
     ensures paced { OnOk result (TakesPaced (most_of run.old.runner.context)
         (rows_due_from first.source) 0 (C.asked stop.old) (C.asked stop.new)) }
+    ensures kept { OnOk result (HasKeptPace (C.asked stop.old) (C.asked stop.new)
+        run.old.runner run.new.runner) }
     ensures context { run.new.runner.context ≡ run.old.runner.context }
 {
     let mut current = first;
@@ -79,6 +89,10 @@ pub fn run_pipeline<R: Threads + Sync, H: KeyHasher, C: StopCheck, G: Gate + Syn
         (CanBegin H.hash_of run.old (first ∷ pipelines.old.items))
         (RanFront H.hash_of (first ∷ pipelines.old.items) run.old run.new pipelines.new.items
         answer)) }
+    ensures noted { OnOk result (ForEach
+        (CanBegin H.hash_of run.old (first ∷ pipelines.old.items))
+        (Keeps run.old (NotedAt run.old (first ∷ pipelines.old.items))
+        (NotedAt run.new pipelines.new.items))) }
     ensures err { IfErr result (λ e. ForEach
         (CanBegin H.hash_of run.old (first ∷ pipelines.old.items))
         (IsRefused run.old.runner.context.row_limit e)) }
@@ -90,6 +104,8 @@ pub fn run_pipeline<R: Threads + Sync, H: KeyHasher, C: StopCheck, G: Gate + Syn
     ensures paced { OnOk result (TakesPaced (most_of run.old.runner.context)
         (rows_due_of (first ∷ pipelines.old.items))
         (rows_due_of pipelines.new.items) (C.asked stop.old) (C.asked stop.new)) }
+    ensures kept { OnOk result (HasKeptPace (C.asked stop.old) (C.asked stop.new)
+        run.old.runner run.new.runner) }
     ensures context { run.new.runner.context ≡ run.old.runner.context }
 {
     let mut fed = Vec::new(alloc);
@@ -109,14 +125,15 @@ pub fn run_pipeline<R: Threads + Sync, H: KeyHasher, C: StopCheck, G: Gate + Syn
 }
 
 /// Runs pipelines that stand for the branches of a plan, in order, to the last: the rows of the root. No node has more
-/// rows than the limit. `Stopped` where the stop check said yes, after which it isn't asked again; else it said no each
-/// time.
+/// rows than the limit. What the legs did is the journal, leg by leg, in place of what it held. `Stopped` where the stop
+/// check said yes, after which it isn't asked again; else it said no each time.
 pub fn execute_pipeline<R: Threads + Sync, H: KeyHasher, C: StopCheck, G: Gate + Sync>(
     alloc: Global,
     tools: &Tools<R, G>,
     stop: &mut C,
     mut run: PlanRun<H>,
     pipelines: Vec<PlanLine<H>>,
+    journal: &mut Vec<Event>,
 ) -> Result<DataFrame, RunError>
     requires can { ForSome (CanRun H.hash_of run pipelines.items) }
     requires parked { run.parked.items ≡ [] }
@@ -126,6 +143,8 @@ pub fn execute_pipeline<R: Threads + Sync, H: KeyHasher, C: StopCheck, G: Gate +
         (HasRootSchema frame)) }
     ensures within { OnOk result (ForEach (CanRun H.hash_of run pipelines.items)
         (RunsWithin run.runner.context.row_limit)) }
+    ensures journal { OnOk result (ForEach (CanRun H.hash_of run pipelines.items)
+        (Keeps run (NotedAt run pipelines.items) (WroteWhole journal.new.items))) }
     ensures err { IfErr result (λ e. ForEach (CanRun H.hash_of run pipelines.items)
         (IsRefused run.runner.context.row_limit e)) }
     ensures asked { OnOk result (Rises (C.asked stop.old) (C.asked stop.new)) }
@@ -133,6 +152,8 @@ pub fn execute_pipeline<R: Threads + Sync, H: KeyHasher, C: StopCheck, G: Gate +
     ensures last { result ≡ Err RunError.Stopped → C.last_answer stop.new ≡ true }
     ensures paced { OnOk result (TakesPaced (most_of run.runner.context)
         (rows_due_of pipelines.items) 0 (C.asked stop.old) (C.asked stop.new)) }
+    ensures kept { OnOk result (KeepsPace run.runner.context.workers run.runner.context.chunk_rows
+        (C.asked stop.old) (C.asked stop.new) run.runner.journal.items journal.new.items) }
 {
     let mut left = VecDeque::from_vec(pipelines);
     let mut answer = None;
@@ -141,5 +162,6 @@ pub fn execute_pipeline<R: Threads + Sync, H: KeyHasher, C: StopCheck, G: Gate +
         answer = newer(answer, more);
     }
     let Some(frame) = answer else { unreachable!() };
+    *journal = replace(&mut run.runner.journal, Vec::new(alloc));
     Ok(frame)
 }

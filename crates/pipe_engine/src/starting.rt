@@ -1,6 +1,6 @@
 //! An engine to which no leg has come.
 
-ghost use Rattle.std.specs.Prelude.{◌≡◌, ℕ, suc, List, None, length, IfOk};
+ghost use Rattle.std.specs.Prelude.{◌≡◌, ℕ, suc, List, [], None, length, IfOk};
 ghost use Rattle.pipe_legs.specs.Meaning.{Meaning};
 ghost use Rattle.pipe_driver.specs.Plans.{at_start};
 ghost use Rattle.pipe_engine.specs.Engine.{sink_at, Fits, IsIdle, MayStart};
@@ -45,6 +45,7 @@ impl<H: HashesKeys> Engine<H> {
         ensures specs { IfOk result (λ e. e.specs ≡ specs) }
         ensures nodes { IfOk result (λ e. e.nodes ≡ nodes) }
         ensures idle { IfOk result (λ e. IsIdle e) }
+        ensures journal { IfOk result (λ e. e.journal.items ≡ []) }
         ensures fits { IfOk result (λ e. (hash_of : H → List ℕ → ℕ) (x : Settings H) (m : Meaning) →
             MayStart e x m → Fits hash_of e x m at_start) }
     {
@@ -62,6 +63,7 @@ impl<H: HashesKeys> Engine<H> {
             sinks,
             leg: None,
             next_index: 0,
+            journal: Vec::new(alloc),
         })
     }
 }

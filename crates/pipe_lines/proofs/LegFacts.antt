@@ -25,6 +25,7 @@ use Rattle.pipe_lines.specs.LegsMade.{Leads, IsLegOf}
 use Rattle.pipe_lines.specs.Lines.{stage_text}
 use Rattle.pipe_lines.specs.Made.{Specs, Sinks, settings_in, setting_at, setting_or_none, sink_at, IsOperatorAt, IsSinkAt, IsSomeSinkAt, IsSinkSplit, AreSinks, AreStagesAt}
 use Rattle.pipe_create.specs.Nodes.{plan_in, nodes_in, meaning_in}
+use Rattle.pipe_create.specs.Sources.{taken_at}
 use Rattle.pipe_create.specs.Steps.{GoesOn, GoesAlong, IsGiven, IsThere, last_of}
 use Rattle.pipe_create.proofs.ChainSteps.{chain_goes}
 use Rattle.pipe_lines.proofs.RootOrder.{keeps_order}
@@ -92,8 +93,8 @@ module _ {H : Type 0} (plan : Checked) (specs : Specs) where
 
   pub leg_is : (sinks : Sinks H) (hasher : H) (parts start : ℕ) (ops : List ℕ) (sink : SinkNode) (leg : Leg (Part H)) → IsWellFormed (plan_in plan) plan.root → Leads plan start ops sink
       → leg.operators.items ≡ ops → leg.at ≡ sink.at → leg.count ≡ sink.count → leg.count < 4294967295 → leg.part.at ≡ sink.at
-      → AreStagesAt plan specs start leg.part.stages.items ops → IsSinkSplit plan specs sinks hasher parts sink.at leg.part.basin.sink → leg.part.basin.node ≡ last_of start ops → IsLegOf plan specs sinks hasher parts start ops sink leg
-  leg_is sinks hasher parts start ops sink leg good leads ops_is at_is count_is few part_at are made at_end =
+      → AreStagesAt plan specs start leg.part.stages.items ops → IsSinkSplit plan specs sinks hasher parts sink.at leg.part.basin.sink → leg.part.basin.node ≡ last_of start ops → leg.part.scans.items ≡ taken_at (node_at (nodes_in plan) start) start → IsLegOf plan specs sinks hasher parts start ops sink leg
+  leg_is sinks hasher parts start ops sink leg good leads ops_is at_is count_is few part_at are made at_end scans =
       let x = settings_in plan specs sinks hasher parts in
       let m = meaning_in plan in
       let size = length (nodes_in plan) in
@@ -111,6 +112,7 @@ module _ {H : Type 0} (plan : Checked) (specs : Specs) where
             stages = subst (λ o. AreStagesOf x m start leg.part.stages.items o leg.part.at leg.part.basin) (sym ops_is) (subst (λ a. AreStagesOf x m start leg.part.stages.items ops a leg.part.basin) (sym part_at) stand);
             order = subst (KeepsOrder x m start leg.part.stages.items) (sym part_at) (keeps_order plan specs x start ops leg.part.stages.items sink.at refl good leads.on.under goes.0 goes.1 are);
           };
+          scans = scans;
         };
         text = ap (λ t. t ++ arrow_word (sink_text leg.part.basin.sink)) (stages_text start ops leg.part.stages.items are) ∙ ap (λ t. operator_texts (nodes_in plan) ops ++ arrow_word t) made.text;
       }

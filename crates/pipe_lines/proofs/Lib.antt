@@ -9,5 +9,9 @@ pub mod LineFacts
 pub mod Stand
 pub mod Due
 pub mod RootSink
+pub mod Listed
 pub mod RootOrder
 pub mod Complete
+pub mod Begun
+pub mod Staged
+pub mod Journaled

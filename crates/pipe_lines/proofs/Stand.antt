@@ -18,6 +18,8 @@ use Rattle.pipe_legs.specs.Legs as plan_legs
 use Rattle.pipe_legs.specs.Legs.{Way, sink_node, ways_of}
 use Rattle.pipe_legs.specs.Numbers.{named_sinks, sink_number}
 use Rattle.pipe_legs.specs.Ways.{one, occurs, feeds, passes, starts_from, starts_of, IsWay}
+use Rattle.pipe_legs.specs.Shape.{kind_at}
+use Rattle.pipe_legs.proofs.Plans.{is_tree}
 use Rattle.pipe_legs.proofs.Sounds.{are_sound}
 use Rattle.pipe_legs.proofs.Tests.{eq-true, occurs-append}
 use Rattle.pipe_legs.proofs.Whole.{can_run}
@@ -41,6 +43,10 @@ use Rattle.pipe_lines.specs.Layouts.{IsLayout, IsLayoutFor, layout_settings}
 use Rattle.pipe_lines.specs.Lines.{AreLegsMade, AreLinesOf, HasSourceOf, IsLineOf}
 use Rattle.pipe_lines.specs.Standing.{ask_in, IsRunFor}
 use Rattle.pipe_lines.specs.declared.layout.Layout.{Layout}
+use Rattle.pipe_recording.specs.Boards.{begins_leg}
+use Rattle.pipe_lines.proofs.Begun.{starts_begin}
+use Rattle.pipe_lines.proofs.Listed.{lines_listed}
+use Rattle.pipe_lines.proofs.Staged.{staged}
 use Rattle.pipe_lines.proofs.LineFacts.{lines_ways}
 use Rattle.pipe_lines.proofs.RootOrder.{source_order}
 use Rattle.pipe_lines.proofs.RootSink.{root_setting}
@@ -165,8 +171,15 @@ module _ {H : Type 0} (hash_of : H → List ℕ → ℕ) (plan : Checked) (layou
       → length run.counts.left.items ≡ length (named_sinks (plan_in plan) plan.root)
       → ((s : ℕ) → number_at run.counts.left.items (sink_number (plan_in plan) plan.root s) ≡ feeds s (ways_of (plan_in plan) plan.root))
       → ((n : ℕ) → number_at run.probers.left.items n ≡ passes n (ways_of (plan_in plan) plan.root))
-      → IsRunFor hash_of plan run lines
-  run_stands workers run bs lines good is parts some low cut are hasher_is parts_are specs_are nodes_are idle fits none many sinks probers =
+      → run.runner.journal.items ≡ [] → run.runner.context.workers ≡ workers → IsRunFor hash_of plan run lines
+  run_stands workers run bs lines good is parts some low cut are hasher_is parts_are specs_are nodes_are idle fits none many sinks probers fresh workers_are =
+      let A : List Branch → Type 0 = λ xs. AreLinesOf plan layout.specs.items layout.sinks.items layout.hasher layout.parts xs lines in
+      let are_all = subst A cut are in
+      let ways : ways_to lines ≡ ways_of (plan_in plan) plan.root = lines_ways plan layout.specs.items layout.sinks.items layout.hasher layout.parts (branches (plan_in plan) plan.root) lines are_all in
+      let W : List Way → Type 0 = AllByRecursion (IsWay (meaning_in plan)) in
+      let S : List Way → Type 0 = λ ws. (n : ℕ) → 0 < occurs n (flat_map starts_of ws) → (meaning_in plan).is_run n ≡ true in
+      let B : List Way → Type 0 = λ ws. (n : ℕ) → 0 < occurs n (flat_map starts_of ws) → begins_leg (kind_at (nodes_in plan) n) ≡ true in
+      let K : ℕ → Type 0 = λ k. IsPartitionCount k layout.parts in
       record {
         settings = layout_settings plan layout;
         stand = stands run bs lines good cut are
@@ -174,4 +187,15 @@ module _ {H : Type 0} (hash_of : H → List ℕ → ℕ) (plan : Checked) (layou
             idle none many sinks probers;
         root = root_setting plan layout is;
         order = refl;
+        fresh = fresh;
+        listed = λ setting. record {
+          parked = tt;
+          todo = lines_listed plan setting good layout.specs.items layout.sinks.items layout.hasher layout.parts (branches (plan_in plan) plan.root) lines are_all
+              (subst W (sym ways) (can_run (plan_in plan) plan.root good).ways)
+              (subst S (sym ways) (λ n begun. begin_run (plan_in plan) plan.root n good begun))
+              (subst B (sym ways) (λ n begun. starts_begin (plan_in plan) plan.root n good begun))
+              (is_tree (plan_in plan) plan.root good).run_under;
+        };
+        parts = subst K (sym workers_are) parts;
+        staged = λ setting ok many are_parts. staged plan layout setting good ok run.runner.context.workers is many are_parts;
       }

@@ -8,3 +8,5 @@ pub mod Layouts
 pub mod LegsMade
 -- a run that stands for a plan
 pub mod Standing
+-- what the journal of a run is
+pub mod Journals

@@ -20,10 +20,11 @@ use Rattle.pipe_slots.specs.declared.phys_operator.PhysOperator.{PhysOperator}
 use Rattle.pipe_sinks.specs.Sinks.{sink_text}
 use Rattle.pipe_engine.specs.Stands.{StandsFor}
 use Rattle.pipe_engine.specs.declared.part.Part.{Part}
+use Rattle.pipe_plan.specs.Under.{node_at}
 use Rattle.pipe_check.specs.Checked.{Checked}
 use Rattle.pipe_lines.specs.Made.{Specs, Sinks, settings_in}
 use Rattle.pipe_create.specs.Nodes.{IsUnder, plan_in, nodes_in, meaning_in}
-use Rattle.pipe_create.specs.Sources.{IsSourceAt}
+use Rattle.pipe_create.specs.Sources.{IsSourceAt, taken_at}
 
 -- ---- the text of a pipeline
 
@@ -55,6 +56,8 @@ pub record IsLegMade {H : Type 0} (plan : Checked) (specs : Specs) (sinks : Sink
   pub few : leg.count < 4294967295
   pub stands : StandsFor leg.part (settings_in plan specs sinks hasher parts) (meaning_in plan) start
       (leg_as (length (nodes_in plan)) leg)
+  -- the nodes whose rows are taken there
+  pub scans : leg.part.scans.items ≡ taken_at (node_at (nodes_in plan) start) start
 
 -- each begins at the node of the sink before it
 abbrev pub AreLegsMade : {H : Type 0} → Checked → Specs → Sinks H → (hasher : H) → (parts : ℕ) →

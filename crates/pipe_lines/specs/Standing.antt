@@ -1,7 +1,10 @@
 -- A run that stands for a checked plan.
-use Rattle.std.specs.Prelude.{◌≡◌, ℕ, List, length, if◌then◌else◌}
+use Rattle.std.specs.Prelude.{◌≡◌, ℕ, List, [], length, if◌then◌else◌}
 use Rattle.pipe_frame.specs.Counts.{Rises}
 use Rattle.pipe_frame.specs.Weights.{total}
+use Rattle.pipe_rows.specs.Partition.{IsPartitionCount}
+use Rattle.pipe_events.specs.PlanStages.{Setting, stages_of}
+use Rattle.pipe_events.specs.Stages.{IsStages}
 use Rattle.pipe_check.specs.Checked.{Checked}
 use Rattle.pipe_branches.specs.declared.branch.SinkAt.TheVariants as at
 use Rattle.pipe_convert.specs.Converted.{schema_in}
@@ -13,6 +16,8 @@ use Rattle.pipe_driver.specs.declared.error.RunError.{RunError}
 use Rattle.pipe_driver.specs.declared.error.RunError.TheVariants as error
 use Rattle.pipe_engine.specs.Drives.{Line, LineRun}
 use Rattle.pipe_engine.specs.Engine.{engine_words}
+use Rattle.pipe_engine.specs.Journals.{staging_of}
+use Rattle.pipe_engine.specs.Noted.{AreListed, IsStagingOf}
 use Rattle.pipe_engine.specs.Stands.{Settings}
 use Rattle.pipe_sinks.specs.Sinks.{OrderedBy}
 use Rattle.pipe_lines.specs.Made.{order_in}
@@ -30,6 +35,16 @@ pub record IsRunFor {H : Type 0} (hash_of : H → List ℕ → ℕ) (plan : Chec
   pub stand : StandFor (engine_words hash_of settings) (ask_in plan) run pipelines
   pub root : settings.setting_at at.Ordered ≡ OrderedBy (schema_in plan plan.root)
   pub order : settings.order ≡ order_in plan
+  -- nothing is written yet, and the pipelines take what the events of a run take
+  pub fresh : run.runner.journal.items ≡ []
+  pub listed : (setting : Setting) →
+      AreListed (staging_of (ask_in plan) setting) (meaning_in plan) [] pipelines
+  -- by so many workers, with as many partitions as they ask for
+  pub parts : IsPartitionCount run.runner.context.workers settings.parts
+  pub staged : (setting : Setting) → IsStages (stages_of (plan_in plan) plan.root setting) →
+      setting.workers ≡ run.runner.context.workers → setting.parts ≡ settings.parts →
+      IsStagingOf settings (meaning_in plan) run.runner.context.workers
+      (staging_of (ask_in plan) setting)
 
 -- how many rows a node has, none where it is a sort, and how many the sources under a plan's root have
 -- together: its scans, and unions of scans alone, which have their scans' rows

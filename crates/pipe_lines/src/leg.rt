@@ -13,7 +13,7 @@ use crate::layout::Layout;
 use crate::operator::get_operator;
 use pipe_branches::{SinkAt, SinkNode};
 use pipe_check::CheckedPlan;
-use pipe_create::node_count;
+use pipe_create::{node_count, source_nodes};
 use pipe_driver::Leg;
 use pipe_engine::Part;
 use pipe_ops::Sink;
@@ -125,6 +125,7 @@ pub(crate) fn create_leg<H: KeyHasher>(
     let stages = create_stages(alloc, plan, specs, workers, leg.start, leg.operators)?;
     let sink = leg_sink(alloc, plan, layout, leg.sink.at)?;
     let operators = leg.operators.to_vec(alloc)?;
+    let scans = source_nodes(alloc, plan, leg.start)?;
     Ok(Leg {
         operators,
         at: leg.sink.at,
@@ -137,6 +138,7 @@ pub(crate) fn create_leg<H: KeyHasher>(
                 node: last_node(leg.start, leg.operators),
                 given: 0,
             },
+            scans,
         },
     })
 }

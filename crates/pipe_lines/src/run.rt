@@ -1,6 +1,6 @@
 //! A plan's pipelines, with what runs them.
 
-ghost use Rattle.std.specs.Prelude.{◌≡◌, IfOk, IfErr, OnOk, Err, true};
+ghost use Rattle.std.specs.Prelude.{◌≡◌, [], IfOk, IfErr, OnOk, Err, true};
 ghost use Rattle.pipe_frame.specs.Counts.{Counts, Rises};
 ghost use Rattle.pipe_frame.specs.Rows.{Same};
 ghost use Rattle.pipe_convert.specs.Converted.{schema_in};
@@ -9,6 +9,8 @@ ghost use Rattle.pipe_driver.specs.Within.{AllWithin, EndsWith};
 ghost use Rattle.pipe_plan.specs.Under.{node_at};
 ghost use Rattle.pipe_engine.specs.Asked.{stops};
 ghost use Rattle.pipe_engine.specs.Paced.{TakesPaced, most_of};
+ghost use Rattle.pipe_takings.specs.Paced.{KeepsPace};
+ghost use Rattle.pipe_lines.specs.Journals.{IsJournalOf};
 ghost use Rattle.pipe_lines.specs.Made.{sorts_rows};
 ghost use Rattle.pipe_lines.specs.Standing.{IsRunFor, IsMemory, Stays, rows_scanned};
 
@@ -19,9 +21,11 @@ use pipe_check::CheckedPlan;
 use pipe_create::{branch_counts, node_count};
 use pipe_driver::{Run, RunError};
 use pipe_engine::{Engine, PlanLine, PlanRun, Tools, execute_branches};
+use pipe_events::Event;
 use pipe_frame::{DataFrame, Gate, StopCheck};
 use pipe_ops::PExecutionContext;
 use pipe_rows::KeyHasher;
+use pipe_typing::frames_fit;
 use std::alloc::{AllocError, Global};
 use std::thread::Threads;
 
@@ -62,10 +66,12 @@ pub fn create_run<H: KeyHasher>(
 }
 
 /// Runs the pipelines of a checked plan: the rows of its root, under its schema, in their order where it is a sort. No
-/// node under that has more rows than the limit. To each question of the stop check the workers take at most four chunks
-/// each of the scans under the root. `Stopped` where it said yes, after which it isn't asked again; else it said no each
-/// time. `TooMany` with a node under the root that has more rows than the limit; `Memory`. A plan that is within the
-/// limit, and isn't stopped, ends with its rows or for want of memory.
+/// node under that has more rows than the limit. What the legs did is the journal: a complete list of events of the plan,
+/// which brings the root those rows, in place of what it held. To each question of the stop check the workers take at most
+/// four chunks each: of the scans under the root by their rows, and of all sources by the journal. `Stopped` where it said
+/// yes, after which it isn't asked again; else it said no each time. `TooMany` with a node under the root that has more
+/// rows than the limit; `Memory`. A plan that is within the limit, and isn't stopped, ends with its rows or for want of
+/// memory.
 pub fn run_branches<R: Threads + Sync, H: KeyHasher, C: StopCheck, G: Gate + Sync>(
     alloc: Global,
     tools: &Tools<R, G>,
@@ -73,12 +79,16 @@ pub fn run_branches<R: Threads + Sync, H: KeyHasher, C: StopCheck, G: Gate + Syn
     plan: &CheckedPlan,
     context: PExecutionContext,
     hasher: H,
+    journal: &mut Vec<Event>,
 ) -> Result<DataFrame, RunError>
     ensures rows { IfOk result (λ frame. Same frame.rows (rows_in plan.now plan.now.root)) }
     ensures in_order { sorts_rows (node_at (nodes_in plan.now) plan.now.root) ≡ true →
         IfOk result (λ frame. frame.rows ≡ rows_in plan.now plan.now.root) }
     ensures schema { IfOk result (λ frame. frame.schema ≡ schema_in plan.now plan.now.root) }
     ensures within { OnOk result (AllWithin context.row_limit (plan_in plan.now) plan.now.root) }
+    ensures journal { IfOk result
+        (IsJournalOf (plan_in plan.now) plan.now.root (H.hash_of hasher) context.workers
+        journal.new.items) }
     ensures err { IfErr result (EndsWith context.row_limit (plan_in plan.now) plan.now.root) }
     ensures complete { AllWithin context.row_limit (plan_in plan.now) plan.now.root
         → Stays (C.yes stop.old) (C.yes stop.new) → IfErr result IsMemory }
@@ -87,9 +97,12 @@ pub fn run_branches<R: Threads + Sync, H: KeyHasher, C: StopCheck, G: Gate + Syn
     ensures last { result ≡ Err RunError.Stopped → C.last_answer stop.new ≡ true }
     ensures paced { OnOk result (TakesPaced (most_of context) (rows_scanned plan.now) 0
         (C.asked stop.old) (C.asked stop.new)) }
+    ensures kept { OnOk result (KeepsPace context.workers context.chunk_rows
+        (C.asked stop.old) (C.asked stop.new) [] journal.new.items) }
 {
+    frames_fit(plan.arena().frames.as_slice());
     match create_run(alloc, plan, context, hasher) {
-        Ok((run, pipelines)) => execute_branches(alloc, tools, stop, run, pipelines),
+        Ok((run, pipelines)) => execute_branches(alloc, tools, stop, run, pipelines, journal),
         Err(_) => Err(RunError::Memory),
     }
 }

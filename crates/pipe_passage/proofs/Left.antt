@@ -25,6 +25,7 @@ use Rattle.pipe_run.specs.Lanes.{lane_operators, lane_works, lane_acts, lane_cou
 use Rattle.pipe_run.specs.Flushes.{HasStage}
 use Rattle.pipe_run.specs.Stages.{operators_of, nodes_of, counts}
 use Rattle.pipe_slots.specs.CallBackWords.{KeepsNothing}
+use Rattle.pipe_takings.specs.Notes.{HasNothing}
 use Rattle.pipe_passage.specs.Passages.{phys_words, schemas_of, GivesSchemas, acts_now, IsPassing, noted, HasLeft}
 use Rattle.pipe_slots.specs.PhysWords.{output_of, suits_of, seated_of, work_of, acts_of, idle_of}
 use Rattle.pipe_passage.specs.LaneSeats.{seats_in, first_seats, front_seats, LaneOff, LanesOff, sum_of, SameActs, AllSameActs, LaneLeft, LanesLeft, StageLeft, AreRest, IsRest, AllRest}
@@ -301,6 +302,12 @@ module _ {H K : Type 0} (hash_of : H → List ℕ → ℕ) where
   left-noted v w (x ∷ xs) [] h = absurd h
   left-noted v w (x ∷ xs) (y ∷ ys) h = rw (h.1.entries, left-noted h.0 w xs ys h.2) refl
 
+  left-nothing : (v w : List SeatMarks) (xs ys : List (Lane (PhysOperator H) K)) → LanesLeft v w xs ys → AllByRecursion HasNothing xs → AllByRecursion HasNothing ys
+  left-nothing v w [] [] h none = tt
+  left-nothing v w [] (y ∷ ys) h none = absurd h
+  left-nothing v w (x ∷ xs) [] h none = absurd h
+  left-nothing v w (x ∷ xs) (y ∷ ys) h none = (h.1.entries ∙ none.0, left-nothing h.0 w xs ys h.2 none.1)
+
   -- all seats are in
   pub left-rest : (v w : List SeatMarks) (slot : Slot H) (ss : List (Slot H)) (xs ys : List (Lane (PhysOperator H) K)) → LanesLeft v w xs ys → All (λ (x : (Lane (PhysOperator H) K)). AllServe (phys_words hash_of) (lane_operators x) (slot ∷ ss)) xs → IsRest (length xs) slot v → IsRest 0 slot w
   left-rest v w slot ss [] [] h serve r = subst (λ (u : List SeatMarks). IsRest 0 slot u) (sym h) r
@@ -345,8 +352,8 @@ module _ {H K : Type 0} (hash_of : H → List ℕ → ℕ) where
     same-length (x ∷ xs) (y ∷ ys) h = ap suc (same-length xs ys h.1)
 
     -- what lanes do leaves them fit for more
-    pub still-passing : (limit : ℕ) (from : List Field) (xs ys : List (Lane (PhysOperator H) K)) (ss : List (Slot H)) (free : List (List SeatMarks)) → IsPassing hash_of sink limit from xs ss free → DoTheSame (phys_words hash_of) sink xs ys → AreAlike (phys_words hash_of) from ss ys → All IsCalm ys → All (IsFit (phys_words hash_of) sink ss limit from) ys → AllWithin limit (counts_in ys) → IsPassing hash_of sink limit from ys ss free
-    still-passing limit from xs ys ss free p same alike calm fit within =
+    pub still-passing : (limit : ℕ) (from : List Field) (xs ys : List (Lane (PhysOperator H) K)) (ss : List (Slot H)) (free : List (List SeatMarks)) → IsPassing hash_of sink limit from xs ss free → DoTheSame (phys_words hash_of) sink xs ys → AreAlike (phys_words hash_of) from ss ys → All IsCalm ys → All (IsFit (phys_words hash_of) sink ss limit from) ys → AllWithin limit (counts_in ys) → AllByRecursion HasNothing ys → IsPassing hash_of sink limit from ys ss free
+    still-passing limit from xs ys ss free p same alike calm fit within none =
         let long = same-length xs ys same.lanes in
         record {
           some = omega (arith, p.some, long);
@@ -358,6 +365,7 @@ module _ {H K : Type 0} (hash_of : H → List ℕ → ℕ) where
           schemas = p.schemas;
           gives = all-schemas from p.schemas xs ys same.lanes p.gives;
           rest = subst (λ (n : ℕ). AllRest n ss free) (sym long) p.rest;
+          noted_none = none;
         }
 
     -- ---- the leg has left its first stage
@@ -401,6 +409,7 @@ module _ {H K : Type 0} (hash_of : H → List ℕ → ℕ) where
             schemas = drop 1 p.schemas;
             gives = left-all (GivesSchemas from p.schemas) (GivesSchemas next (drop 1 p.schemas)) (λ a b x y one q. left-gives a b x y one from p.schemas q) v w xs ys h p.gives;
             rest = subst (λ (n : ℕ). AllRest n ss free) (sym long) p.rest.1;
+            noted_none = left-nothing v w xs ys h p.noted_none;
           }
 
       -- whatever schemas they are known by

@@ -16,7 +16,8 @@ use Rattle.pipe_run.specs.Dealt.{AreAlike, works_in, nodes_in, acts_in, counts_i
 use Rattle.pipe_run.specs.Lanes.{lane_operators, lane_works, lane_acts, lane_counts, lane_nodes, held_in, IsCalm, IsFit, IsSet}
 use Rattle.pipe_run.specs.Opens.{IsSplit}
 use Rattle.pipe_run.specs.Stages.{operators_of, nodes_of, counts}
-use Rattle.pipe_passage.specs.Passages.{phys_words, schemas_of, GivesSchemas, acts_now, IsPassing, HasNothing, HasOpened}
+use Rattle.pipe_passage.specs.Passages.{phys_words, schemas_of, GivesSchemas, acts_now, IsPassing, HasOpened}
+use Rattle.pipe_takings.specs.Notes.{HasNothing}
 use Rattle.pipe_slots.specs.PhysWords.{output_of, work_of, acts_of, idle_of}
 use Rattle.pipe_passage.specs.LaneSeats.{HaveMore, HasMore, HaveSeats, HasSeats, all_back, sum_of, AllSameActs, AllRest, AreOpen, StagesOpened, LaneOpened, LanesOpened}
 use Rattle.pipe_slots.specs.declared.phys_operator.PhysOperator.{PhysOperator}
@@ -255,6 +256,7 @@ module _ {H K B C : Type 0} (hash_of : H → List ℕ → ℕ) (sink : SinkWords
       schemas = schemas_of from (operators_of stages);
       gives = gives-all from;
       rest = rest;
+      noted_none = each-in-turn HasNothing (λ u v x one. one.entries) before after' lanes all;
     }
 
     pub has-opened : HasOpened hash_of sink limit stages basin ss before after' lanes

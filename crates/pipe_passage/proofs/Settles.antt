@@ -25,6 +25,10 @@ use Rattle.pipe_run.proofs.Limits.{went-none}
 use Rattle.pipe_run.proofs.RoundSteps.{same-lanes-refl, lanes-acts-length, counts-in-length}
 use Rattle.pipe_slots.specs.CallBackWords.{KeepsNothing}
 use Rattle.pipe_slots.specs.JoinWords.{parts_by, parts_in, part_in}
+use Rattle.pipe_takings.specs.declared.note.Note.{Note}
+use Rattle.pipe_takings.specs.Notes.{HasNothing, entries_of_parts}
+use Rattle.pipe_takings.specs.Noted.{IsNotedSince}
+use Rattle.pipe_takings.proofs.GoingOn.{none_noted}
 use Rattle.pipe_passage.specs.Passages.{phys_words, IsPassing, HasLeft, HasSettled, HasFewParts, GivesSchemas}
 use Rattle.pipe_slots.specs.PhysWords.{output_of, flushed_of, suits_of, seated_of, closed_of, idle_of}
 use Rattle.pipe_passage.specs.LaneSeats.{stage_with, LaneLeft, LanesLeft, StageLeft, AreRest, IsRest}
@@ -36,7 +40,7 @@ use Rattle.pipe_slots.specs.declared.phys_operator.PhysOperator.{PhysOperator}
 use Rattle.pipe_slots.specs.declared.phys_operator.PhysOperator.TheVariants as op
 use Rattle.pipe_slots.specs.declared.slot.Slot.{Slot}
 use Rattle.pipe_slots.specs.declared.slot.Slot.TheVariants.{Empty, Keys, Rows, Full, Spent}
-use Rattle.pipe_passage.proofs.Left.{first_schema, left-next, left-operators, left-all, left-alike, left-passing, left-fits, still-passing, has-left, has-left-next, passing-there}
+use Rattle.pipe_passage.proofs.Left.{first_schema, left-next, left-operators, left-all, left-alike, left-passing, left-fits, left-length, still-passing, has-left, has-left-next, passing-there}
 
 -- ---- what all seats close
 
@@ -258,8 +262,8 @@ module _ {H K B C : Type 0} (hash_of : H → List ℕ → ℕ) (sink : SinkWords
       alike-of some =
           subst (λ (s : List Field). AreAlike (phys_words hash_of) s ss ys) (sym (next-of slot closed c some p)) (left-alike hash_of sink limit from slot ss v w free xs ys p h)
 
-      none-of : parts_in closed ≡ 0 → HasSettled hash_of sink limit from xs ys (slot ∷ ss) ss (v ∷ free) free
-      none-of none =
+      none-of : parts_in closed ≡ 0 → (notes : List Note) → HasSettled hash_of sink limit from xs ys (slot ∷ ss) ss (v ∷ free) free 0 notes notes
+      none-of none notes =
           let left = has-left hash_of sink limit from slot ss v w free xs ys p h in
           record {
             slot = slot;
@@ -271,11 +275,14 @@ module _ {H K B C : Type 0} (hash_of : H → List ℕ → ℕ) (sink : SinkWords
             same = same-lanes-refl (phys_words hash_of) sink ys;
             passing = left.passing;
             went = nothing-flushed hash_of sink limit left.next ss free closed ys left.passing none;
+            parts_are = sym none;
+            noted = none_noted (length xs) (entries_of_parts 0) notes;
           }
 
       module _ (zs : List (Lane (PhysOperator H) K)) (some : 0 < parts_in closed) (same : DoTheSame (phys_words hash_of) sink ys zs) (alike : AreAlike (phys_words hash_of) (flushed_in (phys_words hash_of) ys) ss zs) (calm : All IsCalm zs)
-          (fits : All (IsFlushFit (phys_words hash_of) sink closed ss limit (flushed_in (phys_words hash_of) ys)) zs) (within : AllWithin limit (counts_in zs)) (went : WentAll (phys_words hash_of) sink ss (flushed_in (phys_words hash_of) ys) (rows_of_parts parts_in (part_in hash_of) closed) ys zs) where
-        flushed-of : HasSettled hash_of sink limit from xs zs (slot ∷ ss) ss (v ∷ free) free
+          (fits : All (IsFlushFit (phys_words hash_of) sink closed ss limit (flushed_in (phys_words hash_of) ys)) zs) (within : AllWithin limit (counts_in zs)) (went : WentAll (phys_words hash_of) sink ss (flushed_in (phys_words hash_of) ys) (rows_of_parts parts_in (part_in hash_of) closed) ys zs)
+          (parts : ℕ) (parts_are : parts ≡ parts_in closed) (notes notes' : List Note) (noted : IsNotedSince (length ys) (parts_in closed) (entries_of_parts (parts_in closed)) notes notes') (nothing : AllByRecursion HasNothing zs) where
+        flushed-of : HasSettled hash_of sink limit from xs zs (slot ∷ ss) ss (v ∷ free) free parts notes notes'
         flushed-of =
             let left = has-left hash_of sink limit from slot ss v w free xs ys p h in
             let is : flushed_in (phys_words hash_of) ys ≡ left.next = next-of slot closed c some p ∙ sym (has-left-next hash_of sink limit from slot ss v w free xs ys p h) in
@@ -289,8 +296,10 @@ module _ {H K B C : Type 0} (hash_of : H → List ℕ → ℕ) (sink : SinkWords
               same = same;
               passing = still-passing hash_of sink limit left.next ys zs ss free left.passing same
                   (subst (λ (s : List Field). AreAlike (phys_words hash_of) s ss zs) is alike) calm
-                  (λ i d less. subst (λ (s : List Field). IsFit (phys_words hash_of) sink ss limit s (get_or zs i d)) is (fits i d less).fit) within;
+                  (λ i d less. subst (λ (s : List Field). IsFit (phys_words hash_of) sink ss limit s (get_or zs i d)) is (fits i d less).fit) within nothing;
               went = subst (λ (s : List Field). WentAll (phys_words hash_of) sink ss s (rows_of_parts parts_in (part_in hash_of) closed) ys zs) is went;
+              parts_are = parts_are;
+              noted = subst (λ (n : ℕ). IsNotedSince (length xs) n (entries_of_parts n) notes notes') (sym parts_are) (subst (λ (n : ℕ). IsNotedSince n (parts_in closed) (entries_of_parts (parts_in closed)) notes notes') (left-length hash_of v w xs ys h) noted);
             }
 
   -- ---- by what was taken off
@@ -306,14 +315,14 @@ module _ {H K B C : Type 0} (hash_of : H → List ℕ → ℕ) (sink : SinkWords
     pub left-on : IsPassing hash_of sink limit (first_schema there.schemas) ys ss' free'
     left-on = left-passing hash_of sink limit from slot ss' h.first w free' xs ys there h.lanes
 
-    back : (zs : List (Lane (PhysOperator H) K)) → HasSettled hash_of sink limit from xs zs (slot ∷ ss') ss' (h.first ∷ free') free' → HasSettled hash_of sink limit from xs zs ss ss' free free'
-    back zs settled =
-        subst (λ (l : List (Slot H)). HasSettled hash_of sink limit from xs zs l ss' free free') (sym h.shared)
-        (subst (λ (f : List (List SeatMarks)). HasSettled hash_of sink limit from xs zs (slot ∷ ss') ss' f free') (sym h.seats_are) settled)
+    back : (zs : List (Lane (PhysOperator H) K)) (parts : ℕ) (notes notes' : List Note) → HasSettled hash_of sink limit from xs zs (slot ∷ ss') ss' (h.first ∷ free') free' parts notes notes' → HasSettled hash_of sink limit from xs zs ss ss' free free' parts notes notes'
+    back zs parts notes notes' settled =
+        subst (λ (l : List (Slot H)). HasSettled hash_of sink limit from xs zs l ss' free free' parts notes notes') (sym h.shared)
+        (subst (λ (f : List (List SeatMarks)). HasSettled hash_of sink limit from xs zs (slot ∷ ss') ss' f free' parts notes notes') (sym h.seats_are) settled)
 
     module _ (c : IsClosedAs slot w closed) where
-      pub settled-none : parts_in closed ≡ 0 → HasSettled hash_of sink limit from xs ys ss ss' free free'
-      settled-none none = back ys (none-of ss' h.first w free' xs ys h.lanes slot closed c there none)
+      pub settled-none : parts_in closed ≡ 0 → (notes : List Note) → HasSettled hash_of sink limit from xs ys ss ss' free free' 0 notes notes
+      settled-none none notes = back ys 0 notes notes (none-of ss' h.first w free' xs ys h.lanes slot closed c there none notes)
 
       pub few-flushed : HasFewParts ss → parts_in closed < 4294967295
       few-flushed few = omega (arith, closed-parts slot w closed c, few-parts slot ss ss' h.shared few)
@@ -327,5 +336,5 @@ module _ {H K B C : Type 0} (hash_of : H → List ℕ → ℕ) (sink : SinkWords
 
         pub settled-flushed : (zs : List (Lane (PhysOperator H) K)) → DoTheSame (phys_words hash_of) sink ys zs → AreAlike (phys_words hash_of) (flushed_in (phys_words hash_of) ys) ss' zs → All IsCalm zs
             → All (IsFlushFit (phys_words hash_of) sink closed ss' limit (flushed_in (phys_words hash_of) ys)) zs → AllWithin limit (counts_in zs) → WentAll (phys_words hash_of) sink ss' (flushed_in (phys_words hash_of) ys) (rows_of_parts parts_in (part_in hash_of) closed) ys zs
-            → HasSettled hash_of sink limit from xs zs ss ss' free free'
-        settled-flushed zs same alike calm fits within went = back zs (flushed-of ss' h.first w free' xs ys h.lanes slot closed c there zs some same alike calm fits within went)
+            → (parts : ℕ) → parts ≡ parts_in closed → (notes notes' : List Note) → IsNotedSince (length ys) (parts_in closed) (entries_of_parts (parts_in closed)) notes notes' → AllByRecursion HasNothing zs → HasSettled hash_of sink limit from xs zs ss ss' free free' parts notes notes'
+        settled-flushed zs same alike calm fits within went parts parts_are notes notes' noted nothing = back zs parts notes notes' (flushed-of ss' h.first w free' xs ys h.lanes slot closed c there zs some same alike calm fits within went parts parts_are notes notes' noted nothing)

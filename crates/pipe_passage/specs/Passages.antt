@@ -16,6 +16,9 @@ use Rattle.pipe_run.specs.Dealt.{AreAlike, DoTheSame, WentAll, works_in, nodes_i
 use Rattle.pipe_run.specs.Flushes.{rows_of_parts}
 use Rattle.pipe_run.specs.Lanes.{lane_operators, held_in, IsCalm, IsFit, IsSet}
 use Rattle.pipe_run.specs.Stages.{operators_of, nodes_of}
+use Rattle.pipe_takings.specs.declared.note.Note.{Note}
+use Rattle.pipe_takings.specs.Notes.{HasNothing, entries_of_parts}
+use Rattle.pipe_takings.specs.Noted.{IsNotedSince}
 use Rattle.pipe_slots.specs.JoinWords.{parts_in, part_in}
 use Rattle.pipe_slots.specs.PhysWords.{takes_of, output_of, flushed_of, text_of, suits_of, seated_of, closed_of, work_of, acts_of, rest_of, ready_of, idle_of, answers_of, is_flushing_of, flush_owed}
 use Rattle.pipe_passage.specs.LaneSeats.{sum_of, AllSameActs, AllRest, IsRest}
@@ -58,8 +61,8 @@ abbrev pub acts_now : {H K : Type 0} → (hash_of : H → List ℕ → ℕ) →
     List (Lane (PhysOperator H) K) → (free : List (List SeatMarks)) → List Acts
 acts_now hash_of lanes free = added (map sum_of free) (acts_in (phys_words hash_of) lanes)
 
--- the lanes of a leg between two chunks: rows of a schema come into them, stage by stage they read
--- these slots, and these seats are free there
+-- the lanes of a leg between two rounds: rows of a schema come into them, stage by stage they read
+-- these slots, these seats are free there, and what they noted is kept elsewhere
 pub record IsPassing {H K B C : Type 0} (hash_of : H → List ℕ → ℕ) (sink : SinkWords K B C)
     (limit : ℕ) (from : List Field) (lanes : List (Lane (PhysOperator H) K)) (ss : List (Slot H))
     (free : List (List SeatMarks)) : Type 0 where
@@ -72,6 +75,7 @@ pub record IsPassing {H K B C : Type 0} (hash_of : H → List ℕ → ℕ) (sink
   pub schemas : List (List Field)
   pub gives : All (GivesSchemas from schemas) lanes
   pub rest : AllRest (length lanes) ss free
+  pub noted_none : AllByRecursion HasNothing lanes
 
 -- so where rows of some schema come into them
 pub record IsUnderWay {H K B C : Type 0} (hash_of : H → List ℕ → ℕ) (sink : SinkWords K B C)
@@ -88,9 +92,6 @@ HasFewParts (s ∷ ss) = parts_in s < 4294967295
 -- what lanes noted, lane by lane
 abbrev pub noted : {O K : Type 0} → Lane O K → List Entry
 noted lane = lane.entries.items
-
-abbrev pub HasNothing : {O K : Type 0} → Lane O K → Type 0
-HasNothing lane = lane.entries.items ≡ []
 
 -- lanes have left their first stage: what that read, and all seats of its join
 pub record HasLeft {H K B C : Type 0} (hash_of : H → List ℕ → ℕ) (sink : SinkWords K B C)
@@ -137,10 +138,11 @@ pub record HasOpened {H K B C : Type 0} (hash_of : H → List ℕ → ℕ) (sink
       All (GivesSchemas from (schemas_of from (operators_of stages))) lanes
 
 -- the last leg has left its first stage: the flags of its join are closed, and what that kept was
--- flushed through the stages behind
+-- flushed through the stages behind, which lanes noted
 pub record HasSettled {H K B C : Type 0} (hash_of : H → List ℕ → ℕ) (sink : SinkWords K B C)
     (limit : ℕ) (from : List Field) (old new : List (Lane (PhysOperator H) K))
-    (ss ss' : List (Slot H)) (free free' : List (List SeatMarks)) : Type 0 where
+    (ss ss' : List (Slot H)) (free free' : List (List SeatMarks)) (parts : ℕ)
+    (notes notes' : List Note) : Type 0 where
   pub slot : Slot H
   pub seats : List SeatMarks
   pub mid : List (Lane (PhysOperator H) K)
@@ -151,3 +153,5 @@ pub record HasSettled {H K B C : Type 0} (hash_of : H → List ℕ → ℕ) (sin
   pub passing : IsPassing hash_of sink limit left.next new ss' free'
   pub went : WentAll (phys_words hash_of) sink ss' left.next
       (rows_of_parts parts_in (part_in hash_of) closed) mid new
+  pub parts_are : parts ≡ parts_in closed
+  pub noted : IsNotedSince (length old) parts (entries_of_parts parts) notes notes'

@@ -1,4 +1,4 @@
-use Rattle.std.proofs.Common.{List, ℕ, sym, subst, arith, ◌∙◌}
+use Rattle.std.proofs.Common.{List, ℕ, map, ap, sym, subst, arith, ◌∙◌}
 use Rattle.pipe_engine.specs.Paced.{most_of}
 use Rattle.pipe_engine.specs.Known.{words_of}
 use Rattle.pipe_driver.specs.Runs.{Passes}
@@ -8,7 +8,15 @@ use Rattle.pipe_engine.proofs.Breaking.{err_same}
 use Rattle.pipe_engine.proofs.Tellings.{end_tells, limit_as}
 use Rattle.pipe_engine.proofs.Mays.{may_end}
 use Rattle.pipe_engine.proofs.Asked.{asked-made, asked-then, asked_passed, asked_passed_then}
+use Rattle.pipe_engine.proofs.Pacing.{pace_asked, pace_then}
 use Rattle.pipe_engine.proofs.Paces.{paced-asked, paced-then}
+use Rattle.pipe_events.specs.EventValues.{event_value}
+use Rattle.pipe_events.specs.Worlds.{Event}
+use Rattle.pipe_ops.specs.declared.context.PExecutionContext.{PExecutionContext}
+use Rattle.pipe_driver.proofs.Drives.{run_with}
+use Rattle.pipe_engine.specs.Noted.{IsStagingOf, NotedFed}
+use Rattle.pipe_engine.specs.Journals.{events_in}
+use Rattle.pipe_engine.proofs.Noted.{noted_fed}
 use Rattle.pipe_engine.proofs.driving.feed.Goals as goal
 
 pub pass-requires-clause-idle : goal.pass-requires-clause-idle
@@ -97,6 +105,19 @@ returns-in_err-end_leg-clause-context g c = c.end_leg.ensures.context ∙ c.leav
 pub returns-clause-context : goal.returns-clause-context
 returns-clause-context g c = c.end_leg.ensures.context ∙ c.leave_all.ensures.context ∙ c.pass.ensures.context
 
+pub returns-clause-noted : goal.returns-clause-noted
+returns-clause-noted g c = λ k can v staged noted. (
+    let leg = c.in_ok-leg.leg in
+    let led = c.in_ok-leg.ensures.led k can in
+    let W : PExecutionContext → Type 0 = λ context. IsStagingOf k.settings k.task.m context.workers v in
+    let Q : List ℕ → Type 0 = λ ops. Passes (words_of g.H.KeyHasher.hash_of k) k.task c.pass.new.run ops leg.at c.args.pipelines.now.items in
+    let passes = c.in_ok-leave_all.ensures.passes k (record { sound = can.sound; passes = subst Q (sym c.as_slice.ensures.value) led.passes }) in
+    let left = c.in_ok-leave_all.ensures.noted k (record { sound = can.sound; passes = subst Q (sym c.as_slice.ensures.value) led.passes }) v (subst W (sym c.pass.ensures.context) staged) (c.in_ok-leg.ensures.noted k can v staged noted) in
+    let N : List Event → Type 0 = NotedFed v k.task (run_with c.end_leg.new.engine c.leave_all.new.run.parked c.lower-left.new.self c.leave_all.new.run.probers) leg.at c.args.pipelines.now.items in
+    subst N (sym (ap (λ j. map event_value j.items) c.in_ok-end_leg.ensures.wrote))
+    (noted_fed (words_of g.H.KeyHasher.hash_of k) k.task v c.leave_all.new.run c.end_leg.new.engine c.lower-left.new.self c.args.pipelines.now.items leg.at leg.count c.lower-left.result (events_in c.leave_all.new.run.runner) passes led.number
+    (record { here = c.lower-left.ensures.here; all = c.lower-left.ensures.all }) left))
+
 pub returns-in_err-leg-clause-err : goal.returns-in_err-leg-clause-err
 returns-in_err-leg-clause-err g c = err_same _ _ _ c.from_residual.ensures.1 c.in_err-leg.ensures.err
 
@@ -112,3 +133,13 @@ returns-in_err-end_leg-clause-err g c = err_same _ _ _ c.from_residual-in_err-en
     let Q : List ℕ → Type 0 = λ ops. Passes (words_of g.H.KeyHasher.hash_of k) k.task c.pass.new.run ops leg.at c.args.pipelines.now.items in
     let passes = c.in_ok-leave_all.ensures.passes k (record { sound = can.sound; passes = subst Q (sym c.as_slice.ensures.value) (c.in_ok-leg.ensures.led k can).passes }) in
     limit_as k.task.m _ _ _ (c.leave_all.ensures.context ∙ c.pass.ensures.context) (end_tells (words_of g.H.KeyHasher.hash_of k) k.task c.leave_all.new.run leg.at c.args.pipelines.now.items _ _ can.sound passes (c.in_err-end_leg.ensures.err k.settings))))
+
+pub returns-clause-kept : goal.returns-clause-kept
+returns-clause-kept g c =
+    let first = c.args.run.now.runner in
+    let led = c.pass.new.run.runner in
+    let left = c.leave_all.new.run.runner in
+    let ended = c.end_leg.new.engine in
+    pace_then _ _ _ first left ended (c.leave_all.ensures.context ∙ c.pass.ensures.context)
+    (pace_then _ _ _ first led left c.pass.ensures.context c.in_ok-leg.ensures.kept c.in_ok-leave_all.ensures.kept)
+    (pace_asked 1 _ _ left ended c.in_ok-end_leg.ensures.wrote c.in_ok-end_leg.ensures.asked.asked)

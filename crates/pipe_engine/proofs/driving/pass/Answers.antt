@@ -1,4 +1,4 @@
-use Rattle.std.proofs.Common.{ℕ, subst, arith, refl, Option, sym}
+use Rattle.std.proofs.Common.{ℕ, List, subst, arith, refl, Option, sym}
 use Rattle.pipe_driver.specs.Lines.{leg_as}
 use Rattle.pipe_source.specs.declared.phys_source.PhysSource.{PhysSource}
 use Rattle.pipe_engine.specs.Paced.{TakesPaced, most_of, rows_due_from}
@@ -9,6 +9,11 @@ use Rattle.pipe_engine.proofs.Breaking.{err_same}
 use Rattle.pipe_engine.proofs.Tellings.{pass_tells}
 use Rattle.pipe_engine.proofs.Mays.{may_run}
 use Rattle.pipe_engine.proofs.Asked.{asked-lost, asked-made, asked_passed}
+use Rattle.pipe_events.specs.Worlds.{Event}
+use Rattle.pipe_driver.proofs.Drives.{run_with}
+use Rattle.pipe_engine.specs.Noted.{NotedBetween}
+use Rattle.pipe_engine.specs.Journals.{events_in}
+use Rattle.pipe_engine.proofs.Noted.{noted_led, told_first}
 use Rattle.pipe_engine.proofs.driving.pass.Goals as goal
 
 pub unreachable-requires : goal.unreachable-requires
@@ -66,6 +71,19 @@ returns-in_default-park-clause-context g c = c.run_leg.ensures.context
 pub returns-clause-context : goal.returns-clause-context
 returns-clause-context g c = c.run_leg.ensures.context
 
+pub returns-clause-noted : goal.returns-clause-noted
+returns-clause-noted g c = λ k can v staged noted. (
+    let leg = c.remove-operators.result in
+    let legs = c.remove-operators.new.self.items in
+    let first = first_is c.args.current.legs.items legs leg (some_map (leg_as k.task.m.ordered) c.args.current.legs.items can.ready.ready.way.some) c.remove-operators.ensures.value c.remove-operators.ensures.items in
+    let Q : ℕ → Type 0 = λ n. Parks n legs c.args.run.now.parked.items c.park.new.parked.items in
+    let parks = subst Q c.node_at.ensures c.in-Ok.ensures in
+    let told = told_first v k.task.m c.args.current leg legs c.in-Some.source c.in-Some.is first noted.line in
+    let wrote = c.in_ok-run_leg.ensures.wrote k.settings k.task.m c.args.current.start v told.0 told.1 staged in
+    let N : List Event → Type 0 = NotedBetween v k.task (run_with c.run_leg.new.engine c.park.new.parked c.args.run.now.counts c.args.run.now.probers) c.args.pipelines.now.items in
+    subst N (sym wrote.whole)
+    (noted_led (words_of g.H.KeyHasher.hash_of k) k.task v c.args.current c.args.run.now c.run_leg.new.engine c.park.new.parked c.args.pipelines.now.items leg legs (events_in c.args.run.now.runner) wrote.more can.sound staged.board can.ready first parks noted wrote.are))
+
 pub returns-in_err-run_leg-clause-err : goal.returns-in_err-run_leg-clause-err
 returns-in_err-run_leg-clause-err g c = err_same _ _ _ c.from_residual.ensures.1 (λ k can. (
     let leg = c.remove-operators.result in
@@ -75,3 +93,6 @@ returns-in_err-run_leg-clause-err g c = err_same _ _ _ c.from_residual.ensures.1
 
 pub returns-in_default-park-clause-err : goal.returns-in_default-park-clause-err
 returns-in_default-park-clause-err g c = λ k can. tt
+
+pub returns-clause-kept : goal.returns-clause-kept
+returns-clause-kept g c = c.in_ok-run_leg.ensures.kept

@@ -1,10 +1,13 @@
-use Rattle.std.proofs.Common.{subst}
+use Rattle.std.proofs.Common.{subst, ap, map}
 use Rattle.pipe_frame.specs.Rows.{Same}
 use Rattle.pipe_engine.specs.Known.{words_of, known_of}
 use Rattle.std.proofs.lemmas.Result.{IfErr-weaker}
 use Rattle.pipe_engine.proofs.Tellings.{plan_tells}
 use Rattle.pipe_engine.proofs.Entry.{if_ok, root_rows, stand_between, stand_open, sound_of}
 use Rattle.pipe_engine.proofs.Limits.{keeps_limit, on_ok}
+use Rattle.pipe_events.specs.EventValues.{event_value}
+use Rattle.pipe_engine.specs.Journals.{events_in, staging_of}
+use Rattle.pipe_engine.proofs.FirstNoted.{stand_noted}
 use Rattle.pipe_engine.proofs.plan_run.execute_branches.Goals as goal
 
 pub execute_pipeline-requires-clause-can : goal.execute_pipeline-requires-clause-can
@@ -72,6 +75,19 @@ returns-clause-within g c =
     }))))
     c.execute_pipeline.ensures.within
 
+pub returns-clause-journal : goal.returns-clause-journal
+returns-clause-journal g c =
+    on_ok c.execute_pipeline.result
+    (λ has asked setting is empty listed staged. (
+    let r = words_of g.H.KeyHasher.hash_of (known_of asked) in
+    let v = staging_of asked.ask setting in
+    has (known_of asked) (record {
+      sound = sound_of r asked.ask c.args.run c.args.pipelines.items is;
+      between = stand_between r asked.ask c.args.run c.args.pipelines.items is;
+      root = stand_open r asked.ask c.args.run c.args.pipelines.items is;
+    }) v staged (stand_noted g.H.KeyHasher.hash_of asked.settings asked.ask setting c.args.run c.args.pipelines.items (events_in c.args.run.runner) is (ap (map event_value) empty) listed staged.board.ok)))
+    c.execute_pipeline.ensures.journal
+
 pub returns-clause-err : goal.returns-clause-err
 returns-clause-err g c =
     IfErr-weaker c.execute_pipeline.result _ _
@@ -83,3 +99,6 @@ returns-clause-err g c =
       root = stand_open r asked.ask c.args.run c.args.pipelines.items is;
     }))))
     c.execute_pipeline.ensures.err
+
+pub returns-clause-kept : goal.returns-clause-kept
+returns-clause-kept g c = c.execute_pipeline.ensures.kept

@@ -16,8 +16,15 @@ use Rattle.pipe_engine.proofs.Tellings.{limit_as}
 use Rattle.pipe_engine.proofs.Asked.{answers, asked-ok, asked-answers, asked-answered, asked-risen, asked-then, asked_passed_then, rises}
 use Rattle.pipe_engine.proofs.Driven.{answer_there, fewer_left}
 use Rattle.pipe_engine.proofs.Limits.{runs_within}
+use Rattle.pipe_engine.proofs.Pacing.{pace_none, pace_then}
 use Rattle.pipe_engine.proofs.Paces.{paced-none, paced-then}
 use Rattle.pipe_engine.proofs.Schemas.{newer_schema}
+use Rattle.std.specs.Global.{Vec}
+use Rattle.pipe_events.specs.declared.event.Event.{Event}
+use Rattle.pipe_takings.specs.Paced.{KeepsPace}
+use Rattle.pipe_engine.specs.Journals.{events_in, NotedAt, WroteWhole}
+use Rattle.pipe_engine.specs.Noted.{IsStagingOf}
+use Rattle.pipe_engine.proofs.Noted.{noted_whole}
 use Rattle.pipe_engine.proofs.running.execute_pipeline.Goals as goal
 
 pub fronts-init : goal.fronts-init
@@ -28,11 +35,15 @@ fronts-init g c =
       on = λ k can. (
           let B : List (PipeLine PhysSource (Part g.row.H.Denot)) → Type 0 = Between (words_of g.H.KeyHasher.hash_of k) k.task c.args.run in
           record { sound = can.sound; between = subst B (sym c.from_vec-left.ensures.items) can.between; root = λ z. z });
+      noted = λ k can v staged noted. (
+          let T : List (PipeLine PhysSource (Part g.row.H.Denot)) → Type 0 = λ ps. NotedAt c.args.run ps k v in
+          subst T (sym c.from_vec-left.ensures.items) noted);
       parked = c.requires.parked;
       asked = asked-ok g.C.StopCheck _ _;
       schema = λ k can. tt;
       context = refl;
       paced = subst Q (sym c.from_vec-left.ensures.items) (paced-none most (rows_due_of c.args.pipelines.items) (g.C.StopCheck.asked c.args.stop.now));
+      kept = pace_none (g.C.StopCheck.asked c.args.stop.now) c.args.run.runner;
     }
 
 pub run_pipeline-requires-clause-can : goal.run_pipeline-requires-clause-can
@@ -66,6 +77,12 @@ fronts-preserved g c =
             between = ran.between;
             root = subst A (sym c.newer-answer.ensures) (answer_newer k.task c.args.run c.fronts.run c.run_pipeline.new.run c.fronts.answer c.in_ok-more.more on.root ran.root);
           });
+      noted = λ k can v staged noted. (
+          let on = c.fronts.invariant.on k can in
+          let B : List (PipeLine PhysSource (Part g.row.H.Denot)) → Type 0 = Between (words_of g.H.KeyHasher.hash_of k) k.task c.fronts.run in
+          let W : PExecutionContext → Type 0 = λ context. IsStagingOf k.settings k.task.m context.workers v in
+          let T : List (PipeLine PhysSource (Part g.row.H.Denot)) → Type 0 = λ ps. NotedAt c.fronts.run ps k v in
+          c.in_ok-more.ensures.noted k (record { sound = on.sound; between = subst B first on.between }) v (subst W (sym c.fronts.invariant.context) staged) (subst T first (c.fronts.invariant.noted k can v staged noted)));
       parked = ran'.parked;
       schema = λ k can. (
           let on = c.fronts.invariant.on k can in
@@ -75,6 +92,7 @@ fronts-preserved g c =
       asked = asked-answers g.C.StopCheck _ _ _ _ _ (asked-then g.C.StopCheck (answers c.fronts.answer) 1 1 _ _ _ _ _ (omega arith) c.fronts.invariant.asked (asked-risen g.C.StopCheck _ _ c.in_ok-more.more c.in_ok-more.ensures.asked c.in_ok-more.ensures.yes));
       context = c.run_pipeline.ensures.context ∙ c.fronts.invariant.context;
       paced = paced-then most _ _ _ _ _ _ (subst Q first c.fronts.invariant.paced) (subst P c.fronts.invariant.context c.in_ok-more.ensures.paced);
+      kept = pace_then _ _ _ c.args.run.runner c.fronts.run.runner c.run_pipeline.new.run.runner c.fronts.invariant.context c.fronts.invariant.kept c.in_ok-more.ensures.kept;
     }
 
 pub fronts-smaller : goal.fronts-smaller
@@ -132,8 +150,21 @@ pub returns-clause-within : goal.returns-clause-within
 returns-clause-within g c = λ k can.
     runs_within g.H.KeyHasher.hash_of k c.fronts.run c.fronts.left.items c.args.run.runner.context (c.fronts.invariant.on k can).between (nil_from_length c.fronts.left.items (omega (arith, c.in_default.ensures.cases.0))) c.fronts.invariant.parked c.fronts.invariant.context
 
+pub returns-clause-journal : goal.returns-clause-journal
+returns-clause-journal g c = λ k can v staged noted. (
+    let on = c.fronts.invariant.on k can in
+    let J : Vec Event → Type 0 = λ journal. WroteWhole journal.items k v in
+    subst J (sym c.replace.ensures.value)
+    (noted_whole (words_of g.H.KeyHasher.hash_of k) k.task v c.fronts.run c.fronts.left.items (events_in c.fronts.run.runner) staged.board on.between (nil_from_length c.fronts.left.items (omega (arith, c.in_default.ensures.cases.0))) (c.fronts.invariant.noted k can v staged noted)))
+
 pub returns-in_err-more-clause-err : goal.returns-in_err-more-clause-err
 returns-in_err-more-clause-err g c = err_same _ _ _ c.from_residual.ensures.1 (λ k can. (
     let on = c.fronts.invariant.on k can in
     let B : List (PipeLine PhysSource (Part g.row.H.Denot)) → Type 0 = Between (words_of g.H.KeyHasher.hash_of k) k.task c.fronts.run in
     limit_as k.task.m _ _ _ c.fronts.invariant.context (c.in_err-more.ensures.err k (record { sound = on.sound; between = subst B c.in-Some.ensures.items on.between }))))
+
+pub returns-clause-kept : goal.returns-clause-kept
+returns-clause-kept g c =
+    let context = c.args.run.runner.context in
+    let J : Vec Event → Type 0 = λ journal. KeepsPace context.workers context.chunk_rows (g.C.StopCheck.asked c.args.stop.now) (g.C.StopCheck.asked c.fronts.stop) c.args.run.runner.journal.items journal.items in
+    subst J (sym c.replace.ensures.value) c.fronts.invariant.kept

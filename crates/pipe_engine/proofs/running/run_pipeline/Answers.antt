@@ -16,17 +16,23 @@ use Rattle.pipe_engine.specs.Drives.{CanGo, IsRootAnswer}
 use Rattle.pipe_engine.proofs.Breaking.{err_same}
 use Rattle.pipe_engine.proofs.Tellings.{limit_as}
 use Rattle.pipe_engine.proofs.Asked.{asked-ok, asked-made, asked-then, asked_passed_then, rises}
+use Rattle.pipe_engine.proofs.Pacing.{pace_none, pace_then}
 use Rattle.pipe_engine.proofs.Paces.{paced-first, paced-none, paced-then}
 use Rattle.pipe_engine.proofs.Schemas.{newer_schema}
+use Rattle.pipe_engine.specs.Journals.{events_in, NotedAt}
+use Rattle.pipe_engine.specs.Noted.{IsStagingOf}
+use Rattle.pipe_engine.proofs.Noted.{noted_begun}
 use Rattle.pipe_engine.proofs.running.run_pipeline.Goals as goal
 
 pub branches-init : goal.branches-init
 branches-init g c = record {
   on = λ k can. starts_by (words_of g.H.KeyHasher.hash_of k) k.task c.args.run.now c.args.first c.args.pipelines.now.items c.new-fed.result.items can.between c.requires.parked c.new-fed.ensures.items;
+  noted = λ k can v staged noted. noted_begun (words_of g.H.KeyHasher.hash_of k) k.task v c.args.run.now c.args.first c.args.pipelines.now.items (events_in c.args.run.now.runner) noted;
   asked = asked-ok g.C.StopCheck _ _;
   schema = λ k can. tt;
   context = refl;
   paced = paced-none _ _ _;
+  kept = pace_none _ c.args.run.now.runner;
 }
 
 pub run_way-requires-clause-idle : goal.run_way-requires-clause-idle
@@ -83,6 +89,13 @@ branches-preserved g c =
           goes_by (words_of g.H.KeyHasher.hash_of k) k.task (c.args.first ∷ c.args.pipelines.now.items) c.args.run.now c.branches.run c.run_way.new.run c.branches.current c.in-Some.next c.branches.pipelines.items c.pop_front.new.self.items c.branches.fed.items c.run_way.new.fed.items c.branches.answer c.newer-answer.result found.0
           on stopped.between (subst A (sym c.newer-answer.ensures) (answer_newer k.task c.args.run.now c.branches.run c.run_way.new.run c.branches.answer c.in_ok-more.more on.on.root stopped.root))
           more fed found.2 is);
+      noted = λ k can v staged noted. (
+          let on = c.branches.invariant.on k can in
+          let go : CanGo g.H.KeyHasher.hash_of c.branches.run c.branches.current c.branches.pipelines.items k = record { sound = can.sound; ready = on.on.ready } in
+          let W : PExecutionContext → Type 0 = λ context. IsStagingOf k.settings k.task.m context.workers v in
+          let ran = c.in_ok-more.ensures.noted k go v (subst W (sym c.branches.invariant.context) staged) (c.branches.invariant.noted k can v staged noted) in
+          let T : List (PipeLine PhysSource (Part g.row.H.Denot)) → Type 0 = λ ps. NotedAt c.run_way.new.run ps k v in
+          noted_begun (words_of g.H.KeyHasher.hash_of k) k.task v c.run_way.new.run c.in-Some.next c.pop_front.new.self.items (events_in c.run_way.new.run.runner) (subst T c.in-Some.ensures.items ran));
       schema = λ k can. (
           let on = c.branches.invariant.on k can in
           let A : Option Table → Type 0 = λ answer. IsRootAnswer answer k in
@@ -90,6 +103,7 @@ branches-preserved g c =
       asked = asked-made g.C.StopCheck 1 0 _ _ _ _ (omega arith) (asked-then g.C.StopCheck 0 1 1 _ _ _ _ _ (omega arith) c.branches.invariant.asked c.in_ok-more.ensures.asked);
       context = c.run_way.ensures.context ∙ c.branches.invariant.context;
       paced = subst Q c.in-Some.ensures.items paced;
+      kept = pace_then _ _ _ c.args.run.now.runner c.branches.run.runner c.run_way.new.run.runner c.branches.invariant.context c.branches.invariant.kept c.in_ok-more.ensures.kept;
     }
 
 pub returns-then-are_closed-clause-asked : goal.returns-then-are_closed-clause-asked
@@ -132,5 +146,15 @@ returns-then-are_closed-clause-frame g c = λ k can. (
     let A : Option Table → Type 0 = λ answer. IsRootAnswer answer k in
     subst A (sym c.newer-answer.ensures) (newer_schema k c.branches.answer c.in_ok-more.more (c.branches.invariant.schema k can) (c.in_ok-more.ensures.frame k (record { sound = can.sound; ready = on.on.ready }))))
 
+pub returns-then-are_closed-clause-noted : goal.returns-then-are_closed-clause-noted
+returns-then-are_closed-clause-noted g c = λ k can v staged noted. (
+    let on = c.branches.invariant.on k can in
+    let go : CanGo g.H.KeyHasher.hash_of c.branches.run c.branches.current c.branches.pipelines.items k = record { sound = can.sound; ready = on.on.ready } in
+    let W : PExecutionContext → Type 0 = λ context. IsStagingOf k.settings k.task.m context.workers v in
+    c.in_ok-more.ensures.noted k go v (subst W (sym c.branches.invariant.context) staged) (c.branches.invariant.noted k can v staged noted))
+
 pub returns-in_err-more-clause-err : goal.returns-in_err-more-clause-err
 returns-in_err-more-clause-err g c = err_same _ _ _ c.from_residual.ensures.1 (λ k can. limit_as k.task.m _ _ _ c.branches.invariant.context (c.in_err-more.ensures.err k (record { sound = can.sound; ready = (c.branches.invariant.on k can).on.ready })))
+
+pub returns-then-are_closed-clause-kept : goal.returns-then-are_closed-clause-kept
+returns-then-are_closed-clause-kept g c = pace_then _ _ _ c.args.run.now.runner c.branches.run.runner c.run_way.new.run.runner c.branches.invariant.context c.branches.invariant.kept c.in_ok-more.ensures.kept

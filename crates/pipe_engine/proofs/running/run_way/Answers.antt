@@ -1,4 +1,4 @@
-use Rattle.std.proofs.Common.{subst, arith, refl, ◌∙◌}
+use Rattle.std.proofs.Common.{subst, sym, arith, refl, ◌∙◌}
 use Rattle.pipe_source.specs.declared.phys_source.PhysSource.{PhysSource}
 use Rattle.pipe_ops.specs.declared.context.PExecutionContext.{PExecutionContext}
 use Rattle.pipe_engine.specs.Drives.{IsRootNext}
@@ -11,11 +11,15 @@ use Rattle.pipe_driver.proofs.FrontSteps.{fed_none, fed_leg, fed_goes, fed_stays
 use Rattle.pipe_engine.proofs.Breaking.{err_same}
 use Rattle.pipe_engine.proofs.Tellings.{limit_as, not_many}
 use Rattle.pipe_engine.proofs.Asked.{asked-ok, asked-made, asked-then, asked-lost, asked_lost, asked_passed_then}
+use Rattle.pipe_engine.proofs.Pacing.{pace_none, pace_then}
 use Rattle.pipe_engine.proofs.Paces.{paced-more, paced-none, paced-then}
+use Rattle.pipe_engine.specs.Journals.{events_in, NotedThen}
+use Rattle.pipe_engine.specs.Noted.{IsStagingOf}
+use Rattle.pipe_engine.proofs.Noted.{noted_open}
 use Rattle.pipe_engine.proofs.running.run_way.Goals as goal
 
 pub ways-init : goal.ways-init
-ways-init g c = record { on = λ k can. record { ready = can.ready; root = λ z. z; fed = fed_none k.task c.args.first c.args.run.now c.args.fed.now.items }; asked = asked-ok g.C.StopCheck _ _; context = refl; paced = paced-none _ _ _ }
+ways-init g c = record { on = λ k can. record { ready = can.ready; root = λ z. z; fed = fed_none k.task c.args.first c.args.run.now c.args.fed.now.items }; noted = λ k can v staged noted. noted; asked = asked-ok g.C.StopCheck _ _; context = refl; paced = paced-none _ _ _; kept = pace_none _ c.args.run.now.runner }
 
 pub feed-requires-clause-idle : goal.feed-requires-clause-idle
 feed-requires-clause-idle g c = λ κs lives. (c.ways.invariant.on c.requires.can.k c.requires.can.is).ready.idle
@@ -57,6 +61,7 @@ ways-preserved g c =
     let most = most_of c.args.run.now.runner.context in
     let P : PExecutionContext → Type 0 = λ context. TakesPaced (most_of context) (rows_due_from c.ways.current.source) 0 (g.C.StopCheck.asked c.ways.stop) (g.C.StopCheck.asked c.feed.new.stop) in
     let paced = paced-then most _ _ 0 _ _ _ c.ways.invariant.paced (subst P c.ways.invariant.context c.in_ok-done.ensures.paced) in
+    let kept = pace_then _ _ _ c.args.run.now.runner c.ways.run.runner c.feed.new.run.runner c.ways.invariant.context c.ways.invariant.kept c.in_ok-done.ensures.kept in
     record {
       on = λ k can. (
           let on = c.ways.invariant.on k can in
@@ -71,9 +76,20 @@ ways-preserved g c =
                 (fed_leg (words_of g.H.KeyHasher.hash_of k) k.task c.args.first c.ways.current c.args.run.now c.ways.run c.feed.new.run c.args.pipelines.now.items c.args.fed.now.items c.ways.fed.items c.push.new.self.items done on.fed ran c.in-Ok.ensures.items)
                 next.4 next.5;
           });
+      noted = λ k can v staged noted. (
+          let on = c.ways.invariant.on k can in
+          let done = c.in_ok-done.done in
+          let ran = c.in_ok-done.ensures.ran k (record { sound = can.sound; ready = on.ready }) in
+          let W : PExecutionContext → Type 0 = λ context. IsStagingOf k.settings k.task.m context.workers v in
+          let now = subst W (sym c.ways.invariant.context) staged in
+          let fed = c.in_ok-done.ensures.noted k (record { sound = can.sound; ready = on.ready }) v now (c.ways.invariant.noted k can v staged noted) in
+          let then = c.in_ok-next.ensures.noted k (record { sound = can.sound; feeds = ran.feeds; at = ran.at; number = ran.number }) v (subst W (sym c.feed.ensures.context) now) fed in
+          let T : Next PhysSource (Part g.row.H.Denot) → Type 0 = λ next. NotedThen c.close.new.run c.args.pipelines.now.items next k v in
+          subst T c.in-GoOn.is then);
       asked = asked-made g.C.StopCheck 1 0 _ _ _ _ (omega arith) (asked-then g.C.StopCheck 0 1 1 _ _ _ _ _ (omega arith) c.ways.invariant.asked c.in_ok-done.ensures.asked);
       context = c.close.ensures.context ∙ c.feed.ensures.context ∙ c.ways.invariant.context;
       paced = paced-more most _ 0 _ _ _ (omega arith) paced;
+      kept = pace_then _ _ _ c.args.run.now.runner c.feed.new.run.runner c.close.new.run.runner (c.feed.ensures.context ∙ c.ways.invariant.context) kept (c.in_ok-next.ensures.kept (g.C.StopCheck.asked c.feed.new.stop));
     }
 
 pub returns-in-Stay-clause-fed : goal.returns-in-Stay-clause-fed
@@ -201,6 +217,36 @@ returns-in-Answer-clause-frame g c = λ k can. (
     let N : Next PhysSource (Part g.row.H.Denot) → Type 0 = λ next. IsRootNext next k in
     subst N c.in-Answer.is (c.in_ok-next.ensures.frame k (record { sound = can.sound; feeds = ran.feeds; at = ran.at; number = ran.number })))
 
+pub returns-then-done-gt0-clause-noted : goal.returns-then-done-gt0-clause-noted
+returns-then-done-gt0-clause-noted g c = λ k can v staged noted. (
+    let on = c.ways.invariant.on k can in
+    let ran = c.in_ok-done.ensures.ran k (record { sound = can.sound; ready = on.ready }) in
+    let W : PExecutionContext → Type 0 = λ context. IsStagingOf k.settings k.task.m context.workers v in
+    let fed = c.in_ok-done.ensures.noted k (record { sound = can.sound; ready = on.ready }) v (subst W (sym c.ways.invariant.context) staged) (c.ways.invariant.noted k can v staged noted) in
+    noted_open (words_of g.H.KeyHasher.hash_of k) k.task v c.ways.run c.feed.new.run c.ways.current c.args.pipelines.now.items c.in_ok-done.done (events_in c.feed.new.run.runner) ran c.if-done-gt0.true fed)
+
+pub returns-in-Stay-clause-noted : goal.returns-in-Stay-clause-noted
+returns-in-Stay-clause-noted g c = λ k can v staged noted. (
+    let on = c.ways.invariant.on k can in
+    let ran = c.in_ok-done.ensures.ran k (record { sound = can.sound; ready = on.ready }) in
+    let W : PExecutionContext → Type 0 = λ context. IsStagingOf k.settings k.task.m context.workers v in
+    let now = subst W (sym c.ways.invariant.context) staged in
+    let fed = c.in_ok-done.ensures.noted k (record { sound = can.sound; ready = on.ready }) v now (c.ways.invariant.noted k can v staged noted) in
+    let then = c.in_ok-next.ensures.noted k (record { sound = can.sound; feeds = ran.feeds; at = ran.at; number = ran.number }) v (subst W (sym c.feed.ensures.context) now) fed in
+    let T : Next PhysSource (Part g.row.H.Denot) → Type 0 = λ next. NotedThen c.close.new.run c.args.pipelines.now.items next k v in
+    subst T c.in-Stay.is then)
+
+pub returns-in-Answer-clause-noted : goal.returns-in-Answer-clause-noted
+returns-in-Answer-clause-noted g c = λ k can v staged noted. (
+    let on = c.ways.invariant.on k can in
+    let ran = c.in_ok-done.ensures.ran k (record { sound = can.sound; ready = on.ready }) in
+    let W : PExecutionContext → Type 0 = λ context. IsStagingOf k.settings k.task.m context.workers v in
+    let now = subst W (sym c.ways.invariant.context) staged in
+    let fed = c.in_ok-done.ensures.noted k (record { sound = can.sound; ready = on.ready }) v now (c.ways.invariant.noted k can v staged noted) in
+    let then = c.in_ok-next.ensures.noted k (record { sound = can.sound; feeds = ran.feeds; at = ran.at; number = ran.number }) v (subst W (sym c.feed.ensures.context) now) fed in
+    let T : Next PhysSource (Part g.row.H.Denot) → Type 0 = λ next. NotedThen c.close.new.run c.args.pipelines.now.items next k v in
+    subst T c.in-Answer.is then)
+
 pub returns-in_err-done-clause-err : goal.returns-in_err-done-clause-err
 returns-in_err-done-clause-err g c = err_same _ _ _ c.from_residual.ensures.1 (λ k can. limit_as k.task.m _ _ _ c.ways.invariant.context (c.in_err-done.ensures.err k (record { sound = can.sound; ready = (c.ways.invariant.on k can).ready })))
 
@@ -209,3 +255,16 @@ returns-in_default-clause-err g c = λ k can. tt
 
 pub returns-in_err-next-clause-err : goal.returns-in_err-next-clause-err
 returns-in_err-next-clause-err g c = err_same _ _ _ c.from_residual-in_err-next.ensures.1 (λ k can. not_many k.task.m _ _ c.in_err-next.ensures.err)
+
+pub returns-then-done-gt0-clause-kept : goal.returns-then-done-gt0-clause-kept
+returns-then-done-gt0-clause-kept g c = pace_then _ _ _ c.args.run.now.runner c.ways.run.runner c.feed.new.run.runner c.ways.invariant.context c.ways.invariant.kept c.in_ok-done.ensures.kept
+
+pub returns-in-Stay-clause-kept : goal.returns-in-Stay-clause-kept
+returns-in-Stay-clause-kept g c =
+    let kept = pace_then _ _ _ c.args.run.now.runner c.ways.run.runner c.feed.new.run.runner c.ways.invariant.context c.ways.invariant.kept c.in_ok-done.ensures.kept in
+    pace_then _ _ _ c.args.run.now.runner c.feed.new.run.runner c.close.new.run.runner (c.feed.ensures.context ∙ c.ways.invariant.context) kept (c.in_ok-next.ensures.kept (g.C.StopCheck.asked c.feed.new.stop))
+
+pub returns-in-Answer-clause-kept : goal.returns-in-Answer-clause-kept
+returns-in-Answer-clause-kept g c =
+    let kept = pace_then _ _ _ c.args.run.now.runner c.ways.run.runner c.feed.new.run.runner c.ways.invariant.context c.ways.invariant.kept c.in_ok-done.ensures.kept in
+    pace_then _ _ _ c.args.run.now.runner c.feed.new.run.runner c.close.new.run.runner (c.feed.ensures.context ∙ c.ways.invariant.context) kept (c.in_ok-next.ensures.kept (g.C.StopCheck.asked c.feed.new.stop))

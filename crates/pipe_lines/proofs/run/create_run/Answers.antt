@@ -1,4 +1,4 @@
-use Rattle.std.proofs.Common.{◌≤◌, ◌^◌, ◌∙◌, arith}
+use Rattle.std.proofs.Common.{◌≤◌, ◌^◌, ◌∙◌, ap, arith}
 use Rattle.pipe_lines.proofs.Stand.{run_stands}
 use Rattle.pipe_lines.proofs.run.create_run.Goals as goal
 
@@ -16,7 +16,7 @@ returns-clause-stand g c =
     let some : 1 ≤ c.args.context.workers = (let some = c.args.context.workers_in.0 in omega arith) in
     let few : c.args.context.workers ≤ 2 ^ 31 = (let few = c.args.context.workers_in.1 in omega arith) in
     run_stands g.H.KeyHasher.hash_of c.args.plan.now c.in_ok-layout.layout c.args.context.workers _ _ _ c.root.ensures.good layout.is layout.parts some few (c.as_slice-all.ensures ∙ c.in_ok-branches.ensures) c.in_ok-pipelines.ensures
-    engine.hasher engine.parts engine.specs (engine.nodes ∙ c.node_count.ensures) engine.idle engine.fits c.new-parked.ensures.items counts.many counts.sinks counts.probers
+    engine.hasher engine.parts engine.specs (engine.nodes ∙ c.node_count.ensures) engine.idle engine.fits c.new-parked.ensures.items counts.many counts.sinks counts.probers engine.journal (ap (λ z. z.workers) engine.context)
 
 pub create_pipelines-requires-clause-layout : goal.create_pipelines-requires-clause-layout
 create_pipelines-requires-clause-layout g c = λ κs lives. c.in_ok-layout.ensures.is

@@ -1,9 +1,12 @@
-use Rattle.std.proofs.Common.{refl, sym, subst, ◌∙◌}
+use Rattle.std.proofs.Common.{◌≤◌, List, refl, ap, sym, subst, ◌∙◌, arith}
 use Rattle.std.specs.Prelude.{IfErr}
 use Rattle.std.proofs.lemmas.Result.{IfErr-weaker}
 use Rattle.pipe_frame.specs.Frame.{Table}
 use Rattle.pipe_ops.specs.declared.context.PExecutionContext.{PExecutionContext}
 use Rattle.pipe_create.specs.Nodes.{plan_in}
+use Rattle.pipe_plan.specs.Plan.{plan_of}
+use Rattle.pipe_plan.specs.declared.arena.Arena.{Arena}
+use Rattle.pipe_typing.specs.Fitting.{TablesFit}
 use Rattle.pipe_driver.specs.Within.{AllWithin, EndsWith}
 use Rattle.pipe_engine.proofs.Asked.{asked-memory}
 use Rattle.pipe_engine.proofs.Entry.{if_ok}
@@ -11,6 +14,7 @@ use Rattle.pipe_engine.proofs.Limits.{on_ok}
 use Rattle.pipe_lines.specs.Standing.{ask_in}
 use Rattle.pipe_lines.proofs.Complete.{only_memory_of}
 use Rattle.pipe_lines.proofs.Due.{due_enough, paced_as}
+use Rattle.pipe_lines.proofs.Journaled.{journaled, kept_as, with_journal}
 use Rattle.pipe_lines.proofs.RootOrder.{order_is}
 use Rattle.pipe_lines.proofs.RootSink.{same_schema}
 use Rattle.pipe_lines.proofs.run.run_branches.Goals as goal
@@ -91,3 +95,23 @@ returns-in-Ok-clause-complete g c = λ within stays.
 
 pub returns-in-Err-clause-complete : goal.returns-in-Err-clause-complete
 returns-in-Err-clause-complete g c = λ within stays. refl
+
+pub returns-in-Ok-clause-journal : goal.returns-in-Ok-clause-journal
+returns-in-Ok-clause-journal g c =
+    let plan = c.args.plan.now in
+    let stand = c.in-Ok.ensures.stand in
+    let F : List Table → Type 0 = TablesFit in
+    let A : Arena → Type 0 = λ arena. TablesFit (plan_of arena).frames in
+    let fit = subst A c.arena.ensures.arena (subst F c.as_slice.ensures c.frames_fit.ensures) in
+    let some : 1 ≤ c.args.context.workers = (let some = c.args.context.workers_in.0 in omega arith) in
+    with_journal c.execute_branches.result
+    (λ frame wrote has. journaled g.H.KeyHasher.hash_of (g.H.KeyHasher.hash_of c.args.hasher) plan c.in-Ok.run' c.in-Ok.pipelines.items c.args.context.workers c.execute_branches.new.journal.items frame
+    fit some stand (ap (λ z. z.workers) c.in-Ok.ensures.context) wrote (has (record { ask = ask_in plan; settings = stand.settings }) stand.stand))
+    c.execute_branches.ensures.journal c.execute_branches.ensures.rows
+
+pub returns-in-Ok-clause-kept : goal.returns-in-Ok-clause-kept
+returns-in-Ok-clause-kept g c =
+    let runner = c.in-Ok.run'.runner in
+    let asked = g.C.StopCheck.asked in
+    kept_as c.execute_branches.result runner.context c.args.context (asked c.args.stop.now) (asked c.execute_branches.new.stop) runner.journal.items c.execute_branches.new.journal.items
+    c.in-Ok.ensures.context c.in-Ok.ensures.stand.fresh c.execute_branches.ensures.kept
