@@ -4,7 +4,7 @@ use Rattle.std.specs.Prelude.{IfErr, IfSome, IsErrOf, OnErr, OnOk, slice_index_o
 use Rattle.std.specs.List.{range_with_len}
 use Rattle.pipe_check.proofs.Walks.{under-self}
 use Rattle.pipe_check.proofs.WellFormed.{root_there}
-use Rattle.pipe_eval.specs.Evaluated.{HasRowsOf}
+use Rattle.pipe_exec.specs.Evaluated.{HasRowsOf}
 use Rattle.pipe_frame.specs.Frame.{Table}
 use Rattle.pipe_frame.specs.Weights.{total}
 use Rattle.pipe_frame.proofs.Weights.{SameBag-map, SameBag-from_rows, SameBag-trans, SameLines-from_bag}

@@ -5,7 +5,8 @@ use Rattle.std.specs.Result.{IsErrAnd}
 use Rattle.std.specs.List.{flat_map}
 use Rattle.std.proofs.lemmas.Option.{same_Some}
 use Rattle.serde_json.specs.Data.{Data}
-use Rattle.pipe_eval.specs.Evaluated.{HasRowsOf, HasTooMany}
+use Rattle.pipe_driver.specs.Within.{HasTooMany}
+use Rattle.pipe_exec.specs.Evaluated.{HasRowsOf}
 use Rattle.pipe_exec.specs.Runs as runs
 use Rattle.pipe_exec.specs.Runs.{RunCauses}
 use Rattle.pipe_exec.specs.Sound.{CheckCauses}

@@ -12,7 +12,7 @@ use Rattle.pipe_opt.specs.Grown.{AreWithin, over}
 use Rattle.pipe_opt.specs.Low.{AreLow, is_sort}
 use Rattle.pipe_opt.specs.Sizes.{IsTooLarge}
 use Rattle.pipe_opt.specs.Sorts.{Sorting, sorting_of}
-use Rattle.pipe_eval.specs.Evaluated.{AllWithin}
+use Rattle.pipe_driver.specs.Within.{AllWithin}
 use Rattle.pipe_frame.proofs.Weights.{SameBag-map, SameBag-from_rows, SameLines-from_bag}
 use Rattle.pipe_plan.specs.Config.{IsConfig}
 use Rattle.pipe_plan.specs.Faults.{IsWellFormed}

@@ -4,7 +4,7 @@ use Rattle.std.proofs.Common.{◌≡◌, ◌≤◌, ◌==◌, ℕ, Bool, true, f
 use Rattle.std.specs.Prelude.{IfErr, IfSome, IsSomeAnd}
 use Rattle.std.specs.Result.{IsErrAnd}
 use Rattle.std.proofs.lemmas.Bool.{eqb-true, eq-eqb}
-use Rattle.pipe_eval.specs.Evaluated.{stop_of}
+use Rattle.pipe_exec.specs.Evaluated.{stop_of}
 use Rattle.pipe_faults.specs.FaultLine.{fault_status}
 use Rattle.pipe_frame.specs.Counts.{Counts}
 use Rattle.pipe_outside.specs.Outside.{InputSeen, OutputSeen, WriteFails, Writes, WritesFront}

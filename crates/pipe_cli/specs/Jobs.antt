@@ -2,7 +2,7 @@
 use Rattle.std.specs.Prelude.{ℕ, ◌≡◌, ◌⊎◌, List, [], ◌∷◌, ◌++◌, false, map}
 use Rattle.std.specs.List.{flat_map}
 use Rattle.pipe_branches.specs.Texts.{texts}
-use Rattle.pipe_eval.specs.Evaluated.{AllWithin}
+use Rattle.pipe_driver.specs.Within.{AllWithin}
 use Rattle.pipe_faults.specs.FaultLine.{fault_line, fault_status}
 use Rattle.pipe_frame.specs.Rows.{SameLines}
 use Rattle.pipe_exec.specs.Sound.{IsRefused, IsSound}

@@ -1,6 +1,6 @@
 -- What `optimize` makes of a job, and what a run on its text gives.
 use Rattle.std.specs.Prelude.{ℕ, ◌≡◌, ◌≤◌, ◌*◌, List, ◌∷◌, length, true}
-use Rattle.pipe_eval.specs.Evaluated.{AllWithin}
+use Rattle.pipe_driver.specs.Within.{AllWithin}
 use Rattle.pipe_frame.specs.Rows.{Same, SameLines}
 use Rattle.pipe_job.specs.JobSpelling.{Task, TaskFits, task_spelling}
 use Rattle.pipe_job.specs.Line.{line_of, lines}

@@ -4,7 +4,8 @@ use Rattle.std.specs.Prelude.{nat_le}
 use Rattle.std.proofs.lemmas.Option.{none-some}
 use Rattle.std.proofs.lemmas.Bool.{le-leb}
 use Rattle.pipe_check.specs.Checked.{check_fault}
-use Rattle.pipe_eval.specs.Evaluated.{AllWithin, stop_of}
+use Rattle.pipe_driver.specs.Within.{AllWithin}
+use Rattle.pipe_exec.specs.Evaluated.{stop_of}
 use Rattle.pipe_exec.specs.Runs.{Fails, IsMemory, RunCauses, Stays}
 use Rattle.pipe_exec.specs.Sound.{IsRefused, IsSound}
 use Rattle.pipe_frame.specs.Counts.{Counts}

@@ -1,5 +1,5 @@
-pub mod Journaled
 pub mod Unstopped
 pub mod Complete
 pub mod Hints
 pub mod SideCauses
+pub mod Frames

@@ -1,5 +1,7 @@
 -- which jobs may be run, and why others are refused
 pub mod Sound
+-- what a frame has to be, and what an error says
+pub mod Evaluated
 -- why a run gives no rows
 pub mod Runs
 -- what the journal of a run is

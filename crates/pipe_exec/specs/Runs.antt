@@ -1,11 +1,11 @@
 -- Why a run gives no rows.
 use Rattle.std.specs.Prelude.{ℕ, ◌≡◌, ◌⊎◌}
-use Rattle.pipe_eval.specs.Evaluated.{EndsWith}
 use Rattle.pipe_frame.specs.Counts.{Rises}
 use Rattle.pipe_plan.specs.Plan.{Plan}
 use Rattle.pipe_plan.specs.declared.config.PipeConfig.{PipeConfig}
 use Rattle.pipe_plan.specs.declared.error.PipeError.{PipeError}
 use Rattle.pipe_plan.specs.declared.error.PipeError.TheVariants as error
+use Rattle.pipe_exec.specs.Evaluated.{EndsWith}
 use Rattle.pipe_exec.specs.Sound.{CheckCauses, IsSound}
 
 -- a job may be run, and ends with this error: by no memory, a stop, or a node with more rows than its limit

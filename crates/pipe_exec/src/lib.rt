@@ -4,6 +4,7 @@
 mod answer;
 mod building;
 mod check;
+mod frame;
 mod numbers;
 mod running;
 mod sides;

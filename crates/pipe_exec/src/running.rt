@@ -4,20 +4,20 @@ ghost use Rattle.std.specs.Prelude.{◌≡◌, Err, IfOk, IfErr, OnOk, true};
 ghost use Rattle.pipe_frame.specs.Counts.{Counts, Rises};
 ghost use Rattle.pipe_plan.specs.Plan.{plan_of};
 ghost use Rattle.pipe_plan.specs.Schemas.{schema_of};
-ghost use Rattle.pipe_eval.specs.Evaluated.{AllWithin, HasRowsOf, stops};
+ghost use Rattle.pipe_driver.specs.Within.{AllWithin};
 ghost use Rattle.pipe_rows.specs.Fnv.{fnv1a};
+ghost use Rattle.pipe_exec.specs.Evaluated.{HasRowsOf, stops};
 ghost use Rattle.pipe_exec.specs.Journals.{HasJournal, KeptPace};
 ghost use Rattle.pipe_exec.specs.Runs.{IsMemory, RunCauses, Stays};
 ghost use Rattle.pipe_exec.specs.Sound.{IsSound};
 
 use crate::answer::{Journal, RunAnswer};
 use crate::check::check_job;
+use crate::frame::plan_frame;
 use crate::numbers::context_of;
-use pipe_eval::evaluate;
 use pipe_frame::{Gate, List, StopCheck};
 use pipe_plan::{Arena, PipeConfig, PipeError};
 use pipe_rows::{Fnv, KeyHasher};
-use pipe_typing::frames_fit;
 use std::alloc::Global;
 use std::thread::Threads;
 
@@ -55,9 +55,8 @@ pub fn run_plan_with<R: Threads + Sync, H: KeyHasher, C: StopCheck, G: Gate + Sy
 {
     let plan = check_job(alloc, arena, root, config)?;
     let context = context_of(config);
-    frames_fit(arena.frames.as_slice());
     let mut events = Vec::new(alloc);
-    let frame = evaluate(rt, alloc, &plan, &context, hasher, &mut events, stop, gate)?;
+    let frame = plan_frame(rt, alloc, &plan, context, hasher, &mut events, stop, gate)?;
     let journal = Journal {
         events: List::from_vec(events),
     };

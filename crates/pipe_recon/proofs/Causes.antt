@@ -3,8 +3,9 @@ use Rattle.std.proofs.Common.{◌≡◌, ℕ, zero, suc, ◌+◌, ◌≤◌, ◌
 use Rattle.std.specs.Prelude.{All, IfErr, IfOk, OnOk, IsErrOf, ◌⊎◌}
 use Rattle.std.proofs.lemmas.List.{length-map}
 use Rattle.std.proofs.lemmas.Option.{none-some}
-use Rattle.pipe_eval.specs.Evaluated.{AllWithin, stop_of, stops}
-use Rattle.pipe_eval.specs.Evaluated as plans
+use Rattle.pipe_driver.specs.Within.{AllWithin}
+use Rattle.pipe_exec.specs.Evaluated.{stop_of, stops}
+use Rattle.pipe_exec.specs.Evaluated as plans
 use Rattle.pipe_exec.specs.Runs.{IsMemory, Stays}
 use Rattle.pipe_frame.specs.Counts.{Counts}
 use Rattle.pipe_frame.specs.Frame.{Table, select_fault}

@@ -2,8 +2,9 @@
 use Rattle.std.proofs.Common.{◌≡◌, ℕ, zero, suc, ◌+◌, ◌≤◌, ◌<◌, Bool, true, false, cond, List, [], ◌∷◌, Option, Some, None, Result, Ok, Err, inl, inr, length, refl, ap, sym, subst, ◌∙◌, arith}
 use Rattle.std.specs.Prelude.{All, IfErr, ◌⊎◌, ◌==◌, ◌||◌}
 use Rattle.std.proofs.lemmas.Bool.{eqb-true}
-use Rattle.pipe_eval.specs.Evaluated.{AllWithin, stop_of, stops}
-use Rattle.pipe_eval.specs.Evaluated as plans
+use Rattle.pipe_driver.specs.Within.{AllWithin}
+use Rattle.pipe_exec.specs.Evaluated.{stop_of, stops}
+use Rattle.pipe_exec.specs.Evaluated as plans
 use Rattle.pipe_exec.specs.Runs.{IsMemory, Stays}
 use Rattle.pipe_frame.specs.Counts.{Counts}
 use Rattle.pipe_frame.specs.Frame.{Table}

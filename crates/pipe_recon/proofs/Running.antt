@@ -5,7 +5,8 @@ use Rattle.std.specs.Result.{IsErrAnd}
 use Rattle.pipe_frame.specs.Frame.{Table}
 use Rattle.pipe_frame.specs.Rows.{Row, Same}
 use Rattle.pipe_frame.specs.declared.field.Field.{Field}
-use Rattle.pipe_eval.specs.Evaluated.{AllWithin, EndsWith}
+use Rattle.pipe_driver.specs.Within.{AllWithin}
+use Rattle.pipe_exec.specs.Evaluated.{EndsWith}
 use Rattle.pipe_exec.specs.Runs.{RunCauses}
 use Rattle.pipe_exec.specs.Sound.{IsSound}
 use Rattle.pipe_exec.proofs.Complete.{sound_refused}

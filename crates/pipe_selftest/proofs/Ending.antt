@@ -2,7 +2,7 @@
 use Rattle.std.proofs.Common.{◌≡◌, ℕ, Result, Ok, Err, length, inl, inr, refl, ap, subst, ◌∙◌}
 use Rattle.std.specs.Prelude.{IfErr}
 use Rattle.std.specs.Result.{IsErrAnd}
-use Rattle.pipe_eval.specs.Evaluated.{EndsWith}
+use Rattle.pipe_exec.specs.Evaluated.{EndsWith}
 use Rattle.pipe_exec.specs.Runs.{RunCauses}
 use Rattle.pipe_exec.specs.Sound.{IsSound}
 use Rattle.pipe_exec.proofs.Complete.{sound_refused}

@@ -1,6 +1,7 @@
 -- Why a self-test gives no numbers.
 use Rattle.std.specs.Prelude.{ℕ, ◌≡◌, ◌⊎◌}
-use Rattle.pipe_eval.specs.Evaluated.{AllWithin, EndsWith}
+use Rattle.pipe_driver.specs.Within.{AllWithin}
+use Rattle.pipe_exec.specs.Evaluated.{EndsWith}
 use Rattle.pipe_plan.specs.Plan.{Plan}
 use Rattle.pipe_plan.specs.declared.error.PipeError.{PipeError}
 use Rattle.pipe_selftest.specs.Joins.{config, full_root, inner_root, left_root}

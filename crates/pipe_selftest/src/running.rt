@@ -1,7 +1,8 @@
 //! Running the three joins of a self-test.
 
 ghost use Rattle.std.specs.Prelude.{◌≡◌, ◌≤◌, Err, IfOk, IfErr, OnOk, length, true};
-ghost use Rattle.pipe_eval.specs.Evaluated.{AllWithin, EndsWith, stops};
+ghost use Rattle.pipe_driver.specs.Within.{AllWithin};
+ghost use Rattle.pipe_exec.specs.Evaluated.{EndsWith, stops};
 ghost use Rattle.pipe_exec.specs.Runs.{IsMemory, Stays};
 ghost use Rattle.pipe_exec.specs.Sound.{IsSound};
 ghost use Rattle.pipe_frame.specs.Counts.{Counts, Rises};

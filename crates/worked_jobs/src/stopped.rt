@@ -23,7 +23,8 @@ fn tell_after<T: Threads + Sync>(
     answers.push_str(format!(in alloc; "asked {asked}, yes {yes}\n")?.as_str())
 }
 
-/// A run of four nodes asks at least before each of them; a job that is looked at asks nothing.
+/// A run of three legs asks before each round of theirs, and before each lane's sink is combined; a job that is looked at
+/// asks nothing.
 pub(crate) fn tell_stopped<T: Threads + Sync>(
     rt: &T,
     alloc: Global,

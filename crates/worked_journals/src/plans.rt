@@ -102,6 +102,29 @@ pub(crate) const PLANS: &[Shown] = &[
         ],
     ),
     (
+        "a union of scans",
+        &[Scan(ONE_TO_THREE), Scan(TWO_AND_THREES), Union(&[0, 1])],
+    ),
+    (
+        "a full join over a sort, its right side built",
+        &[
+            Scan(&[("k", INT, &["2", "1"])]),
+            Sort(0, BY_K),
+            Scan(&[("k", INT, &["1", "3"])]),
+            Join(1, 2, FULL_RIGHT),
+        ],
+    ),
+    (
+        "a full join above a semi join whose left side is built",
+        &[
+            Scan(ONE_TO_THREE),
+            Scan(TWO_AND_THREES),
+            Join(0, 1, SEMI_LEFT),
+            Scan(&[("k", INT, &["3", "4"])]),
+            Join(2, 3, FULL_RIGHT),
+        ],
+    ),
+    (
         "a full join of no left row, its right side built, sorted",
         &[
             Scan(NO_ROW),

@@ -45,15 +45,22 @@ fn outcome_lines(alloc: Global, outcome: &Outcome) -> Result<String, AllocError>
         Some(frame) => cells_text(alloc, frame)?,
         None => String::from_str(alloc, " none")?,
     };
-    let acts = outcome.acts.as_str();
-    format!(in alloc; "{ending}\nacts:{acts}\nrows:{rows}\n")
+    let entries = outcome.entries.as_str();
+    format!(in alloc; "{ending}\nentries:{entries}\nrows:{rows}\n")
 }
 
-/// One lane over 1, 2, .. in chunks of two rows.
+/// The rows 1, 2, .., 5.
+const FIVE: &[&str] = &["1", "2", "3", "4", "5"];
+
+/// The rows 1, 2, .., 10.
+const TEN: &[&str] = &["1", "2", "3", "4", "5", "6", "7", "8", "9", "10"];
+
+/// One lane over some rows in chunks of two.
 fn one_lane<R: Threads + Sync>(
     rt: &R,
     alloc: Global,
     row_limit: u32,
+    cells: &[&str],
     repeats: &[Repeat],
     stop: &mut StopAfter,
 ) -> Result<String, AllocError> {
@@ -65,7 +72,7 @@ fn one_lane<R: Threads + Sync>(
         chunk_rows: 2,
         row_limit,
     };
-    match frame_of(alloc, &[("k", INT, &["1", "2", "3", "4", "5"])])? {
+    match frame_of(alloc, &[("k", INT, cells)])? {
         Some(frame) if frame.height() <= 1000 => {
             let outcome = run_all(rt, alloc, &context, repeats, &frame, stop, &OpenGate)?;
             outcome_lines(alloc, &outcome)
@@ -74,20 +81,27 @@ fn one_lane<R: Threads + Sync>(
     }
 }
 
-/// A lane that is never stopped.
+/// A lane over five rows that is never stopped.
 fn unstopped<R: Threads + Sync>(
     rt: &R,
     alloc: Global,
     row_limit: u32,
     repeats: &[Repeat],
 ) -> Result<String, AllocError> {
-    one_lane(rt, alloc, row_limit, repeats, &mut StopAfter::new(1000))
+    let mut stop = StopAfter::new(1000);
+    one_lane(rt, alloc, row_limit, FIVE, repeats, &mut stop)
 }
 
-/// A lane that is stopped at the first question.
-fn stopped<R: Threads + Sync>(rt: &R, alloc: Global) -> Result<String, AllocError> {
-    let mut stop = StopAfter::new(0);
-    let lines = one_lane(rt, alloc, 100, &[times(1)], &mut stop)?;
+/// A lane whose stop check says yes after so many questions, which are counted.
+fn asked_over<R: Threads + Sync>(
+    rt: &R,
+    alloc: Global,
+    cells: &[&str],
+    repeat: Repeat,
+    questions: u64,
+) -> Result<String, AllocError> {
+    let mut stop = StopAfter::new(questions);
+    let lines = one_lane(rt, alloc, 100, cells, &[repeat], &mut stop)?;
     let asked = stop.asked();
     let yes = stop.yes();
     format!(in alloc; "{lines}asked {asked}, yes {yes}\n")
@@ -120,6 +134,26 @@ pub(crate) fn tell<R: Threads + Sync>(
         "ten rows of the sink, over 7",
         lines.as_str(),
     )?;
-    let lines = stopped(rt, alloc)?;
-    push_case(alloc, answers, "stopped at once", lines.as_str())
+    tell_asked(rt, alloc, answers)
+}
+
+/// Rounds of four chunks, with a question before each.
+fn tell_asked<R: Threads + Sync>(
+    rt: &R,
+    alloc: Global,
+    answers: &mut String,
+) -> Result<(), AllocError> {
+    let lines = asked_over(rt, alloc, FIVE, times(1), 0)?;
+    push_case(alloc, answers, "stopped at once", lines.as_str())?;
+    let lines = asked_over(rt, alloc, TEN, times(1), 1000)?;
+    push_case(alloc, answers, "two rounds", lines.as_str())?;
+    let lines = asked_over(rt, alloc, TEN, times(1), 1)?;
+    push_case(
+        alloc,
+        answers,
+        "stopped before the second round",
+        lines.as_str(),
+    )?;
+    let lines = asked_over(rt, alloc, TEN, refused_after(4), 1000)?;
+    push_case(alloc, answers, "memory in the second round", lines.as_str())
 }

@@ -2,42 +2,58 @@
 
 ghost use Rattle.std.specs.Prelude.{◌≡◌, ◌≤◌, [], All, length, IfOk, Ok};
 ghost use Rattle.std.specs.List.{flat_map};
-ghost use Rattle.pipe_lanes.specs.Lanes.{IsSet, held_in as in_lane};
+ghost use Rattle.pipe_run.specs.Lanes.{IsSet, held_in as in_lane};
 ghost use Rattle.pipe_source.specs.Ordered.{held_in};
 ghost use Rattle.worked_lanes.specs.Repeats.{schema_of};
 
 use crate::repeat::Repeat;
-use crate::told::{acts_text, takes_in};
+use crate::told::{entries_text, takes_kept, takes_noted};
+use pipe_batches::run_rounds;
+use pipe_chain::PlainOperator;
 use pipe_frame::{DataFrame, Gate, NeverStop, StopCheck, TryClone};
-use pipe_lanes::{Basin, Halt, Lane, Stage, gather, open_lanes};
 use pipe_ops::{FinalizedSink, PExecutionContext, Sink};
-use pipe_rounds::run_rounds;
+use pipe_run::{Basin, Halt, Lane, Stage, gather, open_lanes};
 use pipe_source::{DataFrameSource, OrderedSink};
+use pipe_takings::Note;
 use std::alloc::{AllocError, Global};
 use std::thread::Threads;
 
 /// The node of the sink.
 const SINK: u32 = 100;
 
+/// A lane over operators of these cases.
+type RepeatLane = Lane<PlainOperator<Repeat>, OrderedSink>;
+
 /// What lanes did with a frame, and how they ended.
 #[derive(Drop)]
 pub(crate) struct Outcome {
     pub ending: Result<(), Halt>,
-    /// How many chunks each lane took.
-    pub takes: Vec<u64>,
+    /// How many chunks all lanes took.
+    pub takes: u64,
     /// What the first lane did.
-    pub acts: String,
+    pub entries: String,
     /// The rows of all sinks, where all rows went through.
     pub frame: Option<DataFrame>,
 }
 
+/// Lanes as they stand at their end, what they noted, and how they ended.
+#[derive(Drop)]
+pub(crate) struct Ran {
+    pub lanes: Vec<RepeatLane>,
+    pub notes: Vec<Note>,
+    pub ending: Result<(), Halt>,
+}
+
 /// Stages of these operators, over the nodes 0, 1, ..
-fn stages_of(alloc: Global, repeats: &[Repeat]) -> Result<Vec<Stage<Repeat>>, AllocError> {
+fn stages_of(
+    alloc: Global,
+    repeats: &[Repeat],
+) -> Result<Vec<Stage<PlainOperator<Repeat>>>, AllocError> {
     let mut stages = Vec::new(alloc);
     let mut node = 0u32;
     for repeat in repeats {
         stages.push(Stage {
-            operator: *repeat,
+            operator: PlainOperator { operator: *repeat },
             node,
             given: 0,
         })?;
@@ -46,20 +62,32 @@ fn stages_of(alloc: Global, repeats: &[Repeat]) -> Result<Vec<Stage<Repeat>>, Al
     Ok(stages)
 }
 
-/// How many chunks each lane took.
-fn takes_of(alloc: Global, lanes: &[Lane<Repeat, OrderedSink>]) -> Result<Vec<u64>, AllocError> {
-    let mut takes = Vec::new(alloc);
-    for lane in lanes {
-        takes.push(takes_in(lane.acts.as_slice()))?;
+/// What all lanes share of each stage: a number, which none reads.
+fn shared_of(alloc: Global, stages: &[Stage<PlainOperator<Repeat>>]) -> Result<Vec<u8>, AllocError>
+    ensures { IfOk result (λ shared. length shared.items ≡ length stages.now) }
+{
+    let mut shared = Vec::new(alloc);
+    for _stage in stages {
+        shared.push(0)?;
     }
-    Ok(takes)
+    Ok(shared)
+}
+
+/// How many chunks all lanes took.
+fn takes_of(ran: &Ran) -> u64 {
+    let mut takes = takes_noted(ran.notes.as_slice());
+    for lane in ran.lanes.as_slice() {
+        takes = takes.saturating_add(takes_kept(lane.entries.as_slice()));
+    }
+    takes
 }
 
 /// What the first lane did.
-fn first_acts(alloc: Global, lanes: &[Lane<Repeat, OrderedSink>]) -> Result<String, AllocError> {
-    match lanes.first() {
-        Some(lane) => acts_text(alloc, lane.acts.as_slice()),
-        None => Ok(String::new(alloc)),
+fn first_entries(alloc: Global, ran: &Ran) -> Result<String, AllocError> {
+    let notes = ran.notes.as_slice();
+    match ran.lanes.first() {
+        Some(lane) => entries_text(alloc, notes, lane.entries.as_slice()),
+        None => entries_text(alloc, notes, &[]),
     }
 }
 
@@ -67,7 +95,7 @@ fn first_acts(alloc: Global, lanes: &[Lane<Repeat, OrderedSink>]) -> Result<Stri
 fn gathered(
     alloc: Global,
     context: &PExecutionContext,
-    lanes: Vec<Lane<Repeat, OrderedSink>>,
+    lanes: Vec<RepeatLane>,
     mut sink: OrderedSink,
 ) -> Result<Option<DataFrame>, AllocError>
     requires settings { All (IsSet schema_of sink.schema) lanes.items }
@@ -84,54 +112,67 @@ fn gathered(
     }
 }
 
-/// Lanes over all that a source gives, behind a gate, and how they ended.
+/// Lanes over all that a source gives, behind a gate.
 fn lanes_over<R: Threads + Sync, C: StopCheck, G: Gate + Sync>(
     rt: &R,
     alloc: Global,
     context: &PExecutionContext,
-    stages: &[Stage<Repeat>],
+    stages: &[Stage<PlainOperator<Repeat>>],
     basin: &Basin<OrderedSink>,
     mut source: DataFrameSource,
     stop: &mut C,
     gate: &G,
-) -> Result<(Vec<Lane<Repeat, OrderedSink>>, Result<(), Halt>), AllocError>
+) -> Result<Ran, AllocError>
     requires schema { source.schema ≡ basin.now.sink.schema }
     requires few { length source.rows ≤ 1000 }
-    ensures settings { IfOk result (λ r. All (IsSet schema_of basin.now.sink.schema) r.0.items) }
-    ensures room { IfOk result (λ r. r.1 ≡ Ok tt →
-        length (flat_map (in_lane held_in) r.0.items) ≤ 4294967294) }
+    ensures settings { IfOk result (λ r. All (IsSet schema_of basin.now.sink.schema) r.lanes.items) }
+    ensures room { IfOk result (λ r. r.ending ≡ Ok tt →
+        length (flat_map (in_lane held_in) r.lanes.items) ≤ 4294967294) }
 {
-    let mut lanes = open_lanes(alloc, context, &(), stages, basin)?;
+    let made = shared_of(alloc, stages)?;
+    let shared = made.as_slice();
+    let mut lanes = open_lanes(alloc, context, shared, stages, basin)?;
+    let mut notes = Vec::new(alloc);
     let mut next_index = 0;
     let ending = run_rounds(
         rt,
         alloc,
         context,
-        &(),
+        shared,
         &mut source,
         &mut next_index,
         stop,
         gate,
         lanes.as_mut_slice(),
+        &mut notes,
     );
-    Ok((lanes, ending))
+    Ok(Ran {
+        lanes,
+        notes,
+        ending,
+    })
 }
 
 /// What lanes did, and the rows of their sinks.
 fn outcome_of(
     alloc: Global,
     context: &PExecutionContext,
-    lanes: Vec<Lane<Repeat, OrderedSink>>,
-    ending: Result<(), Halt>,
+    ran: Ran,
     sink: OrderedSink,
 ) -> Result<Outcome, AllocError>
-    requires settings { All (IsSet schema_of sink.schema) lanes.items }
+    requires settings { All (IsSet schema_of sink.schema) ran.lanes.items }
     requires empty { held_in sink ≡ [] }
-    requires room { ending ≡ Ok tt →
-        length (flat_map (in_lane held_in) lanes.items) ≤ 4294967294 }
+    requires room { ran.ending ≡ Ok tt →
+        length (flat_map (in_lane held_in) ran.lanes.items) ≤ 4294967294 }
 {
-    let takes = takes_of(alloc, lanes.as_slice())?;
-    let acts = first_acts(alloc, lanes.as_slice())?;
+    let takes = takes_of(&ran);
+    let entries = first_entries(alloc, &ran)?;
+    let Ran {
+        lanes,
+        notes,
+        ending,
+    } = ran;
+    drop(notes);
     let frame = match ending {
         Ok(()) => gathered(alloc, context, lanes, sink)?,
         Err(_) => None,
@@ -139,7 +180,7 @@ fn outcome_of(
     Ok(Outcome {
         ending,
         takes,
-        acts,
+        entries,
         frame,
     })
 }
@@ -163,7 +204,7 @@ pub(crate) fn run_all<R: Threads + Sync, C: StopCheck, G: Gate + Sync>(
         given: 0,
     };
     let source = DataFrameSource::from_df(frame.try_clone()?);
-    let (lanes, ending) = lanes_over(
+    let ran = lanes_over(
         rt,
         alloc,
         context,
@@ -173,5 +214,5 @@ pub(crate) fn run_all<R: Threads + Sync, C: StopCheck, G: Gate + Sync>(
         stop,
         gate,
     )?;
-    outcome_of(alloc, context, lanes, ending, basin.sink)
+    outcome_of(alloc, context, ran, basin.sink)
 }

@@ -24,7 +24,7 @@ impl Operator for Repeat {
     ghost use Rattle.worked_lanes.specs.Repeats.{times_of, copies};
     ghost use Rattle.worked_lanes.specs.RepeatLaws.{repeat_idle_owes};
 
-    type Shared = ();
+    type Shared = u8;
 
     ghost takes = { λ op s. Unit {0} };
 
@@ -56,7 +56,7 @@ impl Operator for Repeat {
         &mut self,
         alloc: Global,
         context: &PExecutionContext,
-        shared: &(),
+        shared: &u8,
         chunk: &DataChunk,
     ) -> Result<OperatorResult, AllocError> {
         if self.calls == 0 {
@@ -85,7 +85,7 @@ impl Operator for Repeat {
         &mut self,
         alloc: Global,
         context: &PExecutionContext,
-        shared: &(),
+        shared: &u8,
     ) -> Result<OperatorResult, AllocError> {
         Ok(OperatorResult::NeedsNewData)
     }

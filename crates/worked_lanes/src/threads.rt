@@ -30,21 +30,12 @@ fn lanes_lines<R: Threads + Sync, G: Gate + Sync>(
     let mut stop = NeverStop::new();
     let outcome = run_all(rt, alloc, context, &[repeat], frame, &mut stop, gate)?;
     let ending = ending_text(alloc, &outcome.ending)?;
-    let takes = sum_of(outcome.takes.as_slice());
+    let takes = outcome.takes;
     let rows = match &outcome.frame {
         Some(frame) => cells_text(alloc, frame)?,
         None => String::from_str(alloc, " none")?,
     };
     format!(in alloc; "{ending}\ntakes: {takes}\nrows:{rows}\n")
-}
-
-/// The sum of some counts.
-fn sum_of(counts: &[u64]) -> u64 {
-    let mut sum = 0u64;
-    for count in counts {
-        sum = sum.saturating_add(*count);
-    }
-    sum
 }
 
 /// Lanes over some rows, a chunk a row: how they end, how many chunks they took together, and the rows.

@@ -1,7 +1,8 @@
 //! How outcomes are told.
 
 use pipe_frame::{AnyValue, DataFrame};
-use pipe_lanes::{Act, Halt, Refusal};
+use pipe_run::{Entry, Halt, Refusal};
+use pipe_takings::Note;
 use std::alloc::{AllocError, Global};
 
 /// The words for how lanes ended.
@@ -16,27 +17,57 @@ pub(crate) fn ending_text(alloc: Global, ending: &Result<(), Halt>) -> Result<St
     }
 }
 
-/// What a lane did.
-pub(crate) fn acts_text(alloc: Global, acts: &[Act]) -> Result<String, AllocError> {
+/// Puts an entry of a lane behind others.
+fn push_entry(text: &mut String, alloc: Global, entry: &Entry) -> Result<(), AllocError> {
+    let word = match entry {
+        Entry::Take { part, from, count } => format!(in alloc; " take {part} {from} {count}")?,
+        Entry::Flush { part } => format!(in alloc; " flush {part}")?,
+        Entry::Done => String::from_str(alloc, " done")?,
+    };
+    text.push_str(word.as_str())
+}
+
+/// What the first lane noted, in the rounds that ended well and then in the one that didn't.
+pub(crate) fn entries_text(
+    alloc: Global,
+    notes: &[Note],
+    kept: &[Entry],
+) -> Result<String, AllocError> {
     let mut text = String::new(alloc);
-    for act in acts {
-        let word = match act {
-            Act::Take { part, from, count } => { format!(in alloc; " take {part} {from} {count}")? }
-            Act::Flush { part } => format!(in alloc; " flush {part}")?,
-            Act::Done => String::from_str(alloc, " done")?,
-        };
-        text.push_str(word.as_str())?;
+    for note in notes {
+        if note.worker == 0 {
+            push_entry(&mut text, alloc, &note.entry)?;
+        }
+    }
+    for entry in kept {
+        push_entry(&mut text, alloc, entry)?;
     }
     Ok(text)
 }
 
-/// How many chunks a lane took.
-pub(crate) fn takes_in(acts: &[Act]) -> u64 {
+/// 1 where a chunk was taken.
+fn takes_by(entry: &Entry) -> u64 {
+    if matches!(entry, Entry::Take { .. }) {
+        1
+    } else {
+        0
+    }
+}
+
+/// How many chunks were taken, by what all lanes noted in the rounds that ended well.
+pub(crate) fn takes_noted(notes: &[Note]) -> u64 {
     let mut takes = 0u64;
-    for act in acts {
-        if matches!(act, Act::Take { .. }) {
-            takes = takes.saturating_add(1);
-        }
+    for note in notes {
+        takes = takes.saturating_add(takes_by(&note.entry));
+    }
+    takes
+}
+
+/// How many chunks a lane took, by what it keeps of a round that didn't.
+pub(crate) fn takes_kept(entries: &[Entry]) -> u64 {
+    let mut takes = 0u64;
+    for entry in entries {
+        takes = takes.saturating_add(takes_by(entry));
     }
     takes
 }

@@ -3,12 +3,12 @@ use Rattle.std.proofs.Common.{◌≡◌, ℕ, ◌<◌, List, [], ◌∷◌, ◌+
 use Rattle.std.specs.Prelude.{All, option_to_list, IfSome}
 use Rattle.std.proofs.lemmas.List.Elements.{All-nil, All-push, All-pop}
 use Rattle.pipe_words.specs.Flags.{SeatMarks, IsSeatOf}
-use Rattle.pipe_marks.specs.Flush.{flush_start}
-use Rattle.pipe_marks.specs.MarkProbe.{IsSeatAt, IsDue, IsDueOrNone}
-use Rattle.pipe_marks.specs.Unmet.{FullRows, AreFresh, AreSeatsOf, EndsMarking, IsClosed}
-use Rattle.pipe_marks.specs.declared.due.FlushDue.{FlushDue}
-use Rattle.pipe_marks.specs.declared.marks.Marks.{Marks}
-use Rattle.pipe_marks.specs.declared.marks.Marks.TheVariants as marks
+use Rattle.pipe_outer.specs.Flush.{flush_start}
+use Rattle.pipe_outer.specs.MarkProbe.{IsSeatAt, IsDue, IsDueOrNone}
+use Rattle.pipe_outer.specs.Unmet.{FullRows, AreFresh, AreSeatsOf, EndsMarking, IsClosed}
+use Rattle.pipe_outer.specs.declared.due.FlushDue.{FlushDue}
+use Rattle.pipe_outer.specs.declared.marks.Marks.{Marks}
+use Rattle.pipe_outer.specs.declared.marks.Marks.TheVariants as marks
 
 pub fresh-seats : (it : Marks) (count : ℕ) (seats : List SeatMarks) → AreFresh count it seats → AreSeatsOf it seats
 fresh-seats (marks.Running flags) count seats fresh = fresh.2

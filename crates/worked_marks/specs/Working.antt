@@ -3,10 +3,9 @@ use Rattle.std.specs.Prelude.{◌≡◌, ℕ, ◌≤◌, None, length}
 use Rattle.pipe_frame.specs.Frame.{Table}
 use Rattle.pipe_table.specs.Spec.{probed_schema}
 use Rattle.pipe_table.specs.declared.spec.JoinSpec.{JoinSpec}
-use Rattle.pipe_full.specs.LeftBuilt.{LeftBuiltProbing}
-use Rattle.pipe_marks.specs.FullProbe.{FullProbing}
-use Rattle.pipe_marks.specs.MarkProbe.{MarkProbing, HoldsSeat}
-use Rattle.pipe_marks.specs.Unmet.{FullRows}
+use Rattle.pipe_outer.specs.FullProbe.{FullProbing}
+use Rattle.pipe_outer.specs.MarkProbe.{MarkProbing, HoldsSeat}
+use Rattle.pipe_outer.specs.Unmet.{FullRows}
 
 -- the table of a join, in so many partitions
 pub record IsFullOf {H : Type 0} (spec : JoinSpec) (parts : ℕ) (full : FullRows H) : Type 0 where
@@ -29,10 +28,3 @@ pub record IsIdleFull {H : Type 0} (full : FullRows H) (probe : FullProbing) : T
   pub serves : full.table.spec ≡ probe.spec
   pub seat : HoldsSeat full.marks probe.seat
   pub begun : probe.begun ≡ None
-
--- and of the probe of a full join whose left side is built
-pub record IsIdleLeftBuilt {H : Type 0} (full : FullRows H) (probe : LeftBuiltProbing) : Type 0 where
-  pub serves : full.table.spec ≡ probe.spec
-  pub seat : HoldsSeat full.marks probe.seat
-  pub begun : probe.begun ≡ None
-  pub rest : probe.rest ≡ None

@@ -1,12 +1,10 @@
 //! The lines of all cases.
 
 ghost use Rattle.std.specs.Prelude.{◌≡◌, ◌<◌};
-ghost use Rattle.pipe_expr.specs.declared.join_words.JoinType.TheVariants as how;
 ghost use Rattle.worked_marks.specs.Sides.{AreSides};
 
 use crate::cases::{CASES, Case, ROW_BY_ROW};
 use crate::full::through_full;
-use crate::left_built::through_left_built;
 use crate::left_cases::LEFT_BUILT;
 use crate::marking::through_marks;
 use crate::sides::{Sides, join_at_root};
@@ -21,25 +19,6 @@ use worked_builders::{BuiltPlan, plan_of};
 /// How many rows a piece of most joins has.
 const PIECE_ROWS: u32 = 2;
 
-/// What comes of a full join, by the side that is built.
-fn full_joined<H: HashesKeys>(
-    alloc: Global,
-    sides: Sides,
-    whole: bool,
-    rows: u32,
-    hasher: H,
-) -> Result<String, AllocError>
-    requires sides { AreSides sides }
-    requires full { sides.spec.how ≡ how.Full }
-    requires rows { 0 < rows }
-{
-    if sides.spec.swapped {
-        through_full(alloc, sides, whole, rows, hasher)
-    } else {
-        through_left_built(alloc, sides, whole, rows, hasher)
-    }
-}
-
 /// What comes of a join under a hasher.
 fn joined<H: HashesKeys>(
     alloc: Global,
@@ -52,7 +31,7 @@ fn joined<H: HashesKeys>(
     requires rows { 0 < rows }
 {
     match sides.spec.how {
-        JoinType::Full => full_joined(alloc, sides, whole, rows, hasher),
+        JoinType::Full => through_full(alloc, sides, whole, rows, hasher),
         _ => through_marks(alloc, sides, whole, rows, hasher),
     }
 }

@@ -5,7 +5,6 @@ mod answers;
 mod built;
 mod cases;
 mod full;
-mod left_built;
 mod left_cases;
 mod marking;
 mod sides;

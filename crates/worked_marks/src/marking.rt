@@ -5,8 +5,8 @@ ghost use Rattle.std.specs.Prelude.{◌≡◌, ◌<◌, true, None, IfOk, IfSome
 ghost use Rattle.pipe_expr.specs.declared.join_words.JoinType.TheVariants as how;
 ghost use Rattle.pipe_frame.specs.Chunks.{HasSchema};
 ghost use Rattle.pipe_table.specs.Spec.{probed_schema};
-ghost use Rattle.pipe_marks.specs.Unmet.{IsClosed, AreSeatsOf};
-ghost use Rattle.pipe_marks.specs.MarkProbe.{gives_built, HoldsSeat};
+ghost use Rattle.pipe_outer.specs.Unmet.{IsClosed, AreSeatsOf};
+ghost use Rattle.pipe_outer.specs.MarkProbe.{gives_built, HoldsSeat};
 ghost use Rattle.worked_marks.specs.Sides.{AreSides};
 ghost use Rattle.worked_marks.specs.Working.{IsFullOf, IsProbedPart, IsIdle};
 
@@ -16,7 +16,7 @@ use crate::told::put_answer;
 use pipe_expr::JoinType;
 use pipe_frame::{DataChunk, DataFrame};
 use pipe_index::HashesKeys;
-use pipe_marks::{FullTable, GenericMarkProbe};
+use pipe_outer::{FullTable, GenericMarkProbe};
 use pipe_table::JoinSpec;
 use pipe_words::FlagSeat;
 use std::alloc::{AllocError, Global};
@@ -25,7 +25,7 @@ use std::sync::Arc;
 /// The answers of a probe to a chunk; whether the last one was given.
 fn chunk_answers<H: HashesKeys>(
     alloc: Global,
-    probe: &mut GenericMarkProbe,
+    probe: &mut GenericMarkProbe<H>,
     full: &FullTable<H>,
     chunk: &DataChunk,
     rows: u32,
@@ -38,7 +38,7 @@ fn chunk_answers<H: HashesKeys>(
     ensures idle { IfOk result (λ all. all ≡ true → IsIdle full.now probe.new) }
 {
     for _piece in 0..MOST_PIECES {
-        let answer = probe.execute(alloc, rows, full, chunk)?;
+        let answer = probe.next_piece(alloc, rows, full, chunk)?;
         if !put_answer(line, alloc, &answer)? {
             return Ok(true);
         }
@@ -50,8 +50,8 @@ fn chunk_answers<H: HashesKeys>(
 fn turn_answers<H: HashesKeys>(
     alloc: Global,
     turn: usize,
-    first: &mut GenericMarkProbe,
-    second: &mut GenericMarkProbe,
+    first: &mut GenericMarkProbe<H>,
+    second: &mut GenericMarkProbe<H>,
     full: &FullTable<H>,
     chunk: &DataChunk,
     rows: u32,
@@ -76,8 +76,8 @@ fn turn_answers<H: HashesKeys>(
 /// The answers of two probes that take the chunks of the probed rows in turn.
 fn answers_in_turn<H: HashesKeys>(
     alloc: Global,
-    first: &mut GenericMarkProbe,
-    second: &mut GenericMarkProbe,
+    first: &mut GenericMarkProbe<H>,
+    second: &mut GenericMarkProbe<H>,
     full: &FullTable<H>,
     probed: &DataFrame,
     whole: bool,
@@ -106,7 +106,7 @@ fn seated<H: HashesKeys>(
     spec: Arc<JoinSpec>,
     full: &FullTable<H>,
     seats: &mut Vec<FlagSeat>,
-) -> Option<GenericMarkProbe>
+) -> Option<GenericMarkProbe<H>>
     requires kind { gives_built spec.value.how spec.value.swapped ≡ true }
     requires full { IsFullOf spec.value 2 full.now }
     requires seats { AreSeatsOf full.now.marks seats.old.items }
@@ -121,7 +121,7 @@ fn seated<H: HashesKeys>(
 
 /// Puts the seat of a probe back.
 fn hand_back<H: HashesKeys>(
-    mut probe: GenericMarkProbe,
+    mut probe: GenericMarkProbe<H>,
     full: &FullTable<H>,
     back: &mut Vec<FlagSeat>,
 ) -> Result<(), AllocError>
@@ -193,9 +193,9 @@ fn part_answers<H: HashesKeys>(
     requires partition { p < 2 }
 {
     let mut probe = GenericMarkProbe::new(spec);
-    probe.begin_flush(p);
+    probe.start_flush(p);
     for _piece in 0..MOST_PIECES {
-        let answer = probe.flush(alloc, rows, full)?;
+        let answer = probe.next_of_flush(alloc, rows, full)?;
         if !put_answer(line, alloc, &answer)? {
             return Ok(());
         }

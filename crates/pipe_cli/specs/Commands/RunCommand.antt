@@ -1,6 +1,6 @@
 -- `run` and `run FILE`: the rows of a job.
 use Rattle.std.specs.Prelude.{[], ◌∷◌, true}
-use Rattle.pipe_eval.specs.Evaluated.{HasTooMany}
+use Rattle.pipe_driver.specs.Within.{HasTooMany}
 use Rattle.pipe_cli.specs.Contract.{Contract}
 use Rattle.pipe_cli.specs.Jobs.{IsRefusedJob, IsRowLines, IsSoundJob, IsWithinJob, job_kind}
 

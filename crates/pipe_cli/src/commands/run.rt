@@ -2,7 +2,7 @@
 
 ghost use Rattle.std.specs.Prelude.{◌≡◌, ◌++◌, true, IfOk, IfErr, IsErrOf, OnOk};
 ghost use Rattle.std.specs.List.{flat_map};
-ghost use Rattle.pipe_eval.specs.Evaluated.{HasRowsOf};
+ghost use Rattle.pipe_exec.specs.Evaluated.{HasRowsOf};
 ghost use Rattle.pipe_frame.specs.Counts.{Counts, Rises};
 ghost use Rattle.pipe_job.specs.JobSpelling.{task_of};
 ghost use Rattle.pipe_job.specs.Line.{head_line, row_line};

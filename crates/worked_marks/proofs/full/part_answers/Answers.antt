@@ -4,12 +4,12 @@ use Rattle.worked_marks.proofs.full.part_answers.Goals as goal
 
 pub loop-piece-init : goal.loop-piece-init
 loop-piece-init g c = record {
-  serves = c.requires.full.spec_is ∙ sym (c.begin_flush.ensures.spec ∙ c.in_ok-probe.ensures.spec);
-  due = starts-due (g.H.HashesKeys.hash_of c.args.full.now.table.hasher) c.args.full.now c.args.p 2 _ c.requires.full.parts_are c.requires.partition c.begin_flush.ensures.due;
+  serves = c.requires.full.spec_is ∙ sym (c.start_flush.ensures.spec ∙ c.new-probe.ensures.spec);
+  due = starts-due (g.H.HashesKeys.hash_of c.args.full.now.table.hasher) c.args.full.now c.args.p 2 _ c.requires.full.parts_are c.requires.partition c.start_flush.ensures.due;
 }
 
 pub loop-piece-preserved : goal.loop-piece-preserved
 loop-piece-preserved g c = record {
-  serves = c.loop-piece.invariant.serves ∙ sym c.flush.ensures.spec;
+  serves = c.loop-piece.invariant.serves ∙ sym c.next_of_flush.ensures.spec;
   due = c.in_ok-answer.ensures.due;
 }

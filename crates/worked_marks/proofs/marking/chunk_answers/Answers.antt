@@ -1,6 +1,6 @@
 use Rattle.std.proofs.Common.{rules, ap, sym, subst, ◌∙◌}
 use Rattle.pipe_table.specs.Spec.{probed_schema}
-use Rattle.pipe_marks.specs.MarkProbe.{IsGivenReady}
+use Rattle.pipe_outer.specs.MarkProbe.{IsGivenReady}
 use Rattle.worked_marks.proofs.marking.chunk_answers.Goals as goal
 
 pub loop-piece-init : goal.loop-piece-init
@@ -14,7 +14,7 @@ loop-piece-init g c = record {
 pub loop-piece-preserved : goal.loop-piece-preserved
 loop-piece-preserved g c =
     let known = c.loop-piece.invariant in
-    let step = c.execute.ensures in
+    let step = c.next_piece.ensures in
     let told = c.in_ok-put_answer.ensures in
     let goes_on = c.if-not-branch.false in
     record {

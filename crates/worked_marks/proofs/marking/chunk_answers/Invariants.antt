@@ -1,7 +1,7 @@
 use Rattle.std.proofs.Common.{◌≡◌}
 use Rattle.pipe_frame.specs.Chunks.{HasSchema}
 use Rattle.pipe_table.specs.Spec.{probed_schema}
-use Rattle.pipe_marks.specs.MarkProbe.{HoldsSeat, IsGivenReady}
+use Rattle.pipe_outer.specs.MarkProbe.{HoldsSeat, IsGivenReady}
 use Rattle.worked_marks.proofs.marking.chunk_answers.Given as goal
 
 abbrev pub invariant-loop-piece : goal.invariant-loop-piece

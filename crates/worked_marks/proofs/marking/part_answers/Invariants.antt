@@ -1,5 +1,5 @@
 use Rattle.std.proofs.Common.{◌≡◌}
-use Rattle.pipe_marks.specs.MarkProbe.{IsDueOrNone}
+use Rattle.pipe_outer.specs.MarkProbe.{IsDueOrNone}
 use Rattle.worked_marks.proofs.marking.part_answers.Given as goal
 
 abbrev pub invariant-loop-piece : goal.invariant-loop-piece

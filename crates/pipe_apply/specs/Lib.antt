@@ -1,2 +1,0 @@
--- what becomes of a whole frame
-pub mod Applied

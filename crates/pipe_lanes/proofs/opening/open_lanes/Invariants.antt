@@ -1,9 +1,0 @@
-use Rattle.std.proofs.Common.{◌≡◌, All, vec_len}
-use Rattle.pipe_lanes.specs.Opens.{IsOpened}
-use Rattle.pipe_lanes.proofs.opening.open_lanes.Given as goal
-
-abbrev pub invariant-loop-thread_no : goal.invariant-loop-thread_no
-invariant-loop-thread_no g l = record {
-  len : vec_len l.lanes ≡ l.thread_no;
-  opened : All (IsOpened g.O.Operator g.K.Sink l.stages l.basin) l.lanes.items;
-}

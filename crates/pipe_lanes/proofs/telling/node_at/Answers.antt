@@ -1,9 +1,0 @@
-use Rattle.pipe_lanes.proofs.Sums.{node-at, node-basin}
-use Rattle.pipe_lanes.proofs.telling.node_at.Goals as goal
-
-pub returns-then-place-stages : goal.returns-then-place-stages
-returns-then-place-stages g c =
-    node-at c.args.stages.now c.args.basin.now c.args.place c.index-stages-place.result c.if-place-stages.true
-
-pub returns : goal.returns
-returns g c = node-basin c.args.stages.now c.args.basin.now c.args.place c.if-place-stages.false c.requires

@@ -1,3 +1,0 @@
-mod Copies
-pub mod Crossing
-mod Sent
