@@ -2,7 +2,6 @@
 use Rattle.std.proofs.Common.{◌≡◌, ℕ, ◌<◌, List, [], ◌∷◌, length, refl, sym, ap, subst, ◌∙◌, arith, inl, Option, Some, None}
 use Rattle.std.specs.Prelude.{Result, Ok, Err, IfErr, IsErrAnd}
 use Rattle.std.specs.List.{AllByRecursion}
-use Rattle.std.specs.Global.{Vec}
 use Rattle.pipe_frame.specs.Rows.{Row}
 use Rattle.pipe_frame.specs.declared.field.Field.{Field}
 use Rattle.pipe_ops.specs.Batches.{Left}
@@ -79,7 +78,7 @@ module _ {H : Type 0} (hash_of : H → List ℕ → ℕ) where
       → IsTaken (operators_of part.stages.items) old.slots slots shared seats → p.shared.items ≡ shared
       → ((limit : ℕ) → HasOpened hash_of sink_words limit part.stages.items part.basin shared seats p.seats.items p.lanes.items)
       → ((from : List Field) → IsPassing hash_of sink_words old.context.row_limit from p.lanes.items p.shared.items p.seats.items → AllByRecursion (IsLeftOf from) (left_of source) → Breaks hash_of old.context.row_limit from (left_rows (left_of source)) p.lanes.items q.lanes.items p.shared.items p.seats.items e)
-      → q.shared ≡ p.shared → q.seats ≡ p.seats → old.leg ≡ None → IsTold hash_of slots q e r
+      → q.shared.items ≡ p.shared.items → q.seats ≡ p.seats → old.leg ≡ None → IsTold hash_of slots q e r
       → (x : Settings H) → RefusesLeg (Brings source x) (StandsFor part x) (Fits hash_of old x) old.context.row_limit r
   leg_refused old source part shared seats slots p q e error.Stopped taken shared_is opened breaks same_shared same_seats idle told x m w start leg fits stands brings above above_sink built = tt
   leg_refused old source part shared seats slots p q e error.Memory taken shared_is opened breaks same_shared same_seats idle told x m w start leg fits stands brings above above_sink built = tt
@@ -96,7 +95,7 @@ module _ {H : Type 0} (hash_of : H → List ℕ → ℕ) where
       let B : RunError → Type 0 = λ z. Breaks hash_of limit from (left_rows (left_of source)) lanes q.lanes.items p.shared.items p.seats.items z in
       let Q : List (Slot H) → Type 0 = λ z. AllOnce z (acts_now hash_of q.lanes.items q.seats.items) in
       let R : List (List SeatMarks) → Type 0 = λ z. AllOnce p.shared.items (acts_now hash_of q.lanes.items z) in
-      let once = subst R (ap (λ (v : Vec (List SeatMarks)). v.items) same_seats) (subst Q (ap (λ (v : Vec (Slot H)). v.items) same_shared) told.stages) in
+      let once = subst R (ap (λ v. v.items) same_seats) (subst Q same_shared told.stages) in
       leg_broken hash_of x old source part p seats q.lanes.items slots from n m w start leg
       (subst T (sym shared_is) taken) open_is (λ first ops e. given_is x lanes first ops e) (subst B told.was broke) told.slots once idle fits stands brings above above_sink built
 

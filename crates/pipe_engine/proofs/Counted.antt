@@ -1,8 +1,6 @@
 -- Rows that are counted at their nodes, leg after leg.
 use Rattle.std.proofs.Common.{◌≡◌, ℕ, ◌+◌, ◌<◌, ◌≤◌, Bool, true, false, cond, ◌==◌, List, [], ◌∷◌, ◌++◌, length, get_or, Option, Some, None, refl, sym, ap, subst, ◌∙◌, arith}
 use Rattle.std.specs.List.{flat_map}
-use Rattle.std.specs.Global.{Vec}
-use Rattle.std.specs.Vec.{vec_len}
 use Rattle.pipe_frame.specs.Rows.{Row}
 use Rattle.pipe_frame.proofs.Weights.{SameBag, SameBag-refl, SameBag-append, SameBag-flat_map}
 use Rattle.pipe_chain.specs.Counts.{AllWithin, counts_of, plus}
@@ -10,7 +8,7 @@ use Rattle.pipe_chain.specs.Flow.{Work, Acts, made}
 use Rattle.pipe_legs.specs.Meaning.{Meaning, Place, OutOf}
 use Rattle.pipe_driver.specs.State.{World, spent_at}
 use Rattle.pipe_driver.specs.Tables.{number_at}
-use Rattle.pipe_driver.proofs.Drives.{no_items, some_items}
+use Rattle.pipe_passage.proofs.Stopped.{nil-told, some-told}
 use Rattle.pipe_legs.proofs.Tests.{by_test, eq-is, eq-true, eq-false, eq-not}
 use Rattle.pipe_run.specs.Dealt.{nodes_in, counts_in}
 use Rattle.pipe_run.specs.Lanes.{lane_nodes}
@@ -72,15 +70,15 @@ first_added t n c ns cs nodes counts e g = ap (λ l. cond (first_node l == t) (n
 
 -- ---- a lane, and the table of counts
 
-pub first_none : {O K : Type 0} (sts : Vec (Stage O)) (b : Basin K) → (vec_len sts == 0) ≡ true → b.node ≡ first_node (nodes_of sts.items b)
-first_none sts b none = ap (λ l. first_node (nodes_of l b)) (sym (no_items sts none))
+pub first_none : {O K : Type 0} (sts : List (Stage O)) (n : ℕ) (b : Basin K) → n ≡ length sts → (n == 0) ≡ true → b.node ≡ first_node (nodes_of sts b)
+first_none sts n b long none = ap (λ l. first_node (nodes_of l b)) (sym (nil-told sts n long none))
 
 some_stage : {O K : Type 0} (sts : List (Stage O)) (b : Basin K) (d : Stage O) → (sts ≡ [] → ⊥) → (get_or sts 0 d).node ≡ first_node (nodes_of sts b)
 some_stage [] b d some = absurd (some refl)
 some_stage (st ∷ sts) b d some = refl
 
-pub first_some : {O K : Type 0} (sts : Vec (Stage O)) (b : Basin K) (d : Stage O) → (vec_len sts == 0) ≡ false → (get_or sts.items 0 d).node ≡ first_node (nodes_of sts.items b)
-first_some sts b d some = some_stage sts.items b d (some_items sts some)
+pub first_some : {O K : Type 0} (sts : List (Stage O)) (n : ℕ) (b : Basin K) (d : Stage O) → n ≡ length sts → (n == 0) ≡ false → (get_or sts 0 d).node ≡ first_node (nodes_of sts b)
+first_some sts n b d long some = some_stage sts b d (λ none. (let more = some-told sts n long some in let zero = ap length none in absurd (omega arith)))
 
 -- a node that the table hasn't is no node of the plan
 pub added_past : (node rows limit : ℕ) (given : List ℕ) → length given ≤ node → ((k : ℕ) → number_at given k ≤ limit) → IsAdded node rows limit given given

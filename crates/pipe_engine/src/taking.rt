@@ -13,6 +13,7 @@ use pipe_run::Stage;
 use pipe_slots::{PhysOperator, Slot, Slots};
 use pipe_words::FlagSeat;
 use std::alloc::{AllocError, Global};
+use std::collections::VecDeque;
 
 /// Takes what an operator reads, with the seats there.
 fn take_own<H: HashesKeys>(
@@ -113,10 +114,10 @@ pub(crate) fn flushed_parts<H: HashesKeys>(shared: &[Slot<H>], parts: u32) -> u3
     0
 }
 
-/// Whether a stage reads nothing.
-pub(crate) fn reads_nothing<H: HashesKeys>(shared: &[Slot<H>]) -> bool
-    requires { 0 < length shared.now }
-    ensures { ReadsNothing result shared.now }
+/// Whether the first stage reads nothing.
+pub(crate) fn reads_nothing<H: HashesKeys>(shared: &VecDeque<Slot<H>>) -> bool
+    requires { 0 < length shared.now.items }
+    ensures { ReadsNothing result shared.now.items }
 {
     match &shared[0] {
         Slot::Empty => true,

@@ -1,8 +1,6 @@
 -- Lanes on whose way something was refused hold their seats; where these are handed back, each key was won once.
 use Rattle.std.proofs.Common.{◌≡◌, ℕ, zero, suc, ◌+◌, ◌<◌, List, [], ◌∷◌, length, get_or, map, true, false, ◌==◌, Option, refl, ap, sym, ◌∙◌, subst, arith}
 use Rattle.std.specs.List.{All, AllByRecursion}
-use Rattle.std.specs.Global.{Vec}
-use Rattle.std.specs.Vec.{vec_len}
 use Rattle.std.proofs.lemmas.Bool.Decides.{Decides-eqb}
 use Rattle.std.proofs.lemmas.List.{nil_from_length}
 use Rattle.pipe_frame.proofs.Weights.{SameBag, total-map}
@@ -176,12 +174,9 @@ pub none-once : {H : Type 0} (ss : List (Slot H)) (acts : List Acts) → ss ≡ 
 none-once ss acts e = subst (λ (l : List (Slot _)). AllOnce l acts) (sym e) tt
 
 -- a vector that is empty, or not
-pub nil-told : {A : Type 0} (v : Vec A) → (vec_len v == 0) ≡ true → v.items ≡ []
-nil-told v e = let none : vec_len v ≡ 0 = (Decides-eqb (vec_len v) 0).0 e in nil_from_length v.items (omega arith)
+pub nil-told : {A : Type 0} (xs : List A) (n : ℕ) → n ≡ length xs → (n == 0) ≡ true → xs ≡ []
+nil-told xs n long e = let none : n ≡ 0 = (Decides-eqb n 0).0 e in nil_from_length xs (omega arith)
 
-pub some-told : {A : Type 0} (v : Vec A) → (vec_len v == 0) ≡ false → 0 < length v.items
-some-told {A = A} v e =
-    let split : (xs : List A) → v.items ≡ xs → 0 < length v.items = elim [
-      | [] ↦ λ q. absurd (let none : vec_len v ≡ 0 = (let l : length v.items ≡ 0 = ap length q in omega arith) in let both : true ≡ false = sym ((Decides-eqb (vec_len v) 0).1 none) ∙ e in cc)
-      | x ∷ xs ↦ λ q. (let l = ap length q in omega arith)
-    ] in split v.items refl
+pub some-told : {A : Type 0} (xs : List A) (n : ℕ) → n ≡ length xs → (n == 0) ≡ false → 0 < length xs
+some-told [] n long e = absurd (let none : n ≡ 0 = omega arith in let both : true ≡ false = sym ((Decides-eqb n 0).1 none) ∙ e in cc)
+some-told (x ∷ xs) n long e = omega arith

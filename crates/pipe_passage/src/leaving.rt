@@ -16,13 +16,17 @@ use pipe_run::Lane;
 use pipe_slots::{PhysOperator, Slot};
 use pipe_words::FlagSeat;
 use std::alloc::AllocError;
+use std::collections::VecDeque;
 
 /// Takes the first of some items.
-fn take_front<T>(items: &mut Vec<T>) -> T
+fn take_front<T>(items: &mut VecDeque<T>) -> T
     requires { 0 < length items.old.items }
     ensures { items.old.items ≡ result ∷ items.new.items }
 {
-    items.remove(0)
+    let Some(first) = items.pop_front() else {
+        unreachable!()
+    };
+    first
 }
 
 /// Puts a seat, if there is one, to others.

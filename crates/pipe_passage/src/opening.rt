@@ -20,6 +20,7 @@ use pipe_run::{Basin, Lane, Stage};
 use pipe_slots::{CallBack, PhysOperator, PlaceHolder, Slot};
 use pipe_words::FlagSeat;
 use std::alloc::{AllocError, Global};
+use std::collections::VecDeque;
 use std::mem::replace;
 
 /// Takes the last of some seats.
@@ -180,7 +181,7 @@ fn open_lane<H: KeyHasher, K: Sink + Drop>(
     open_stages(alloc, shared, free, stages, thread_no, &mut own)?;
     let sink = basin.sink.split(alloc, thread_no)?;
     Ok(Lane {
-        stages: own,
+        stages: VecDeque::from_vec(own),
         flushers: Vec::new(alloc),
         basin: Basin {
             sink,
@@ -244,7 +245,7 @@ pub fn open_passage<H: KeyHasher, K: Sink + Drop>(
     let made = open_lanes(alloc, shared.as_slice(), free, stages, basin, lanes)?;
     Ok(Passage {
         lanes: made,
-        shared,
-        seats,
+        shared: VecDeque::from_vec(shared),
+        seats: VecDeque::from_vec(seats),
     })
 }

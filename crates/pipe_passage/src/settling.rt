@@ -56,7 +56,7 @@ pub fn settle_first<R: Threads + Sync, H: KeyHasher, K: Sink + Drop, G: Gate + S
     if parts == 0 {
         return Ok(0);
     }
-    let others = passage.shared.as_slice();
+    let others = passage.shared.make_contiguous();
     let lanes = passage.lanes.as_mut_slice();
     match noted_flush(rt, alloc, context, &kept, others, gate, lanes, notes) {
         Ok(()) => Ok(parts),

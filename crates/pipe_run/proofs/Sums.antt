@@ -1,5 +1,5 @@
 -- Counts of all lanes, and the least lane's refusal.
-use Rattle.std.proofs.Common.{◌≡◌, ℕ, zero, suc, ◌+◌, ◌-◌, ◌<◌, ◌≤◌, inl, inr, List, [], ◌∷◌, length, get_or, drop, refl, ap, sym, ◌∙◌, subst, arith, vec_len, length-append, drop-cons}
+use Rattle.std.proofs.Common.{◌≡◌, ℕ, zero, suc, ◌+◌, ◌-◌, ◌<◌, ◌≤◌, inl, inr, List, [], ◌∷◌, length, get_or, drop, refl, ap, sym, ◌∙◌, subst, arith, deque_len, length-append, drop-cons}
 use Rattle.std.specs.List.{All, flat_map}
 use Rattle.pipe_frame.specs.Rows.{Row}
 use Rattle.pipe_run.specs.declared.stage.Stage.{Stage}
@@ -114,8 +114,8 @@ module _ {O K : Type 0} where
   first-nodes (y ∷ lanes) x some is = ap lane_nodes (sym is)
 
   -- how many stages the first lane has
-  pub same-len : (lanes : List (Lane O K)) (x : Lane O K) → x ≡ get_or lanes 0 x → length x.stages.items ≡ vec_len (get_or lanes 0 x).stages
-  same-len lanes x is = subst (λ (l : Lane O K). length x.stages.items ≡ vec_len l.stages) is (omega arith)
+  pub same-len : (lanes : List (Lane O K)) (x : Lane O K) → x ≡ get_or lanes 0 x → length x.stages.items ≡ deque_len (get_or lanes 0 x).stages
+  same-len lanes x is = subst (λ (l : Lane O K). length x.stages.items ≡ deque_len l.stages) is (omega arith)
 
   pub places : (lanes : List (Lane O K)) (x : Lane O K) → 0 < length lanes → x ≡ get_or lanes 0 x → length (nodes_in lanes) ≡ length x.stages.items + 1
   places lanes x some is = ap length (first-nodes lanes x some is) ∙ length-nodes x.stages.items x.basin

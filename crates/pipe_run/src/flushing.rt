@@ -25,7 +25,10 @@ fn pop_stage<O, K>(lane: &mut Lane<O, K>) -> Stage<O>
     requires { HasStage lane.old }
     ensures { IsPopped result lane.old lane.new }
 {
-    lane.stages.remove(0)
+    let Some(stage) = lane.stages.pop_front() else {
+        unreachable!()
+    };
+    stage
 }
 
 /// Takes the first operator off a lane, to be flushed.
@@ -122,7 +125,7 @@ fn flush_behind<O: FlushParts, K: Sink>(
     ensures entries { lane.new.entries ≡ lane.old.entries }
     ensures flushers { lane.new.flushers ≡ lane.old.flushers }
 {
-    let stages = lane.stages.as_mut_slice();
+    let stages = lane.stages.make_contiguous();
     match drain_part(
         alloc,
         context,

@@ -11,12 +11,13 @@ use pipe_frame::DataChunk;
 use pipe_ops::{PExecutionContext, Sink};
 use pipe_words::ClaimSeat;
 use std::alloc::Global;
+use std::collections::VecDeque;
 
 /// A lane.
 #[derive(Drop)]
 pub struct Lane<O, K> {
     /// Its operators, in order.
-    pub stages: Vec<Stage<O>>,
+    pub stages: VecDeque<Stage<O>>,
     /// The stages that were taken off, once nothing more comes into them; the last one is flushed through the others.
     pub flushers: Vec<Stage<O>>,
     /// Its sink.
@@ -47,7 +48,7 @@ pub(crate) fn run_chunk<O: Operator, K: Sink>(
     ensures seat { lane.new.seat ≡ lane.old.seat }
     ensures entries { lane.new.entries ≡ lane.old.entries }
 {
-    let stages = lane.stages.as_mut_slice();
+    let stages = lane.stages.make_contiguous();
     match push_shared(alloc, context, shared, stages, chunk, &mut lane.basin) {
         Ok(()) => {}
         Err(refusal) => lane.refused = Some(refusal),

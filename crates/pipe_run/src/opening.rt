@@ -16,6 +16,7 @@ use crate::stage::{Basin, Stage};
 use pipe_chain::Operator;
 use pipe_ops::{PExecutionContext, Sink};
 use std::alloc::{AllocError, Global};
+use std::collections::VecDeque;
 
 /// A stage for a further lane, which was given no row.
 fn split_stage<O: Operator>(
@@ -59,7 +60,7 @@ pub fn open_lane<O: Operator + Drop, K: Sink + Drop>(
     let own = split_stages(alloc, stages, thread_no)?;
     let sink = basin.sink.split(alloc, thread_no)?;
     Ok(Lane {
-        stages: own,
+        stages: VecDeque::from_vec(own),
         flushers: Vec::new(alloc),
         basin: Basin {
             sink,

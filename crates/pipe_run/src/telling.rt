@@ -9,6 +9,7 @@ ghost use Rattle.pipe_run.specs.Lanes.{lane_counts, lane_nodes};
 use crate::lane::Lane;
 use crate::stage::{Basin, Refusal, Stage};
 use pipe_ops::PExecutionContext;
+use std::collections::VecDeque;
 
 /// The refusal of the first lane that kept one.
 pub(crate) fn first_refusal<O, K>(lanes: &[Lane<O, K>]) -> Option<Refusal>
@@ -23,9 +24,9 @@ pub(crate) fn first_refusal<O, K>(lanes: &[Lane<O, K>]) -> Option<Refusal>
 }
 
 /// How many rows were given at a place: at each operator, and last at the sink.
-fn given_at<O, K>(stages: &[Stage<O>], basin: &Basin<K>, place: usize) -> u64
-    requires { place < length (counts stages.now basin.now) }
-    ensures { result ≡ slice_index_or (counts stages.now basin.now) place 0 }
+fn given_at<O, K>(stages: &VecDeque<Stage<O>>, basin: &Basin<K>, place: usize) -> u64
+    requires { place < length (counts stages.now.items basin.now) }
+    ensures { result ≡ slice_index_or (counts stages.now.items basin.now) place 0 }
 {
     if place < stages.len() {
         return stages[place].given;
@@ -34,9 +35,9 @@ fn given_at<O, K>(stages: &[Stage<O>], basin: &Basin<K>, place: usize) -> u64
 }
 
 /// The node at a place.
-fn node_at<O, K>(stages: &[Stage<O>], basin: &Basin<K>, place: usize) -> u32
-    requires { place < length (nodes_of stages.now basin.now) }
-    ensures { result ≡ slice_index_or (nodes_of stages.now basin.now) place 0 }
+fn node_at<O, K>(stages: &VecDeque<Stage<O>>, basin: &Basin<K>, place: usize) -> u32
+    requires { place < length (nodes_of stages.now.items basin.now) }
+    ensures { result ≡ slice_index_or (nodes_of stages.now.items basin.now) place 0 }
 {
     if place < stages.len() {
         return stages[place].node;
@@ -49,7 +50,7 @@ fn lane_given<O, K>(lane: &Lane<O, K>, place: usize) -> u64
     requires { place < length (lane_counts lane.now) }
     ensures { result ≡ slice_index_or (lane_counts lane.now) place 0 }
 {
-    given_at(lane.stages.as_slice(), &lane.basin, place)
+    given_at(&lane.stages, &lane.basin, place)
 }
 
 /// The node of a lane at a place.
@@ -57,7 +58,7 @@ fn lane_node<O, K>(lane: &Lane<O, K>, place: usize) -> u32
     requires { place < length (lane_nodes lane.now) }
     ensures { result ≡ slice_index_or (lane_nodes lane.now) place 0 }
 {
-    node_at(lane.stages.as_slice(), &lane.basin, place)
+    node_at(&lane.stages, &lane.basin, place)
 }
 
 /// How many rows all lanes were given at a place.

@@ -1,4 +1,3 @@
-use Rattle.std.proofs.Common.{arith}
 use Rattle.pipe_sinks.specs.Sinks.{sink_rows}
 use Rattle.pipe_engine.specs.Engine.{whole_rows}
 use Rattle.pipe_engine.proofs.Breaking.{err_same}

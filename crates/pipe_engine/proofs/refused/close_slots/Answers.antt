@@ -1,4 +1,4 @@
-use Rattle.std.proofs.Common.{◌<◌, ◌≤◌, refl, arith, ◌∙◌}
+use Rattle.std.proofs.Common.{refl, arith}
 use Rattle.pipe_engine.proofs.Closes.{closed_all, closed_next, may_close}
 use Rattle.pipe_engine.proofs.refused.close_slots.Goals as goal
 

@@ -1,6 +1,3 @@
-use Rattle.std.proofs.Common.{List, [], ◌∷◌, ◌++◌, refl, ap, sym, ◌∙◌, arith}
-use Rattle.std.specs.List.{flat_map}
-use Rattle.pipe_passage.specs.LaneSeats.{front_seats}
 use Rattle.pipe_passage.proofs.Left.{off-more, seats-more, staged-last}
 use Rattle.pipe_passage.proofs.leaving.+leave_lanes.Goals as goal
 

@@ -1,5 +1,5 @@
-use Rattle.std.proofs.Common.{◌≡◌, List, [], ◌∷◌, ◌++◌, length, sym, subst, ◌∙◌, arith}
-use Rattle.pipe_passage.specs.LaneSeats.{LanesOpened, AllRest}
+use Rattle.std.proofs.Common.{◌≡◌, length, subst, arith}
+use Rattle.pipe_passage.specs.LaneSeats.{AllRest}
 use Rattle.pipe_passage.proofs.Opened.{rest-length, opened-more, has-opened, more-of}
 use Rattle.pipe_passage.proofs.opening.open_lanes.Goals as goal
 

@@ -1,9 +1,10 @@
+use Rattle.std.proofs.Common.{ap, arith, ◌∙◌}
 use Rattle.pipe_run.proofs.Sums.{node-at, node-basin}
 use Rattle.pipe_run.proofs.telling.node_at.Goals as goal
 
-pub returns-then-place-stages : goal.returns-then-place-stages
-returns-then-place-stages g c =
-    node-at c.args.stages.now c.args.basin.now c.args.place c.index-stages-place.result c.if-place-stages.true
+pub returns-then-place-len : goal.returns-then-place-len
+returns-then-place-len g c =
+    ap (λ st. st.node) c.index.ensures ∙ node-at c.args.stages.now.items c.args.basin.now c.args.place c.index.result.now (omega (arith, c.if-place-len.true, c.len.ensures, c.args.stages.now.ok.0))
 
 pub returns : goal.returns
-returns g c = node-basin c.args.stages.now c.args.basin.now c.args.place c.if-place-stages.false c.requires
+returns g c = node-basin c.args.stages.now.items c.args.basin.now c.args.place (omega (arith, c.if-place-len.false, c.len.ensures, c.args.stages.now.ok.0)) c.requires
