@@ -1,7 +1,6 @@
 -- A leg that is made of what a branch says stands for it.
-use Rattle.std.proofs.Common.{◌≡◌, ℕ, ◌<◌, List, [], ◌∷◌, ◌++◌, length, Option, Some, refl, ap, sym, subst, ◌∙◌, append_assoc}
+use Rattle.std.proofs.Common.{◌≡◌, ℕ, ◌<◌, List, [], ◌∷◌, ◌++◌, length, Option, Some, refl, ap, sym, subst, ◌∙◌}
 use Rattle.std.specs.List.{flat_map}
-use Rattle.std.proofs.lemmas.List.{append-nil}
 use Rattle.pipe_plan.specs.Faults.{IsWellFormed}
 use Rattle.pipe_plan.specs.Under.{node_at}
 use Rattle.pipe_branches.specs.declared.branch.SinkAt.{SinkAt}
@@ -39,20 +38,6 @@ sink_there plan given ops (at.Build n) on = on.sink.1
 
 module _ {H : Type 0} (plan : Checked) (specs : Specs) where
   -- ---- stages
-
-  abbrev pub StagesBehind : (start : ℕ) → (ops : List ℕ) → (given : ℕ) → (rest : List ℕ) → List (Stage (PhysOperator H)) → Type 0
-  StagesBehind start ops given rest stages = (more : List (Stage (PhysOperator H))) → AreStagesAt plan specs given more rest → AreStagesAt plan specs start (stages ++ more) ops
-
-  pub stages_first : (start : ℕ) (ops : List ℕ) (stages : List (Stage (PhysOperator H))) → stages ≡ [] → StagesBehind start ops start ops stages
-  stages_first start ops stages none more h = subst (λ l. AreStagesAt plan specs start (l ++ more) ops) (sym none) h
-
-  pub stages_next : (start : ℕ) (ops : List ℕ) (given n : ℕ) (rest : List ℕ) (stages : List (Stage (PhysOperator H))) (stage : Stage (PhysOperator H)) → stage.node ≡ given → IsOperatorAt plan specs n stage.operator → StagesBehind start ops given (n ∷ rest) stages → StagesBehind start ops n rest (stages ++ stage ∷ [])
-  stages_next start ops given n rest stages stage is made known more h =
-      subst (λ l. AreStagesAt plan specs start l ops) (sym (append_assoc stages (stage ∷ []) more)) (known (stage ∷ more) (is, made, h))
-
-  pub stages_done : (start : ℕ) (ops : List ℕ) (given : ℕ) (rest : List ℕ) (stages : List (Stage (PhysOperator H))) → rest ≡ [] → StagesBehind start ops given rest stages → AreStagesAt plan specs start stages ops
-  stages_done start ops given rest stages none known =
-      subst (λ l. AreStagesAt plan specs start l ops) (append-nil stages) (known [] (subst (AreStagesAt {H = H} plan specs given []) (sym none) tt))
 
   stages_stand : (sinks : Sinks H) (hasher : H) (parts start : ℕ) (ops : List ℕ) (stages : List (Stage (PhysOperator H))) (a : SinkAt) (b : Basin (PhysSink H)) → GoesAlong plan start ops → AreStagesAt plan specs start stages ops → b.node ≡ last_of start ops
       → IsSinkOf (settings_in plan specs sinks hasher parts) (meaning_in plan) (last_of start ops) a b.sink → AreStagesOf (settings_in plan specs sinks hasher parts) (meaning_in plan) start stages ops a b

@@ -6,6 +6,10 @@ pub mod SinkStands
 pub mod SinkLists
 pub mod LegFacts
 pub mod LineFacts
+pub mod BranchEnds
+pub mod PartFacts
+pub mod CutFacts
+pub mod CutSteps
 pub mod Stand
 pub mod Due
 pub mod RootSink

@@ -57,28 +57,13 @@ module _ {H : Type 0} (plan : Checked) (specs : Specs) (places : Sinks H) (hashe
   abbrev size : ℕ
   size = length (nodes_in plan)
 
-  abbrev pub LegsBehind : (source : ℕ) → (ops : List ℕ) → (all : List SinkNode) → (start first : ℕ) → (rest : List SinkNode) → List (Leg (Part H)) → Type 0
-  LegsBehind source ops all start first rest legs = (more : List (Leg (Part H))) → HasLegsOf plan specs places hasher parts start ops first rest more → HasLegsOf plan specs places hasher parts source ops 0 all (legs ++ more)
-
-  one_more : (start : ℕ) (ops : List ℕ) (first : ℕ) (sink : SinkNode) (sinks : List SinkNode) (leg : Leg (Part H)) (more : List (Leg (Part H))) → IsLegOf plan specs places hasher parts start (between ops first sink.offset) sink leg
+  pub one_more : (start : ℕ) (ops : List ℕ) (first : ℕ) (sink : SinkNode) (sinks : List SinkNode) (leg : Leg (Part H)) (more : List (Leg (Part H))) → IsLegOf plan specs places hasher parts start (between ops first sink.offset) sink leg
       → HasLegsOf plan specs places hasher parts (sink_node size sink.at) ops sink.offset sinks more → HasLegsOf plan specs places hasher parts start ops first (sink ∷ sinks) (leg ∷ more)
   one_more start ops first sink sinks leg more is h = record {
     nodes = ap (λ l. l ∷ map (leg_as size) more) is.nodes ∙ ap (λ l. leg_of size (between ops first sink.offset) sink.at ∷ l) h.nodes;
     made = (is.made, subst (λ a. AreLegsMade plan specs places hasher parts (sink_node size a) more) (sym is.at) h.made);
     text = ap (λ t. t ++ flat_map leg_text more) is.text ∙ ap (λ r. (operator_texts (nodes_in plan) (between ops first sink.offset) ++ arrow_word (sink_word (nodes_in plan) sink.at)) ++ r) h.text;
   }
-
-  pub legs_first : (source : ℕ) (ops : List ℕ) (all : List SinkNode) (legs : List (Leg (Part H))) → legs ≡ [] → LegsBehind source ops all source 0 all legs
-  legs_first source ops all legs none more h = subst (λ l. HasLegsOf plan specs places hasher parts source ops 0 all (l ++ more)) (sym none) h
-
-  pub legs_next : (source : ℕ) (ops : List ℕ) (all : List SinkNode) (start first : ℕ) (sink : SinkNode) (sinks : List SinkNode) (legs : List (Leg (Part H))) (leg : Leg (Part H)) → IsLegOf plan specs places hasher parts start (between ops first sink.offset) sink leg
-      → LegsBehind source ops all start first (sink ∷ sinks) legs → LegsBehind source ops all (sink_node size sink.at) sink.offset sinks (legs ++ leg ∷ [])
-  legs_next source ops all start first sink sinks legs leg is known more h =
-      subst (HasLegsOf plan specs places hasher parts source ops 0 all) (sym (append_assoc legs (leg ∷ []) more)) (known (leg ∷ more) (one_more start ops first sink sinks leg more is h))
-
-  pub legs_done : (source : ℕ) (ops : List ℕ) (all : List SinkNode) (start first : ℕ) (rest : List SinkNode) (legs : List (Leg (Part H))) → rest ≡ [] → LegsBehind source ops all start first rest legs → HasLegsOf plan specs places hasher parts source ops 0 all legs
-  legs_done source ops all start first rest legs none known =
-      subst (HasLegsOf plan specs places hasher parts source ops 0 all) (append-nil legs) (known [] (subst (λ r. HasLegsOf plan specs places hasher parts start ops first r []) (sym none) (record { nodes = refl; made = tt; text = refl })))
 
   -- ---- pipelines
 

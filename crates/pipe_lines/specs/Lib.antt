@@ -1,5 +1,9 @@
 -- what is made of nodes
 pub mod Made
+-- a pipeline cut at its sinks into legs
+pub mod Cuts
+-- what the pipeline of a branch is made of
+pub mod Parts
 -- pipelines that stand for branches
 pub mod Lines
 -- what all pipelines of a plan are made of

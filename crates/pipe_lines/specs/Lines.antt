@@ -1,5 +1,5 @@
 -- Pipelines that stand for branches.
-use Rattle.std.specs.Prelude.{◌≡◌, ℕ, ◌<◌, List, [], ◌∷◌, ◌++◌, length, Option, Some, None}
+use Rattle.std.specs.Prelude.{◌≡◌, ℕ, ◌<◌, ◌≤◌, List, [], ◌∷◌, ◌++◌, length, Option, Some, None}
 use Rattle.std.specs.List.{flat_map, AllByRecursion}
 use Rattle.pipe_source.specs.Supplies.{source_text}
 use Rattle.pipe_source.specs.declared.phys_source.PhysSource.{PhysSource}
@@ -45,6 +45,16 @@ source_or_none (Some source) = source_text source
 -- its source, its operators and its sinks, in the order in which rows come to them
 abbrev pub line_text : {H : Type 0} → PipeLine PhysSource (Part H) → List ℕ
 line_text line = source_or_none line.source ++ flat_map leg_text line.legs.items
+
+-- ---- where the sinks of a branch stand
+
+-- each behind the one before, and the last behind all operators
+abbrev pub AreEnds : (most first : ℕ) → List SinkNode → Type 0
+AreEnds most first [] = first ≡ most
+AreEnds most first (sink ∷ sinks) = (first ≤ sink.offset) × AreEnds most sink.offset sinks
+
+abbrev pub HasEnds : Branch → Type 0
+HasEnds branch = AreEnds (length branch.operators) 0 branch.sinks
 
 -- ---- a pipeline that stands for a branch
 

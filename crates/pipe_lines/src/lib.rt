@@ -5,20 +5,27 @@
 //! what the node means.
 #![tactic(auto)]
 
+mod branch_operators;
+mod branch_sinks;
+mod cutting;
 mod layout;
-mod leg;
 mod operator;
+mod pipe_line;
+mod pipe_nodes;
 mod pipeline;
 mod run;
 mod settings;
 mod sink;
 mod sinks;
 mod text;
+mod threaded_sink;
 
 pub use layout::Layout;
 pub use operator::get_operator;
+pub use pipe_line::PipeLine;
+pub use pipe_nodes::PipeNodes;
 pub use pipeline::{create_pipeline, create_pipelines};
 pub use run::{create_run, run_branches};
 pub use sink::get_sink;
 pub use sinks::plan_sinks;
-pub use text::pipeline_text;
+pub use threaded_sink::ThreadedSink;

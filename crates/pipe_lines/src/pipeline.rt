@@ -1,78 +1,49 @@
 //! The pipelines of branches.
 
-ghost use Rattle.std.specs.Prelude.{◌≡◌, ◌≤◌, IfOk};
+ghost use Rattle.std.specs.Prelude.{◌≡◌, ◌≤◌, map, IfOk};
 ghost use Rattle.pipe_branches.specs.Branches.{branches as branches_of_plan};
 ghost use Rattle.pipe_create.specs.Laws.{IsBranch};
 ghost use Rattle.pipe_create.specs.Nodes.{plan_in};
+ghost use Rattle.pipe_lines.specs.Cuts.{way_in};
 ghost use Rattle.pipe_lines.specs.Layouts.{IsLayout};
-ghost use Rattle.pipe_lines.specs.LegsMade.{HasLegsOf};
-ghost use Rattle.pipe_lines.specs.Lines.{IsLineOf, AreLinesOf};
+ghost use Rattle.pipe_lines.specs.Lines.{HasEnds, IsLineOf, AreLinesOf};
 
+use crate::branch_operators::create_operators;
+use crate::branch_sinks::create_sinks;
 use crate::layout::Layout;
-use crate::leg::{LegNodes, create_leg, sink_place};
+use crate::pipe_line::PipeLine;
+use crate::pipe_nodes::pipe_nodes;
 use pipe_branches::Branch;
 use pipe_check::CheckedPlan;
-use pipe_create::{get_source, operators_between};
-use pipe_driver::{Leg, PipeLine};
-use pipe_engine::Part;
+use pipe_create::get_source;
+use pipe_engine::PlanLine;
 use pipe_rows::KeyHasher;
-use pipe_source::PhysSource;
 use std::alloc::{AllocError, Global};
 
-/// The legs of a branch, one behind the other.
-fn create_legs<H: KeyHasher>(
-    alloc: Global,
-    branch: &Branch,
-    plan: &CheckedPlan,
-    layout: &Layout<H>,
-    workers: u32,
-) -> Result<Vec<Leg<Part<H>>>, AllocError>
-    requires branch { IsBranch plan.now branch.now }
-    requires layout { IsLayout plan.now layout.now }
-    requires workers { 1 ≤ workers }
-    ensures { IfOk result (λ legs. HasLegsOf plan.now layout.now.specs.items
-        layout.now.sinks.items layout.now.hasher layout.now.parts branch.now.source
-        branch.now.operators 0 branch.now.sinks legs.items) }
-{
-    let operators = branch.operators.as_slice();
-    let mut legs = Vec::new(alloc);
-    let mut start = branch.source;
-    let mut first = 0;
-    for sink in branch.sinks.as_slice() {
-        let offset = sink.offset as usize;
-        let leg = LegNodes {
-            start,
-            operators: operators_between(operators, first, offset),
-            sink: *sink,
-        };
-        legs.push(create_leg(alloc, plan, layout, workers, leg)?)?;
-        start = sink_place(plan, sink.at);
-        first = offset;
-    }
-    Ok(legs)
-}
-
-/// The pipeline of a branch (polars-pipe's `create_pipeline`): its source, and its legs with their operators and sinks.
+/// The pipeline of a branch (polars-pipe's `create_pipeline`): its source, operators and sinks. Its legs do what the
+/// branch says, and its text is the branch's.
 pub fn create_pipeline<H: KeyHasher>(
     alloc: Global,
     branch: &Branch,
     plan: &CheckedPlan,
     layout: &Layout<H>,
     workers: u32,
-) -> Result<PipeLine<PhysSource, Part<H>>, AllocError>
+) -> Result<PipeLine<H>, AllocError>
     requires branch { IsBranch plan.now branch.now }
+    requires ends { HasEnds branch.now }
     requires layout { IsLayout plan.now layout.now }
     requires workers { 1 ≤ workers }
-    ensures { IfOk result (IsLineOf plan.now layout.now.specs.items layout.now.sinks.items
-        layout.now.hasher layout.now.parts branch.now) }
+    ensures { IfOk result (λ line. IsLineOf plan.now layout.now.specs.items
+        layout.now.sinks.items layout.now.hasher layout.now.parts branch.now line.way) }
 {
+    let _ = plan.root();
     let source = get_source(alloc, plan, branch.source)?;
-    let legs = create_legs(alloc, branch, plan, layout, workers)?;
-    Ok(PipeLine {
-        start: branch.source,
-        source: Some(source),
-        legs,
-    })
+    let nodes = pipe_nodes(alloc, plan, branch)?;
+    let specs = layout.specs.as_slice();
+    let operators = create_operators(alloc, plan, specs, workers, branch.operators.as_slice())?;
+    let sinks = create_sinks(alloc, plan, layout, workers, branch.sinks.as_slice())?;
+    let line = PipeLine::new(alloc, source, operators, sinks, nodes, workers)?;
+    Ok(line)
 }
 
 /// The pipelines of a checked plan's branches, in order.
@@ -82,17 +53,32 @@ pub fn create_pipelines<H: KeyHasher>(
     plan: &CheckedPlan,
     layout: &Layout<H>,
     workers: u32,
-) -> Result<Vec<PipeLine<PhysSource, Part<H>>>, AllocError>
+) -> Result<Vec<PipeLine<H>>, AllocError>
     requires cut { branches.now ≡ branches_of_plan (plan_in plan.now) plan.now.root }
     requires layout { IsLayout plan.now layout.now }
     requires workers { 1 ≤ workers }
     ensures { IfOk result (λ lines. AreLinesOf plan.now layout.now.specs.items
-        layout.now.sinks.items layout.now.hasher layout.now.parts branches.now lines.items) }
+        layout.now.sinks.items layout.now.hasher layout.now.parts branches.now
+        (map way_in lines.items)) }
 {
     let _ = plan.root();
     let mut lines = Vec::new(alloc);
     for branch in branches {
         lines.push(create_pipeline(alloc, branch, plan, layout, workers)?)?;
+    }
+    Ok(lines)
+}
+
+/// The legs of pipelines, as they are run.
+pub(crate) fn lines_to_run<H: KeyHasher>(
+    alloc: Global,
+    pipelines: Vec<PipeLine<H>>,
+) -> Result<Vec<PlanLine<H>>, AllocError>
+    ensures { IfOk result (λ lines. lines.items ≡ map way_in pipelines.items) }
+{
+    let mut lines = Vec::new(alloc);
+    for pipeline in pipelines {
+        lines.push(pipeline.into_legs())?;
     }
     Ok(lines)
 }

@@ -15,7 +15,7 @@ ghost use Rattle.pipe_lines.specs.Made.{sorts_rows};
 ghost use Rattle.pipe_lines.specs.Standing.{IsRunFor, IsMemory, Stays, rows_scanned};
 
 use crate::layout::Layout;
-use crate::pipeline::create_pipelines;
+use crate::pipeline::{create_pipelines, lines_to_run};
 use pipe_branches::cut;
 use pipe_check::CheckedPlan;
 use pipe_create::{branch_counts, node_count};
@@ -47,6 +47,7 @@ pub fn create_run<H: KeyHasher>(
     let counts = branch_counts(alloc, plan, all)?;
     let layout = Layout::new(alloc, plan, workers, hasher)?;
     let pipelines = create_pipelines(alloc, all, plan, &layout, workers)?;
+    let lines = lines_to_run(alloc, pipelines)?;
     let Layout {
         specs,
         sinks,
@@ -62,7 +63,7 @@ pub fn create_run<H: KeyHasher>(
         counts: counts.sinks,
         probers: counts.probers,
     };
-    Ok((run, pipelines))
+    Ok((run, lines))
 }
 
 /// Runs the pipelines of a checked plan: the rows of its root, under its schema, in their order where it is a sort. No

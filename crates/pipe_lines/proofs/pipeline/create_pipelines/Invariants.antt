@@ -1,6 +1,8 @@
-use Rattle.std.proofs.Common.{drop}
+use Rattle.std.proofs.Common.{drop, map}
 use Rattle.std.specs.List.{AllByRecursion}
 use Rattle.pipe_create.specs.Laws.{IsBranch}
+use Rattle.pipe_lines.specs.Cuts.{way_in}
+use Rattle.pipe_lines.specs.Lines.{HasEnds}
 use Rattle.pipe_lines.proofs.LineFacts.{LinesBehind}
 use Rattle.pipe_lines.proofs.pipeline.create_pipelines.Given as goal
 
@@ -10,5 +12,6 @@ invariant-loop-branch g l =
     let layout = l.layout in
     record {
       are : AllByRecursion (IsBranch l.plan) rest;
-      behind : LinesBehind l.plan layout.specs.items layout.sinks.items layout.hasher layout.parts l.branches rest l.lines.items;
+      ends : AllByRecursion HasEnds rest;
+      behind : LinesBehind l.plan layout.specs.items layout.sinks.items layout.hasher layout.parts l.branches rest (map way_in l.lines.items);
     }

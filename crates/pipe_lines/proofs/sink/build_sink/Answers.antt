@@ -1,4 +1,4 @@
-use Rattle.std.proofs.Common.{◌≡◌, ℕ, [], false, refl, ap, sym, subst, ◌∙◌}
+use Rattle.std.proofs.Common.{◌≡◌, [], false, refl, ap, sym, subst, ◌∙◌}
 use Rattle.pipe_expr.specs.declared.join_words.JoinType.TheVariants as how
 use Rattle.pipe_table.specs.Spec.{built_schema}
 use Rattle.pipe_table.specs.declared.spec.JoinSpec.{JoinSpec}
