@@ -1,8 +1,10 @@
-//! Works out the journals of runs: what one worker takes and which sides are closed, in order; and, by several workers,
-//! that each took as often as it entered the gate.
+//! Works out the journals of runs: the pipelines of each plan and the order in which their sources are taken; what one
+//! worker takes and which sides are closed, in order; and, by several workers, that each took as often as it entered the
+//! gate.
 #![tactic(auto)]
 
 mod gates;
+mod pipelines;
 mod plans;
 mod runs;
 mod table;

@@ -6,18 +6,17 @@ use pipe_frame::{Gate, NeverStop};
 use pipe_plan::PipeError;
 use std::alloc::{AllocError, Global};
 use std::thread::Threads;
-use worked_builders::{WrittenNode, plan_of};
+use worked_builders::BuiltPlan;
 
 /// The answer of a plan by so many workers, in chunks of so many rows.
 pub(crate) fn ran<R: Threads + Sync, G: Gate + Sync>(
     rt: &R,
     alloc: Global,
-    nodes: &[WrittenNode],
+    plan: &BuiltPlan,
     workers: u32,
     chunk_rows: u32,
     gate: &G,
 ) -> Result<RunAnswer, PipeError> {
-    let plan = plan_of(alloc, nodes)?;
     let config = PipeConfig {
         workers,
         chunk_rows,

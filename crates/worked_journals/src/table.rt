@@ -1,22 +1,26 @@
 //! The cases, in the order in which they are told.
 
 use crate::gates::CountGate;
+use crate::pipelines::tell_pipelines;
 use crate::plans::{EIGHT, EIGHT_JOINED, PLANS};
 use crate::runs::{lines, ran, taken_by};
 use pipe_frame::OpenGate;
 use std::alloc::{AllocError, Global};
 use std::thread::Threads;
-use worked_builders::WrittenNode;
+use worked_builders::{BuiltPlan, WrittenNode, plan_of};
 
-/// What one worker does with a plan, in chunks of two rows.
+/// The pipelines of a plan, and what one worker does with it, in chunks of two rows.
 fn tell_journal<R: Threads + Sync>(
     rt: &R,
     alloc: Global,
     answers: &mut String,
-    nodes: &[WrittenNode],
+    plan: &BuiltPlan,
 ) -> Result<(), AllocError> {
-    match ran(rt, alloc, nodes, 1, 2, &OpenGate) {
-        Ok(answer) => answers.push_str(lines(alloc, &answer)?.as_str()),
+    match ran(rt, alloc, plan, 1, 2, &OpenGate) {
+        Ok(answer) => {
+            tell_pipelines(alloc, answers, &plan.arena, plan.root, &answer)?;
+            answers.push_str(lines(alloc, &answer)?.as_str())
+        }
         Err(refusal) => answers.push_str(format!(in alloc; "{refusal}\n")?.as_str()),
     }
 }
@@ -26,11 +30,11 @@ fn tell_entries<R: Threads + Sync>(
     rt: &R,
     alloc: Global,
     answers: &mut String,
-    nodes: &[WrittenNode],
+    plan: &BuiltPlan,
     workers: u32,
     gate: &CountGate,
 ) -> Result<(), AllocError> {
-    let told = match ran(rt, alloc, nodes, workers, 1, gate) {
+    let told = match ran(rt, alloc, plan, workers, 1, gate) {
         Ok(answer) => {
             let mut entries = 0_u64;
             let mut as_often = true;
@@ -48,7 +52,7 @@ fn tell_entries<R: Threads + Sync>(
     answers.push_str(told.as_str())
 }
 
-/// What a plan shows, its journal by one worker, and the entries of two workers and of three.
+/// What a plan shows, its pipelines, its journal by one worker, and the entries of two workers and of three.
 fn tell_plan<R: Threads + Sync>(
     rt: &R,
     alloc: Global,
@@ -58,9 +62,10 @@ fn tell_plan<R: Threads + Sync>(
 ) -> Result<(), AllocError> {
     answers.push_str(shows)?;
     answers.push_str("\n")?;
-    tell_journal(rt, alloc, answers, nodes)?;
-    tell_entries(rt, alloc, answers, nodes, 2, &CountGate::new(false))?;
-    tell_entries(rt, alloc, answers, nodes, 3, &CountGate::new(false))
+    let plan = plan_of(alloc, nodes)?;
+    tell_journal(rt, alloc, answers, &plan)?;
+    tell_entries(rt, alloc, answers, &plan, 2, &CountGate::new(false))?;
+    tell_entries(rt, alloc, answers, &plan, 3, &CountGate::new(false))
 }
 
 /// A worker that is held at its first chunk of eight, while the other takes the other seven.
@@ -73,8 +78,9 @@ fn tell_held<R: Threads + Sync>(
 ) -> Result<(), AllocError> {
     answers.push_str(shows)?;
     answers.push_str("\n")?;
+    let plan = plan_of(alloc, nodes)?;
     let gate = CountGate::new(true);
-    tell_entries(rt, alloc, answers, nodes, 2, &gate)?;
+    tell_entries(rt, alloc, answers, &plan, 2, &gate)?;
     let seven = gate.came(1) >= 7;
     answers.push_str(format!(in alloc; "worker 1 took seven: {seven}\n")?.as_str())
 }
