@@ -15,3 +15,5 @@ pub mod Plans
 pub mod ByNames
 pub mod Passing
 pub mod Optimized
+pub mod Alone
+pub mod Whole

@@ -1,6 +1,6 @@
 -- What a narrowed node sorts by, and its literals.
-use Rattle.std.proofs.Common.{◌≡◌, ℕ, zero, suc, ◌<◌, Bool, true, false, cond, List, [], ◌∷◌, length, refl, ap, sym, ◌∙◌, arith}
-use Rattle.std.specs.Prelude.{filter, ◌&&◌}
+use Rattle.std.proofs.Common.{◌≡◌, ℕ, suc, ◌<◌, Bool, true, false, cond, List, [], ◌∷◌, length, refl, ap, ◌∙◌, arith}
+use Rattle.std.specs.Prelude.{filter}
 use Rattle.std.specs.List.{list_all}
 use Rattle.pipe_frame.specs.Frame.{Table}
 use Rattle.pipe_frame.specs.declared.field.Field.{Field}
@@ -9,7 +9,7 @@ use Rattle.pipe_plan.specs.Node as node
 use Rattle.pipe_plan.specs.Under.{node_at}
 use Rattle.pipe_plan.specs.Schemas.{schema_of}
 use Rattle.pipe_opt.specs.Sorts.{sorting_of}
-use Rattle.pipe_opt.specs.Literals.{LiteralTest, literals_pass, named_literals_pass, node_literals_pass, AddsNoLiteral}
+use Rattle.pipe_opt.specs.Literals.{LiteralTest, named_literals_pass, node_literals_pass, AddsNoLiteral}
 use Rattle.pipe_opt.specs.Grown.{over}
 use Rattle.pipe_opt.proofs.Literals.{both-pass, first-passes, second-passes, node-passes}
 use Rattle.pipe_needs.specs.Needs.{Names, is_needed}

@@ -28,6 +28,7 @@ use Rattle.pipe_optimize.specs.Put.{HasPut, ArePassed, AreTree, needs_in, AreNar
 use Rattle.pipe_optimize.proofs.NameLists.{clash, never}
 use Rattle.pipe_optimize.proofs.ByNames.{output-by, narrow-by, need-by}
 use Rattle.pipe_optimize.proofs.Composed.{narrow-inputs}
+use Rattle.pipe_optimize.proofs.Steps.{all-taken}
 
 -- ---- lists by numbers
 
@@ -58,20 +59,13 @@ set-apart (k ∷ lists) (suc i) (suc n) l h = set-apart lists i n l (λ same. h 
 pub set-other : (lists : List (List (List ℕ))) (i n : ℕ) (l : List (List ℕ)) → eqb i n ≡ false → names_at (set lists i l) n ≡ names_at lists n
 set-other lists i n l e = set-apart lists i n l (λ same. clash (eqb i n) ((Decides-eqb i n).1 same) e)
 
-pub got-names : (lists : List (List (List ℕ))) (n : ℕ) (l : List (List ℕ)) → n < length lists → l ≡ get_or lists n l → l ≡ names_at lists n
-got-names [] n l lt is = absurd (omega arith)
-got-names (k ∷ lists) zero l lt is = is
-got-names (k ∷ lists) (suc n) l lt is = got-names lists n l (omega arith) is
-
-pub ruleset set_rules = (set-here, set-other, got-names)
-
 -- ---- names, upwards
 
 module _ (frames : List Table) (nodes : List Node) (ordered : AreOrdered nodes) where
   abbrev P : Plan
   P = over frames nodes
 
-  made-at : (n : ℕ) → n < length nodes → schema_of P n ≡ node_schema frames (schema_of P) (node_at nodes n)
+  pub made-at : (n : ℕ) → n < length nodes → schema_of P n ≡ node_schema frames (schema_of P) (node_at nodes n)
   made-at n lt =
       let x = node_at nodes n in
       let same : Agree (schemas_to P n) (schema_of P) (inputs_of x) = agree-members (schemas_to P n) (schema_of P) (inputs_of x) (λ i m. schema-below P n i (ordered n i lt m) lt) in
@@ -345,6 +339,45 @@ narrowed-all frames irs needs n made lists h le end =
       each = λ k less. h.each k (omega arith);
     }
 
+taken-at : (yielded : List IR) (x : IR) (rest irs : List IR) → yielded ++ x ∷ rest ≡ irs → x ≡ get_or irs (length yielded) x
+taken-at [] x rest irs is = ap (λ l. get_or l 0 x) is
+taken-at (y ∷ yielded) x rest irs is = taken-at yielded x rest (yielded ++ x ∷ rest) refl ∙ ap (λ l. get_or l (suc (length yielded)) x) is
+
+taken-long : (yielded : List IR) (x : IR) (rest irs : List IR) → yielded ++ x ∷ rest ≡ irs → length yielded < length irs
+taken-long yielded x rest irs is =
+    let a = length-append yielded (x ∷ rest) in
+    let b : length (yielded ++ x ∷ rest) ≡ length irs = ap length is in
+    let s : length (x ∷ rest) ≡ suc (length rest) = refl in
+    omega arith
+
+-- one node more, where nodes are taken one after another
+pub narrowed-taken : (frames : List Table) (irs : List IR) → AreOrdered (map node_of irs) → (needs : List (List (List ℕ))) (yielded before rest : List IR) (made more : List IR) (lists slice other longer : List (List (List ℕ))) (n : ℕ) (x y : IR) (needed l : List (List ℕ)) → yielded ++ before ≡ irs → before ≡ x ∷ rest → n ≡ length made → AreNarrowedTo frames (map node_of irs) (needs_in needs) (length yielded) (map node_of made) lists → needed ≡ names_at needs n → slice ≡ lists → node_of y ≡ narrow_by frames (names_at slice) needed (node_of x) → other ≡ lists → l ≡ output_by frames (names_at other) (node_of y) → more ≡ made ++ y ∷ [] → longer ≡ lists ++ l ∷ [] → AreNarrowedTo frames (map node_of irs) (needs_in needs) (length (yielded ++ x ∷ [])) (map node_of more) longer
+narrowed-taken frames irs ordered needs yielded before rest made more lists slice other longer n x y needed l whole step is so_far own same made_is again names_is pushed_made pushed_lists =
+    let all : yielded ++ x ∷ rest ≡ irs = ap (λ q. yielded ++ q) (sym step) ∙ whole in
+    let many = map-long node_of made in
+    let long = so_far.long in
+    let here : n ≡ length yielded = omega arith in
+    let next = narrowed-step frames irs ordered needs (length yielded) made more lists slice other longer x y needed l (taken-long yielded x rest irs all) (taken-at yielded x rest irs all) so_far (own ∙ ap (names_at needs) here) same made_is again names_is pushed_made pushed_lists in
+    let sum = length-append yielded (x ∷ []) in
+    let one : length (x ∷ []) ≡ 1 = refl in
+    let count : length yielded + 1 ≡ length (yielded ++ x ∷ []) = omega arith in
+    subst (λ q. AreNarrowedTo frames (map node_of irs) (needs_in needs) q (map node_of more) longer) count next
+
+-- how many were taken
+pub taken-few : (frames : List Table) (irs : List IR) (needs : List (List (List ℕ))) (yielded rest made : List IR) (lists : List (List (List ℕ))) → yielded ++ rest ≡ irs → AreNarrowedTo frames (map node_of irs) (needs_in needs) (length yielded) (map node_of made) lists → length made ≤ length irs
+taken-few frames irs needs yielded rest made lists whole so_far =
+    let many = map-long node_of made in
+    let long = so_far.long in
+    let sum = length-append yielded rest in
+    let all : length (yielded ++ rest) ≡ length irs = ap length whole in
+    omega arith
+
+pub narrowed-end : (frames : List Table) (irs : List IR) (needs : List (List (List ℕ))) (yielded rest made : List IR) (lists : List (List (List ℕ))) → yielded ++ rest ≡ irs → rest ≡ [] → AreNarrowedTo frames (map node_of irs) (needs_in needs) (length yielded) (map node_of made) lists → AreNarrowed frames (map node_of irs) (map node_of made) (needs_in needs)
+narrowed-end frames irs needs yielded rest made lists whole none so_far =
+    let all = all-taken yielded rest irs whole none in
+    let long : length yielded ≡ length irs = ap length all in
+    narrowed-all frames irs needs (length yielded) made lists so_far (omega arith) (omega arith)
+
 pub trimmed-all : (frames : List Table) (irs made : List IR) (root : ℕ) (lists needs : List (List (List ℕ))) → AreTree (map node_of irs) root → root < length irs → HasNames frames (map node_of irs) lists → ArePassed lists (map node_of irs) root 0 needs → AreNarrowed frames (map node_of irs) (map node_of made) (needs_in needs) → IsTrimOf frames (map node_of irs) (map node_of made) root
 trimmed-all frames irs made root lists needs tree rooted names passed narrowed =
     let nodes = map node_of irs in
@@ -353,16 +386,3 @@ trimmed-all frames irs made root lists needs tree rooted names passed narrowed =
       are_needs = passed-needs frames nodes root lists needs tree (omega arith) names passed (λ m under. under-there nodes m (length nodes) root (omega arith) (omega arith) under);
       narrowed = narrowed;
     }
-
-pub first-step : (lists needs new : List (List (List ℕ))) (root n : ℕ) (l : List (List ℕ)) → length needs ≡ n → (root < n → names_at needs root ≡ names_at lists root) → (n ≡ root → l ≡ names_at lists root) → new ≡ needs ++ l ∷ [] → root < n + 1 → names_at new root ≡ names_at lists root
-first-step lists needs new root n l long before here pushed lt =
-    let split : (root < n) ⊎ (n ≤ root) → names_at new root ≡ names_at lists root = elim [
-      | inl a ↦ ap (λ q. names_at q root) pushed ∙ names-before needs l root (omega arith) ∙ before a
-      | inr b ↦ (
-          let same : n ≡ root = omega arith in
-          let at : length needs ≡ root = omega arith in
-          ap (λ q. names_at q root) pushed ∙ ap (names_at (needs ++ l ∷ [])) (sym at) ∙ names-new needs l ∙ here same)
-    ] in split (cases_lt root n)
-
-pub first-long : (needs new : List (List (List ℕ))) (n : ℕ) (l : List (List ℕ)) → length needs ≡ n → new ≡ needs ++ l ∷ [] → length new ≡ n + 1
-first-long needs new n l long pushed = (let a = one-more needs l in let b : length new ≡ length (needs ++ l ∷ []) = ap length pushed in omega arith)

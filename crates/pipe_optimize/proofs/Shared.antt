@@ -7,18 +7,19 @@ use Rattle.std.specs.Str.{bytes_eq}
 use Rattle.pipe_frame.specs.Schema.{has_name}
 use Rattle.pipe_expr.specs.declared.expr.Expr.{Expr}
 use Rattle.pipe_expr.specs.Formula.{NamedFormula, formula_of}
-use Rattle.pipe_expr.specs.Projections.{expr_name}
+use Rattle.pipe_expr.specs.Projections.{expr_name, renamed}
+use Rattle.pipe_expr.specs.declared.join_words.RenamePair.{RenamePair}
 use Rattle.pipe_expr.specs.Joins.{makes_pairs}
 use Rattle.pipe_plan.specs.Node.{node_of}
 use Rattle.pipe_plan.specs.declared.ir.IR.{IR}
 use Rattle.pipe_plan.specs.declared.ir.IR.TheVariants as ir
 use Rattle.pipe_plan.specs.declared.ir.JoinOptions.{JoinOptions}
 use Rattle.pipe_typing.proofs.Lists.{all-filter}
-use Rattle.pipe_rules.proofs.Filters.{all-of, filter-same}
+use Rattle.pipe_rules.proofs.Filters.{all-of, filter-same, filter-constant}
 use Rattle.pipe_rules.proofs.Under.{own-name}
 use Rattle.pipe_needs.specs.Needs.{needed_exprs, columns_read, is_needed}
 use Rattle.pipe_needs.proofs.Kept.{has-kept, kept-has, all-in, map-all, all-true}
-use Rattle.pipe_optimize.specs.Sides.{is_fresh, fresh_names, is_either, keeps_name, suffixed_by, right_needed, kept_right_of, kept_left_of, kept_by}
+use Rattle.pipe_optimize.specs.Sides.{is_fresh, fresh_names, is_either, is_needed_anew, has_existing, keeps_name, suffixed_by, right_needed, kept_right_of, kept_left_of, kept_by}
 use Rattle.pipe_optimize.proofs.NameLists.{clash, never, or-left, or-right, has-map}
 use Rattle.pipe_optimize.proofs.Steps.{take-next}
 
@@ -101,7 +102,9 @@ stands [] i x name lt is e = absurd (omega arith)
 stands (n ∷ names) zero x name lt is e = or-left (bytes_eq n name) (has_name names name) (ap (λ q. bytes_eq q name) (sym is) ∙ e)
 stands (n ∷ names) (suc i) x name lt is e = or-right (bytes_eq n name) (has_name names name) (stands names i x name (omega arith) is e)
 
-all-push : (P : List ℕ → Type 0) (xs : List (List ℕ)) (x : List ℕ) → AllByRecursion P xs → P x → AllByRecursion P (xs ++ x ∷ [])
+pub ruleset place_rules = stands
+
+all-push : {A : Type 0} (P : A → Type 0) (xs : List A) (x : A) → AllByRecursion P xs → P x → AllByRecursion P (xs ++ x ∷ [])
 all-push P [] x h p = (p, tt)
 all-push P (y ∷ xs) x h p = (h.0, all-push P xs x h.1 p)
 
@@ -118,6 +121,33 @@ all-begun needed read names kept begins begun all is =
     (all-of (λ n. has_name needed n ≡ true) (λ n. is_either needed read n ≡ true) (λ n h. or-left (has_name needed n) (has_name read n) h) names (all begun)))
 
 pub ruleset begun_rules = all-begun
+
+-- ---- names that renamings give
+
+-- one column more that gets a name among others
+pub next-given : (others : List (List ℕ)) (pairs : List RenamePair) (names : List (List ℕ)) (i : ℕ) (x name : List ℕ) → i < length others → x ≡ get_or others i x → i < length names → name ≡ get_or names i name → bytes_eq x (renamed pairs name) ≡ true → AllByRecursion (λ n. is_needed_anew others pairs n ≡ true) (take i names) → AllByRecursion (λ n. is_needed_anew others pairs n ≡ true) (take (i + 1) names)
+next-given others pairs names i x name there is lt at same before =
+    subst (AllByRecursion (λ n. is_needed_anew others pairs n ≡ true)) (sym (take-next names i name lt at))
+    (all-push (λ n. is_needed_anew others pairs n ≡ true) (take i names) name before (stands others i x (renamed pairs name) there is same))
+
+-- all of them are kept
+pub all-given : (needed : List (List ℕ)) (pairs : List RenamePair) (names kept : List (List ℕ)) (begins : Bool) → begins ≡ true → (begins ≡ true → AllByRecursion (λ n. is_needed_anew needed pairs n ≡ true) names) → kept ≡ names → kept ≡ filter (is_needed_anew needed pairs) names
+all-given needed pairs names kept begins begun all is = is ∙ sym (all-true (is_needed_anew needed pairs) names (all begun))
+
+pub ruleset given_rules = all-given
+
+-- ---- renamed columns
+
+-- one renaming more whose column is there
+pub next-existing : (names : List (List ℕ)) (pairs : List RenamePair) (i : ℕ) (pair : RenamePair) → i < length pairs → pair ≡ get_or pairs i pair → has_name names pair.existing ≡ true → AllByRecursion (λ p. has_existing names p ≡ true) (take i pairs) → AllByRecursion (λ p. has_existing names p ≡ true) (take (i + 1) pairs)
+next-existing names pairs i pair lt at there before =
+    subst (AllByRecursion (λ p. has_existing names p ≡ true)) (sym (take-next pairs i pair lt at))
+    (all-push (λ p. has_existing names p ≡ true) (take i pairs) pair before there)
+
+-- all of them are kept
+pub all-existing : (names : List (List ℕ)) (pairs slice : List RenamePair) (has : Bool) → has ≡ true → (has ≡ true → AllByRecursion (λ p. has_existing names p ≡ true) slice) → slice ≡ pairs → pairs ≡ filter (has_existing names) pairs
+all-existing names pairs slice has true_ all is =
+    sym (filter-constant (has_existing names) true pairs (subst (AllByRecursion (λ p. has_existing names p ≡ true)) is (all true_)))
 
 -- ---- what a join needs of its left input
 

@@ -40,6 +40,25 @@ some-next g p f xs i x old new so_far lt is more =
     ∙ ap (λ l. flat_map f (filter p l)) (sym (map-push g (take i xs) x))
     ∙ ap (λ l. flat_map f (filter p (map g l))) (sym (take-next xs i x lt is))
 
+-- what was taken one after another, and what is left
+pub rest-next : {A : Type 0} (yielded rest before all : List A) (x : A) → yielded ++ before ≡ all → before ≡ x ∷ rest → (yielded ++ x ∷ []) ++ rest ≡ all
+rest-next yielded rest before all x whole step = append_assoc yielded (x ∷ []) rest ∙ ap (λ l. yielded ++ l) (sym step) ∙ whole
+
+pub all-taken : {A : Type 0} (yielded rest all : List A) → yielded ++ rest ≡ all → rest ≡ [] → yielded ≡ all
+all-taken yielded rest all whole none = sym (append-nil yielded) ∙ ap (λ l. yielded ++ l) (sym none) ∙ whole
+
+-- one more of those that pass, taken one after another
+pub taken-next : {A B : Type 0} (g : A → B) (p : B → Bool) (yielded : List A) (x : A) (old new : List B) → old ≡ filter p (map g yielded) → new ≡ old ++ filter p (g x ∷ []) → new ≡ filter p (map g (yielded ++ x ∷ []))
+taken-next g p yielded x old new so_far more =
+    more
+    ∙ ap (λ l. l ++ filter p (g x ∷ [])) so_far
+    ∙ sym (filter-append p (map g yielded) (g x ∷ []))
+    ∙ ap (filter p) (sym (map-push g yielded x))
+
+pub filtered-next : {A : Type 0} (p : A → Bool) (yielded : List A) (x : A) (old new : List A) → old ≡ filter p yielded → new ≡ old ++ filter p (x ∷ []) → new ≡ filter p (yielded ++ x ∷ [])
+filtered-next p yielded x old new so_far more =
+    more ∙ ap (λ l. l ++ filter p (x ∷ [])) so_far ∙ sym (filter-append p yielded (x ∷ []))
+
 -- one more of those that pass
 pub kept-next : {A B : Type 0} (g : A → B) (p : B → Bool) (xs : List A) (i : ℕ) (x : A) (old new : List B) → old ≡ filter p (map g (take i xs)) → i < length xs → x ≡ get_or xs i x → new ≡ old ++ filter p (g x ∷ []) → new ≡ filter p (map g (take (i + 1) xs))
 kept-next g p xs i x old new so_far lt is more =
@@ -48,3 +67,7 @@ kept-next g p xs i x old new so_far lt is more =
     ∙ sym (filter-append p (map g (take i xs)) (g x ∷ []))
     ∙ ap (filter p) (sym (map-push g (take i xs) x))
     ∙ ap (λ l. filter p (map g l)) (sym (take-next xs i x lt is))
+
+pub no-items : {A : Type 0} (xs : List A) → length xs ≡ 0 → xs ≡ []
+no-items [] h = refl
+no-items (x ∷ xs) h = absurd (omega arith)

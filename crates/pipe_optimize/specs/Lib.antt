@@ -7,4 +7,6 @@ pub mod Lists
 -- outputs and needs by names
 pub mod Sides
 pub mod Put
+-- needs of all that a node gives
+pub mod Whole
 pub mod Full

@@ -1,6 +1,7 @@
 //! Plans rewritten: filters stand as low as they can, and columns that nobody needs are left out.
 #![tactic(auto)]
 
+mod all_needed;
 mod full;
 mod names;
 mod narrowing;
@@ -9,6 +10,7 @@ mod outputs;
 mod passes;
 mod reads;
 mod trimming;
+mod unrenamed;
 
 pub use passes::optimize;
 pub use pipe_opt::Rewritten;

@@ -8,14 +8,21 @@ use pipe_fields::NameIndex;
 use pipe_frame::{Field, List, Text, TryClone};
 use std::alloc::{AllocError, Global};
 
+/// The names in a place, none where there is none.
+pub(crate) fn names_in(lists: &[List<Text>], place: usize) -> &[Text]
+    ensures { result.now ≡ kept_names_at lists.now place }
+{
+    match lists.get(place) {
+        Some(names) => names.as_slice(),
+        None => &[],
+    }
+}
+
 /// The names that are kept for a node, none where none are kept.
 pub(crate) fn names_at(lists: &[List<Text>], n: u32) -> &[Text]
     ensures { result.now ≡ kept_names_at lists.now n }
 {
-    match lists.get(n as usize) {
-        Some(names) => names.as_slice(),
-        None => &[],
-    }
+    names_in(lists, n as usize)
 }
 
 /// Whether a name stands among some names.

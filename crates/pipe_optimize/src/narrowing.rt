@@ -1,6 +1,7 @@
 //! Nodes that make the needed columns alone.
 
-ghost use Rattle.std.specs.Prelude.{◌≡◌, ◌++◌, ◌∷◌, [], map, filter, IfOk, OnOk};
+ghost use Rattle.std.specs.Prelude.{◌≡◌, ◌<◌, ◌++◌, ◌∷◌, [], true, map, filter, length, IfOk, OnOk};
+ghost use Rattle.std.specs.List.{AllByRecursion};
 ghost use Rattle.pipe_frame.specs.Schema.{has_name};
 ghost use Rattle.pipe_expr.specs.Formula.{named_formula_of};
 ghost use Rattle.pipe_plan.specs.Node.{node_of};
@@ -12,146 +13,206 @@ use crate::names::{has, kept_among, names_at};
 use crate::outputs::scanned_names;
 use pipe_expr::{FunctionIR, NamedExpr, RenamePair};
 use pipe_fields::NameIndex;
-use pipe_frame::{DataFrame, List, Text, TryClone};
+use pipe_frame::{DataFrame, List, Text};
 use pipe_plan::IR;
 use std::alloc::{AllocError, Global};
 
-/// Adds a copy of an expression, where its name is needed.
+/// Adds an expression, where its name is needed.
 fn push_needed(
     kept: &mut List<NamedExpr>,
     needed: &NameIndex<Text>,
-    expr: &NamedExpr,
+    expr: NamedExpr,
 ) -> Result<(), AllocError>
     ensures { OnOk result (map named_formula_of kept.new ≡ map named_formula_of kept.old
-        ++ needed_exprs (has_name needed.now) (named_formula_of expr.now ∷ [])) }
+        ++ needed_exprs (has_name needed.now) (named_formula_of expr ∷ [])) }
 {
     if has(needed, &expr.name) {
-        kept.push(expr.try_clone()?)?;
+        kept.push(expr)?;
     }
     Ok(())
 }
 
-/// Copies of the expressions under needed names.
+/// The expressions under needed names.
 fn kept_exprs(
     alloc: Global,
     needed: &NameIndex<Text>,
-    exprs: &[NamedExpr],
+    exprs: List<NamedExpr>,
 ) -> Result<List<NamedExpr>, AllocError>
     ensures { IfOk result (λ kept. map named_formula_of kept
-        ≡ needed_exprs (has_name needed.now) (map named_formula_of exprs.now)) }
+        ≡ needed_exprs (has_name needed.now) (map named_formula_of exprs)) }
 {
     let mut kept = List::new(alloc);
-    for expr in exprs {
+    for expr in exprs.into_vec() {
         push_needed(&mut kept, needed, expr)?;
     }
     Ok(kept)
 }
 
-/// Copies of the expressions under needed names, which are looked up.
+/// The expressions under needed names, which are looked up.
 fn needed_only(
     alloc: Global,
     needed: &[Text],
-    exprs: &[NamedExpr],
+    exprs: List<NamedExpr>,
 ) -> Result<List<NamedExpr>, AllocError>
     ensures { IfOk result (λ kept. map named_formula_of kept
-        ≡ needed_exprs (has_name needed.now) (map named_formula_of exprs.now)) }
+        ≡ needed_exprs (has_name needed.now) (map named_formula_of exprs)) }
 {
     let needed = NameIndex::of(alloc, needed)?;
     kept_exprs(alloc, &needed, exprs)
 }
 
-/// Copies of the renamings of columns that are there.
+/// Where a name stands among some from a place on, else their number.
+#[tactic(auto, using(crate::proofs::Shared::place_rules))]
+fn place_from(names: &[Text], start: usize, name: &Text) -> usize
+    ensures { result < length names.now → has_name names.now name.now ≡ true }
+{
+    for place in start..names.len() {
+        if names[place].is_same(name) {
+            return place;
+        }
+    }
+    names.len()
+}
+
+/// Whether some names have each renamed column, in the order of the renamings.
+fn has_renamed(names: &[Text], pairs: &[RenamePair]) -> bool
+    ensures { result ≡ true
+        → AllByRecursion (λ pair. has_existing names.now pair ≡ true) pairs.now }
+{
+    let mut next = 0;
+    for pair in pairs {
+        let place = place_from(names, next, &pair.existing);
+        if place >= names.len() {
+            return false;
+        }
+        next = place + 1;
+    }
+    true
+}
+
+/// Adds a renaming, where its column is there.
+fn push_existing(
+    kept: &mut List<RenamePair>,
+    names: &NameIndex<Text>,
+    pair: RenamePair,
+) -> Result<(), AllocError>
+    ensures { OnOk result
+        (kept.new ≡ kept.old ++ filter (has_existing names.now) (pair ∷ [])) }
+{
+    if has(names, &pair.existing) {
+        kept.push(pair)?;
+    }
+    Ok(())
+}
+
+/// The renamings of columns that are there.
 fn kept_pairs(
     alloc: Global,
     names: &NameIndex<Text>,
-    pairs: &[RenamePair],
+    pairs: List<RenamePair>,
 ) -> Result<List<RenamePair>, AllocError>
-    ensures { IfOk result (λ kept. kept ≡ filter (has_existing names.now) pairs.now) }
+    ensures { IfOk result (λ kept. kept ≡ filter (has_existing names.now) pairs) }
 {
     let mut kept = List::new(alloc);
-    for pair in pairs {
-        if has(names, &pair.existing) {
-            kept.push(pair.try_clone()?)?;
-        }
+    for pair in pairs.into_vec() {
+        push_existing(&mut kept, names, pair)?;
     }
     Ok(kept)
+}
+
+/// The renamings of columns that are there. Where all are, which shows at once, no name is looked up.
+fn narrow_pairs(
+    alloc: Global,
+    names: &[Text],
+    pairs: List<RenamePair>,
+) -> Result<List<RenamePair>, AllocError>
+    ensures { IfOk result (λ kept. kept ≡ filter (has_existing names.now) pairs) }
+{
+    if has_renamed(names, pairs.as_slice()) {
+        Ok(pairs)
+    } else {
+        let names = NameIndex::of(alloc, names)?;
+        let kept = kept_pairs(alloc, &names, pairs)?;
+        Ok(kept)
+    }
 }
 
 /// A function over an input with these names.
 fn narrow_function(
     alloc: Global,
     names: &[Text],
-    function: &FunctionIR,
+    function: FunctionIR,
 ) -> Result<FunctionIR, AllocError>
-    ensures { IfOk result (λ made. made ≡ narrow_function_by names.now function.now) }
+    ensures { IfOk result (λ made. made ≡ narrow_function_by names.now function) }
 {
     match function {
         FunctionIR::Unpivot {
-            on: _,
-            index: _,
-            variable: _,
-            value: _,
-        } => function.try_clone(),
-        FunctionIR::Rename { pairs } => {
-            let names = NameIndex::of(alloc, names)?;
-            Ok(FunctionIR::Rename {
-                pairs: kept_pairs(alloc, &names, pairs.as_slice())?,
-            })
-        }
+            on,
+            index,
+            variable,
+            value,
+        } => Ok(FunctionIR::Unpivot {
+            on,
+            index,
+            variable,
+            value,
+        }),
+        FunctionIR::Rename { pairs } => Ok(FunctionIR::Rename {
+            pairs: narrow_pairs(alloc, names, pairs)?,
+        }),
     }
 }
 
-/// A copy of a node that makes the needed columns alone, over the names of the nodes below it.
+/// A node that makes the needed columns alone, over the names of the nodes below it.
 pub(crate) fn narrow(
     alloc: Global,
     frames: &[DataFrame],
     lists: &[List<Text>],
     needed: &[Text],
-    node: &IR,
+    node: IR,
 ) -> Result<IR, AllocError>
     ensures { IfOk result (λ made. node_of made
-        ≡ narrow_by frames.now (kept_names_at lists.now) needed.now (node_of node.now)) }
+        ≡ narrow_by frames.now (kept_names_at lists.now) needed.now (node_of node)) }
 {
     match node {
         IR::DataFrameScan { frame, columns } => {
-            let names = scanned_names(alloc, frames, *frame, columns)?;
+            let names = scanned_names(alloc, frames, frame, &columns)?;
             Ok(IR::DataFrameScan {
-                frame: *frame,
+                frame,
                 columns: Some(kept_among(alloc, names.as_slice(), needed)?),
             })
         }
         IR::SimpleProjection { input, columns } => Ok(IR::SimpleProjection {
-            input: *input,
+            input,
             columns: kept_among(alloc, columns.as_slice(), needed)?,
         }),
         IR::Select { input, exprs } => Ok(IR::Select {
-            input: *input,
-            exprs: needed_only(alloc, needed, exprs.as_slice())?,
+            input,
+            exprs: needed_only(alloc, needed, exprs)?,
         }),
         IR::HStack { input, exprs } => Ok(IR::HStack {
-            input: *input,
-            exprs: needed_only(alloc, needed, exprs.as_slice())?,
+            input,
+            exprs: needed_only(alloc, needed, exprs)?,
         }),
         IR::MapFunction { input, function } => Ok(IR::MapFunction {
-            input: *input,
-            function: narrow_function(alloc, names_at(lists, *input), function)?,
+            input,
+            function: narrow_function(alloc, names_at(lists, input), function)?,
         }),
-        IR::Filter {
-            input: _,
-            predicate: _,
-        }
-        | IR::Union { inputs: _ }
-        | IR::Join {
-            left: _,
-            right: _,
-            left_on: _,
-            right_on: _,
-            options: _,
-        }
-        | IR::Sort {
-            input: _,
-            by: _,
-            options: _,
-        } => node.try_clone(alloc),
+        IR::Filter { input, predicate } => Ok(IR::Filter { input, predicate }),
+        IR::Union { inputs } => Ok(IR::Union { inputs }),
+        IR::Join {
+            left,
+            right,
+            left_on,
+            right_on,
+            options,
+        } => Ok(IR::Join {
+            left,
+            right,
+            left_on,
+            right_on,
+            options,
+        }),
+        IR::Sort { input, by, options } => Ok(IR::Sort { input, by, options }),
     }
 }

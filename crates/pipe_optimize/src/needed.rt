@@ -3,7 +3,9 @@
 ghost use Rattle.std.specs.Prelude.{◌≡◌, true, map, filter, IfOk};
 ghost use Rattle.std.specs.List.{AllByRecursion};
 ghost use Rattle.pipe_frame.specs.Schema.{has_name};
+ghost use Rattle.std.specs.Str.{bytes_eq};
 ghost use Rattle.pipe_expr.specs.Formula.{formula_of};
+ghost use Rattle.pipe_expr.specs.Projections.{renamed};
 ghost use Rattle.pipe_plan.specs.Node.{node_of};
 ghost use Rattle.pipe_needs.specs.Needs.{keys_read as read_by_keys};
 ghost use Rattle.pipe_optimize.specs.Lists.{names_at as kept_names_at, or_head};
@@ -102,8 +104,35 @@ fn is_needed_as(needed: &NameIndex<Text>, pairs: &NameIndex<RenamePair>, name: &
     }
 }
 
-/// Those of some names that get a needed one.
-fn kept_renamed(
+/// Whether a column gets this name.
+#[tactic(auto, using(crate::proofs::NameLists::name_rules))]
+fn is_given(pairs: &NameIndex<RenamePair>, name: &Text, given: &Text) -> bool
+    ensures { result ≡ bytes_eq given.now (renamed pairs.now name.now) }
+{
+    match pairs.first(name) {
+        Some(pair) => given.is_same(&pair.new_name),
+        None => given.is_same(name),
+    }
+}
+
+/// Whether the names that some columns get stand at the start of others, and so among them.
+fn begins_with_given(others: &[Text], pairs: &NameIndex<RenamePair>, names: &[Text]) -> bool
+    ensures { result ≡ true
+        → AllByRecursion (λ name. is_needed_anew others.now pairs.now name ≡ true) names.now }
+{
+    if others.len() < names.len() {
+        return false;
+    }
+    for i in 0..names.len() {
+        if !is_given(pairs, &names[i], &others[i]) {
+            return false;
+        }
+    }
+    true
+}
+
+/// Those of some names that get a needed one, by indices.
+fn kept_given(
     alloc: Global,
     names: &[Text],
     needed: &NameIndex<Text>,
@@ -119,6 +148,40 @@ fn kept_renamed(
         }
     }
     Ok(kept)
+}
+
+/// Those of some names that get a needed one, which is looked up.
+fn kept_of_given(
+    alloc: Global,
+    names: &[Text],
+    needed: &[Text],
+    pairs: &NameIndex<RenamePair>,
+) -> Result<List<Text>, AllocError>
+    ensures { IfOk result (λ kept.
+        kept ≡ filter (is_needed_anew needed.now pairs.now) names.now) }
+{
+    let needed = NameIndex::of(alloc, needed)?;
+    kept_given(alloc, names, &needed, pairs)
+}
+
+/// Those of some names that get a needed one. Where all do, which shows at once, no needed name is looked up.
+#[tactic(auto, using(crate::proofs::Shared::given_rules))]
+fn kept_renamed(
+    alloc: Global,
+    names: &[Text],
+    needed: &[Text],
+    pairs: &NameIndex<RenamePair>,
+) -> Result<List<Text>, AllocError>
+    ensures { IfOk result (λ kept.
+        kept ≡ filter (is_needed_anew needed.now pairs.now) names.now) }
+{
+    if begins_with_given(needed, pairs, names) {
+        let kept = copied(alloc, names)?;
+        Ok(kept)
+    } else {
+        let kept = kept_of_given(alloc, names, needed, pairs)?;
+        Ok(kept)
+    }
 }
 
 /// Whether a right column is needed: shown under a needed name, or read by a key.
@@ -280,9 +343,8 @@ fn kept_function(
             value: _,
         } => kept_either(alloc, names, on.as_slice(), index.as_slice()),
         FunctionIR::Rename { pairs } => {
-            let needed = NameIndex::of(alloc, needed)?;
             let pairs = NameIndex::of(alloc, pairs.as_slice())?;
-            kept_renamed(alloc, names, &needed, &pairs)
+            kept_renamed(alloc, names, needed, &pairs)
         }
     }
 }

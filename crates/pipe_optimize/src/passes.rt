@@ -64,9 +64,7 @@ pub fn optimize(alloc: Global, plan: &CheckedPlan) -> Result<Rewritten, PipeErro
     let frames = plan.arena().frames.as_slice();
     frames_fit(frames);
     frames_full(frames);
-    let nodes = trim(alloc, frames, pushed.nodes.as_slice(), pushed.root)?;
-    Ok(Rewritten {
-        nodes,
-        root: pushed.root,
-    })
+    let Rewritten { nodes, root } = pushed;
+    let nodes = trim(alloc, frames, nodes, root)?;
+    Ok(Rewritten { nodes, root })
 }

@@ -1,6 +1,6 @@
 //! Columns that nobody needs, left out of a plan.
 
-ghost use Rattle.std.specs.Prelude.{◌≡◌, ◌<◌, ◌≤◌, ◌==◌, ℕ, true, false, map, length, IfOk, OnOk};
+ghost use Rattle.std.specs.Prelude.{◌≡◌, ◌<◌, ◌≤◌, ℕ, true, map, length, IfOk, OnOk};
 ghost use Rattle.pipe_plan.specs.Node.{node_of};
 ghost use Rattle.pipe_plan.specs.Under.{inputs_of};
 ghost use Rattle.pipe_plan.specs.Faults.{most_nodes};
@@ -9,16 +9,17 @@ ghost use Rattle.pipe_optimize.specs.Lists.{names_at as kept_names_at, AreOrdere
 ghost use Rattle.pipe_optimize.specs.Sides.{need_by};
 ghost use Rattle.pipe_optimize.specs.Put.{HasPut, ArePassed, AreTree, needs_in, IsTrimOf};
 ghost use Rattle.pipe_optimize.specs.Narrow.{AreNarrowed};
+ghost use Rattle.pipe_optimize.specs.Whole.{need_or, needs_over, AreAllOf, AreOutputs};
 
-use crate::names::{copied, names_at};
+use crate::all_needed::{need_of_input, needed_at, put_need, take_need, whole_needs};
+use crate::names::names_in;
 use crate::narrowing::narrow;
-use crate::needed::input_need;
 use crate::outputs::output_names;
+use crate::unrenamed::{has_renaming, narrow_unrenamed};
 use pipe_frame::{DataFrame, List, Text};
 use pipe_opt::inputs;
 use pipe_plan::IR;
 use std::alloc::{AllocError, Global};
-use std::mem::replace;
 
 /// The names of the outputs of some nodes.
 fn node_names(
@@ -37,83 +38,52 @@ fn node_names(
     Ok(lists)
 }
 
-/// Puts what a node needs of its inputs.
+/// Puts what a node needs of its inputs, where some names of its own are needed, which may be all.
 fn put_needs(
     alloc: Global,
     lists: &[List<Text>],
     node: &IR,
+    whole: bool,
     needed: &[Text],
-    needs: &mut [List<Text>],
+    needs: &mut [Option<List<Text>>],
 ) -> Result<(), AllocError>
-    requires { (i : ℕ) → is_input (node_of node.now) i ≡ true → i < length needs.old }
-    ensures { OnOk result (HasPut (need_by (kept_names_at lists.now) (node_of node.now) needed.now)
-        (inputs_of (node_of node.now)) needs.old needs.new) }
+    requires whole { AreAllOf whole lists.now (node_of node.now) needed.now }
+    requires there { (i : ℕ) → is_input (node_of node.now) i ≡ true → i < length needs.old }
+    ensures put { OnOk result (HasPut
+        (need_by (kept_names_at lists.now) (node_of node.now) needed.now)
+        (inputs_of (node_of node.now)) (needs_over lists.now needs.old)
+        (needs_over lists.now needs.new)) }
+    ensures long { OnOk result (length needs.new ≡ length needs.old) }
 {
     let numbers = inputs(alloc, node)?;
     for input in numbers.as_slice() {
-        let need = input_need(alloc, lists, node, needed, *input)?;
-        needs[*input as usize] = need;
+        let need = need_of_input(alloc, lists, node, whole, needed, *input)?;
+        put_need(needs, *input as usize, need);
     }
     Ok(())
 }
 
-/// What is needed of a node before any has been looked at: all of the root, and nothing of others.
-fn first_need(
+/// Puts what a node needs of its inputs, where all names of its own are needed, or those that are kept for it.
+fn hand_down(
     alloc: Global,
     lists: &[List<Text>],
-    n: usize,
-    root: u32,
-) -> Result<List<Text>, AllocError>
-    ensures { IfOk result (λ names. n ≡ root → names ≡ kept_names_at lists.now root) }
+    names: &[Text],
+    node: &IR,
+    need: &Option<List<Text>>,
+    needs: &mut [Option<List<Text>>],
+) -> Result<(), AllocError>
+    requires whole { AreAllOf true lists.now (node_of node.now) names.now }
+    requires there { (i : ℕ) → is_input (node_of node.now) i ≡ true → i < length needs.old }
+    ensures put { OnOk result (HasPut
+        (need_by (kept_names_at lists.now) (node_of node.now) (need_or names.now need.now))
+        (inputs_of (node_of node.now)) (needs_over lists.now needs.old)
+        (needs_over lists.now needs.new)) }
+    ensures long { OnOk result (length needs.new ≡ length needs.old) }
 {
-    if n == root as usize {
-        copied(alloc, names_at(lists, root))
-    } else {
-        Ok(List::new(alloc))
+    match need {
+        None => put_needs(alloc, lists, node, true, names, needs),
+        Some(some) => put_needs(alloc, lists, node, false, some.as_slice(), needs),
     }
-}
-
-/// What is needed of so many nodes before any has been looked at: all of the root, and nothing of others.
-fn first_needs(
-    alloc: Global,
-    lists: &[List<Text>],
-    count: usize,
-    root: u32,
-) -> Result<List<List<Text>>, AllocError>
-    ensures long { IfOk result (λ needs. length needs ≡ count) }
-    ensures whole { IfOk result (λ needs. root < count
-        → kept_names_at needs root ≡ kept_names_at lists.now root) }
-{
-    let mut needs = List::new(alloc);
-    for n in 0..count {
-        let names = first_need(alloc, lists, n, root)?;
-        needs.push(names)?;
-    }
-    Ok(needs)
-}
-
-/// Takes out what is needed of a node.
-#[tactic(auto, using(crate::proofs::Passing::set_rules))]
-fn take_need(alloc: Global, needs: &mut [List<Text>], n: usize) -> List<Text>
-    requires { n < length needs.old }
-    ensures taken { result ≡ kept_names_at needs.old n }
-    ensures others { (i : ℕ) → (n == i) ≡ false
-        → kept_names_at needs.new i ≡ kept_names_at needs.old i }
-    ensures long { length needs.new ≡ length needs.old }
-{
-    replace(&mut needs[n], List::new(alloc))
-}
-
-/// Puts back what is needed of a node.
-#[tactic(auto, using(crate::proofs::Passing::set_rules))]
-fn put_back(needs: &mut [List<Text>], n: usize, names: List<Text>)
-    requires { n < length needs.old }
-    ensures here { kept_names_at needs.new n ≡ names }
-    ensures others { (i : ℕ) → (n == i) ≡ false
-        → kept_names_at needs.new i ≡ kept_names_at needs.old i }
-    ensures long { length needs.new ≡ length needs.old }
-{
-    needs[n] = names;
 }
 
 /// Hands down what is needed, from the last node to the first.
@@ -122,19 +92,22 @@ fn pass_needs(
     lists: &[List<Text>],
     nodes: &[IR],
     root: u32,
-    needs: &mut [List<Text>],
+    needs: &mut [Option<List<Text>>],
 ) -> Result<(), AllocError>
     requires tree { AreTree (map node_of nodes.now) root }
+    requires outputs { AreOutputs lists.now (map node_of nodes.now) }
     requires long { length needs.old ≡ length nodes.now }
-    requires whole { kept_names_at needs.old root ≡ kept_names_at lists.now root }
-    ensures { OnOk result (ArePassed lists.now (map node_of nodes.now) root 0 needs.new) }
+    requires whole { kept_names_at (needs_over lists.now needs.old) root
+        ≡ kept_names_at lists.now root }
+    ensures { OnOk result (ArePassed lists.now (map node_of nodes.now) root 0
+        (needs_over lists.now needs.new)) }
 {
     let mut n = nodes.len();
     while n > 0 {
         n -= 1;
-        let needed = take_need(alloc, needs, n);
-        put_needs(alloc, lists, &nodes[n], needed.as_slice(), needs)?;
-        put_back(needs, n, needed);
+        let need = take_need(needs, n);
+        hand_down(alloc, lists, names_in(lists, n), &nodes[n], &need, needs)?;
+        put_need(needs, n, need);
     }
     Ok(())
 }
@@ -145,55 +118,79 @@ fn node_needs(
     lists: &[List<Text>],
     nodes: &[IR],
     root: u32,
-) -> Result<Vec<List<Text>>, AllocError>
+) -> Result<Vec<Option<List<Text>>>, AllocError>
     requires tree { AreTree (map node_of nodes.now) root }
+    requires outputs { AreOutputs lists.now (map node_of nodes.now) }
     requires there { root < length nodes.now }
-    ensures { IfOk result (λ needs. ArePassed lists.now (map node_of nodes.now) root 0 needs.items) }
+    ensures { IfOk result (λ needs. ArePassed lists.now (map node_of nodes.now) root 0
+        (needs_over lists.now needs.items)) }
 {
-    let first = first_needs(alloc, lists, nodes.len(), root)?;
-    let mut needs = first.into_vec();
+    let mut needs = whole_needs(alloc, nodes.len())?;
     pass_needs(alloc, lists, nodes, root, needs.as_mut_slice())?;
     Ok(needs)
 }
 
-/// The nodes, each narrowed to what is needed of it.
+/// The nodes, each narrowed to what is needed of it, over the names of the outputs of those below it.
+fn narrow_over_names(
+    alloc: Global,
+    frames: &[DataFrame],
+    lists: &[List<Text>],
+    nodes: List<IR>,
+    needs: &[Option<List<Text>>],
+) -> Result<List<IR>, AllocError>
+    requires ordered { AreOrdered (map node_of nodes) }
+    requires few { length nodes ≤ most_nodes }
+    ensures { IfOk result (λ made. AreNarrowed frames.now (map node_of nodes)
+        (map node_of made) (needs_in (needs_over lists.now needs.now))) }
+{
+    let mut left = List::new(alloc);
+    let mut made = List::new(alloc);
+    for node in nodes.into_vec() {
+        let needed = needed_at(lists, needs, made.len() as u32);
+        let narrowed = narrow(alloc, frames, left.as_slice(), needed, node)?;
+        let names = output_names(alloc, frames, left.as_slice(), &narrowed)?;
+        made.push(narrowed)?;
+        left.push(names)?;
+    }
+    Ok(made)
+}
+
+/// The nodes, each narrowed to what is needed of it. Only renamings ask for the names of the nodes below them.
 fn narrow_nodes(
     alloc: Global,
     frames: &[DataFrame],
-    nodes: &[IR],
-    needs: &[List<Text>],
+    lists: &[List<Text>],
+    nodes: List<IR>,
+    needs: &[Option<List<Text>>],
 ) -> Result<List<IR>, AllocError>
-    requires ordered { AreOrdered (map node_of nodes.now) }
-    requires few { length nodes.now ≤ most_nodes }
-    ensures { IfOk result (λ made. AreNarrowed frames.now (map node_of nodes.now)
-        (map node_of made) (needs_in needs.now)) }
+    requires ordered { AreOrdered (map node_of nodes) }
+    requires few { length nodes ≤ most_nodes }
+    ensures { IfOk result (λ made. AreNarrowed frames.now (map node_of nodes)
+        (map node_of made) (needs_in (needs_over lists.now needs.now))) }
 {
-    let mut lists = List::new(alloc);
-    let mut made = List::new(alloc);
-    for n in 0..nodes.len() {
-        let needed = names_at(needs, n as u32);
-        let node = narrow(alloc, frames, lists.as_slice(), needed, &nodes[n])?;
-        let names = output_names(alloc, frames, lists.as_slice(), &node)?;
-        made.push(node)?;
-        lists.push(names)?;
+    if has_renaming(nodes.as_slice()) {
+        let made = narrow_over_names(alloc, frames, lists, nodes, needs)?;
+        Ok(made)
+    } else {
+        let made = narrow_unrenamed(alloc, frames, lists, nodes, needs)?;
+        Ok(made)
     }
-    Ok(made)
 }
 
 /// The nodes of a plan, each narrowed to the columns that are needed of it.
 pub(crate) fn trim(
     alloc: Global,
     frames: &[DataFrame],
-    nodes: &[IR],
+    nodes: List<IR>,
     root: u32,
 ) -> Result<List<IR>, AllocError>
-    requires tree { AreTree (map node_of nodes.now) root }
-    requires there { root < length nodes.now }
-    requires few { length nodes.now ≤ most_nodes }
+    requires tree { AreTree (map node_of nodes) root }
+    requires there { root < length nodes }
+    requires few { length nodes ≤ most_nodes }
     ensures { IfOk result (λ made.
-        IsTrimOf frames.now (map node_of nodes.now) (map node_of made) root) }
+        IsTrimOf frames.now (map node_of nodes) (map node_of made) root) }
 {
-    let lists = node_names(alloc, frames, nodes)?;
-    let needs = node_needs(alloc, lists.as_slice(), nodes, root)?;
-    narrow_nodes(alloc, frames, nodes, needs.as_slice())
+    let lists = node_names(alloc, frames, nodes.as_slice())?;
+    let needs = node_needs(alloc, lists.as_slice(), nodes.as_slice(), root)?;
+    narrow_nodes(alloc, frames, lists.as_slice(), nodes, needs.as_slice())
 }

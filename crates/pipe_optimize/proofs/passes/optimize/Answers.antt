@@ -1,7 +1,6 @@
-use Rattle.std.proofs.Common.{map, length, ap, sym, subst, ◌∙◌, arith}
+use Rattle.std.proofs.Common.{map, refl, ap, ◌∙◌, arith}
 use Rattle.pipe_plan.specs.Node.{node_of}
 use Rattle.pipe_plan.specs.Plan.{plan_of}
-use Rattle.pipe_optimize.specs.Put.{AreTree}
 use Rattle.pipe_opt.proofs.Readings.{map-long}
 use Rattle.pipe_optimize.proofs.Optimized.{pushed-of, optimized, tree-of}
 use Rattle.pipe_optimize.proofs.passes.optimize.Goals as goal
@@ -14,11 +13,10 @@ trim-requires-clause-tree c =
     let root = c.in_ok-pushed.pushed.root in
     let e = c.in_ok-pushed.ensures in
     let pushed = pushed-of plan given irs root e.good e.schema e.rows e.low e.bounded e.whole e.last e.sorts e.literals in
-    subst (λ l. AreTree (map node_of l) root) (sym c.as_slice.ensures) (tree-of plan.frames (map node_of irs) root pushed.good pushed.whole pushed.last)
+    tree-of plan.frames (map node_of irs) root pushed.good pushed.whole pushed.last
 
 pub trim-requires-clause-there : goal.trim-requires-clause-there
 trim-requires-clause-there c =
-    let same = ap length c.as_slice.ensures in
     let last = c.in_ok-pushed.ensures.last in
     omega arith
 
@@ -32,7 +30,6 @@ trim-requires-clause-few c =
     let pushed = pushed-of plan given irs root e.good e.schema e.rows e.low e.bounded e.whole e.last e.sorts e.literals in
     let few = pushed.good.few in
     let long = map-long node_of irs in
-    let same = ap length c.as_slice.ensures in
     omega arith
 
 pub returns-clause-few : goal.returns-clause-few
@@ -44,7 +41,7 @@ returns-clause-few c =
     let e = c.in_ok-pushed.ensures in
     let pushed = pushed-of plan given irs root e.good e.schema e.rows e.low e.bounded e.whole e.last e.sorts e.literals in
     let frames = c.as_slice-frames.ensures ∙ ap (λ a. a.frames) c.arena.ensures.arena in
-    let all = optimized plan given c.as_slice-frames.result.now irs c.as_slice.result.now c.in_ok-nodes.nodes root pushed frames c.as_slice.ensures c.frames_fit.ensures c.frames_full.ensures c.in_ok-nodes.ensures in
+    let all = optimized plan given c.as_slice-frames.result.now irs irs c.in_ok-nodes.nodes root pushed frames refl c.frames_fit.ensures c.frames_full.ensures c.in_ok-nodes.ensures in
     let few = e.few in
     let long = map-long node_of c.in_ok-nodes.nodes in
     let last = e.last in
@@ -60,7 +57,7 @@ returns-clause-good c =
     let e = c.in_ok-pushed.ensures in
     let pushed = pushed-of plan given irs root e.good e.schema e.rows e.low e.bounded e.whole e.last e.sorts e.literals in
     let frames = c.as_slice-frames.ensures ∙ ap (λ a. a.frames) c.arena.ensures.arena in
-    let all = optimized plan given c.as_slice-frames.result.now irs c.as_slice.result.now c.in_ok-nodes.nodes root pushed frames c.as_slice.ensures c.frames_fit.ensures c.frames_full.ensures c.in_ok-nodes.ensures in
+    let all = optimized plan given c.as_slice-frames.result.now irs irs c.in_ok-nodes.nodes root pushed frames refl c.frames_fit.ensures c.frames_full.ensures c.in_ok-nodes.ensures in
     all.good
 
 pub returns-clause-schema : goal.returns-clause-schema
@@ -72,7 +69,7 @@ returns-clause-schema c =
     let e = c.in_ok-pushed.ensures in
     let pushed = pushed-of plan given irs root e.good e.schema e.rows e.low e.bounded e.whole e.last e.sorts e.literals in
     let frames = c.as_slice-frames.ensures ∙ ap (λ a. a.frames) c.arena.ensures.arena in
-    let all = optimized plan given c.as_slice-frames.result.now irs c.as_slice.result.now c.in_ok-nodes.nodes root pushed frames c.as_slice.ensures c.frames_fit.ensures c.frames_full.ensures c.in_ok-nodes.ensures in
+    let all = optimized plan given c.as_slice-frames.result.now irs irs c.in_ok-nodes.nodes root pushed frames refl c.frames_fit.ensures c.frames_full.ensures c.in_ok-nodes.ensures in
     all.schema
 
 pub returns-clause-rows : goal.returns-clause-rows
@@ -84,7 +81,7 @@ returns-clause-rows c =
     let e = c.in_ok-pushed.ensures in
     let pushed = pushed-of plan given irs root e.good e.schema e.rows e.low e.bounded e.whole e.last e.sorts e.literals in
     let frames = c.as_slice-frames.ensures ∙ ap (λ a. a.frames) c.arena.ensures.arena in
-    let all = optimized plan given c.as_slice-frames.result.now irs c.as_slice.result.now c.in_ok-nodes.nodes root pushed frames c.as_slice.ensures c.frames_fit.ensures c.frames_full.ensures c.in_ok-nodes.ensures in
+    let all = optimized plan given c.as_slice-frames.result.now irs irs c.in_ok-nodes.nodes root pushed frames refl c.frames_fit.ensures c.frames_full.ensures c.in_ok-nodes.ensures in
     all.rows
 
 pub returns-clause-sorted : goal.returns-clause-sorted
@@ -96,7 +93,7 @@ returns-clause-sorted c =
     let e = c.in_ok-pushed.ensures in
     let pushed = pushed-of plan given irs root e.good e.schema e.rows e.low e.bounded e.whole e.last e.sorts e.literals in
     let frames = c.as_slice-frames.ensures ∙ ap (λ a. a.frames) c.arena.ensures.arena in
-    let all = optimized plan given c.as_slice-frames.result.now irs c.as_slice.result.now c.in_ok-nodes.nodes root pushed frames c.as_slice.ensures c.frames_fit.ensures c.frames_full.ensures c.in_ok-nodes.ensures in
+    let all = optimized plan given c.as_slice-frames.result.now irs irs c.in_ok-nodes.nodes root pushed frames refl c.frames_fit.ensures c.frames_full.ensures c.in_ok-nodes.ensures in
     all.sorted
 
 pub returns-clause-sorts : goal.returns-clause-sorts
@@ -108,7 +105,7 @@ returns-clause-sorts c =
     let e = c.in_ok-pushed.ensures in
     let pushed = pushed-of plan given irs root e.good e.schema e.rows e.low e.bounded e.whole e.last e.sorts e.literals in
     let frames = c.as_slice-frames.ensures ∙ ap (λ a. a.frames) c.arena.ensures.arena in
-    let all = optimized plan given c.as_slice-frames.result.now irs c.as_slice.result.now c.in_ok-nodes.nodes root pushed frames c.as_slice.ensures c.frames_fit.ensures c.frames_full.ensures c.in_ok-nodes.ensures in
+    let all = optimized plan given c.as_slice-frames.result.now irs irs c.in_ok-nodes.nodes root pushed frames refl c.frames_fit.ensures c.frames_full.ensures c.in_ok-nodes.ensures in
     all.sorts
 
 pub returns-clause-literals : goal.returns-clause-literals
@@ -120,7 +117,7 @@ returns-clause-literals c =
     let e = c.in_ok-pushed.ensures in
     let pushed = pushed-of plan given irs root e.good e.schema e.rows e.low e.bounded e.whole e.last e.sorts e.literals in
     let frames = c.as_slice-frames.ensures ∙ ap (λ a. a.frames) c.arena.ensures.arena in
-    let all = optimized plan given c.as_slice-frames.result.now irs c.as_slice.result.now c.in_ok-nodes.nodes root pushed frames c.as_slice.ensures c.frames_fit.ensures c.frames_full.ensures c.in_ok-nodes.ensures in
+    let all = optimized plan given c.as_slice-frames.result.now irs irs c.in_ok-nodes.nodes root pushed frames refl c.frames_fit.ensures c.frames_full.ensures c.in_ok-nodes.ensures in
     all.literals
 
 pub returns-clause-low : goal.returns-clause-low
@@ -132,7 +129,7 @@ returns-clause-low c =
     let e = c.in_ok-pushed.ensures in
     let pushed = pushed-of plan given irs root e.good e.schema e.rows e.low e.bounded e.whole e.last e.sorts e.literals in
     let frames = c.as_slice-frames.ensures ∙ ap (λ a. a.frames) c.arena.ensures.arena in
-    let all = optimized plan given c.as_slice-frames.result.now irs c.as_slice.result.now c.in_ok-nodes.nodes root pushed frames c.as_slice.ensures c.frames_fit.ensures c.frames_full.ensures c.in_ok-nodes.ensures in
+    let all = optimized plan given c.as_slice-frames.result.now irs irs c.in_ok-nodes.nodes root pushed frames refl c.frames_fit.ensures c.frames_full.ensures c.in_ok-nodes.ensures in
     all.low
 
 pub returns-clause-trimmed : goal.returns-clause-trimmed
@@ -144,7 +141,7 @@ returns-clause-trimmed c =
     let e = c.in_ok-pushed.ensures in
     let pushed = pushed-of plan given irs root e.good e.schema e.rows e.low e.bounded e.whole e.last e.sorts e.literals in
     let frames = c.as_slice-frames.ensures ∙ ap (λ a. a.frames) c.arena.ensures.arena in
-    let all = optimized plan given c.as_slice-frames.result.now irs c.as_slice.result.now c.in_ok-nodes.nodes root pushed frames c.as_slice.ensures c.frames_fit.ensures c.frames_full.ensures c.in_ok-nodes.ensures in
+    let all = optimized plan given c.as_slice-frames.result.now irs irs c.in_ok-nodes.nodes root pushed frames refl c.frames_fit.ensures c.frames_full.ensures c.in_ok-nodes.ensures in
     all.trimmed
 
 pub returns-clause-bounded : goal.returns-clause-bounded
@@ -156,7 +153,7 @@ returns-clause-bounded c =
     let e = c.in_ok-pushed.ensures in
     let pushed = pushed-of plan given irs root e.good e.schema e.rows e.low e.bounded e.whole e.last e.sorts e.literals in
     let frames = c.as_slice-frames.ensures ∙ ap (λ a. a.frames) c.arena.ensures.arena in
-    let all = optimized plan given c.as_slice-frames.result.now irs c.as_slice.result.now c.in_ok-nodes.nodes root pushed frames c.as_slice.ensures c.frames_fit.ensures c.frames_full.ensures c.in_ok-nodes.ensures in
+    let all = optimized plan given c.as_slice-frames.result.now irs irs c.in_ok-nodes.nodes root pushed frames refl c.frames_fit.ensures c.frames_full.ensures c.in_ok-nodes.ensures in
     all.bounded
 
 pub returns-clause-whole : goal.returns-clause-whole
@@ -168,5 +165,5 @@ returns-clause-whole c =
     let e = c.in_ok-pushed.ensures in
     let pushed = pushed-of plan given irs root e.good e.schema e.rows e.low e.bounded e.whole e.last e.sorts e.literals in
     let frames = c.as_slice-frames.ensures ∙ ap (λ a. a.frames) c.arena.ensures.arena in
-    let all = optimized plan given c.as_slice-frames.result.now irs c.as_slice.result.now c.in_ok-nodes.nodes root pushed frames c.as_slice.ensures c.frames_fit.ensures c.frames_full.ensures c.in_ok-nodes.ensures in
+    let all = optimized plan given c.as_slice-frames.result.now irs irs c.in_ok-nodes.nodes root pushed frames refl c.frames_fit.ensures c.frames_full.ensures c.in_ok-nodes.ensures in
     all.whole
