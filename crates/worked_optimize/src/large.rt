@@ -7,7 +7,7 @@ use pipe_plan::{Arena, IR, JoinOptions, RowsHint};
 use std::alloc::{AllocError, Global};
 
 /// How many joins stand in the chain.
-const JOINS: u32 = 100;
+const JOINS: u32 = 500;
 
 /// The name of the column of the chain's n-th frame.
 fn column_name(alloc: Global, n: u32) -> Result<Text, AllocError> {
@@ -179,7 +179,7 @@ fn push_made(
 /// Appends the cases.
 pub(crate) fn tell_all(alloc: Global, answers: &mut String) -> Result<(), AllocError> {
     let joins = chain(alloc);
-    push_made(alloc, answers, "100 joins under 100 filters", joins)?;
+    push_made(alloc, answers, "500 joins under 500 filters", joins)?;
     let most = filters(alloc, 2048);
     push_made(alloc, answers, "2,048 nodes", most)?;
     let more = filters(alloc, 2049);

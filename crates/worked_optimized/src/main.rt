@@ -7,6 +7,7 @@ mod filters;
 mod full_joins;
 mod large;
 mod ledger;
+mod many_joins;
 mod other_joins;
 mod plain;
 mod refused;

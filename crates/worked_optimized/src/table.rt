@@ -1,7 +1,7 @@
 //! All cases, topic by topic.
 
 use crate::case::tell_cases;
-use crate::{columns, filters, large, refused, rows};
+use crate::{columns, filters, large, many_joins, refused, rows};
 use std::alloc::{AllocError, Global};
 use std::thread::Threads;
 
@@ -12,6 +12,7 @@ pub(crate) fn answers<T: Threads + Sync>(rt: &T, alloc: Global) -> Result<String
     tell_cases(rt, alloc, &mut answers, columns::CASES)?;
     refused::tell(rt, alloc, &mut answers)?;
     large::tell(rt, alloc, &mut answers)?;
+    many_joins::tell(rt, alloc, &mut answers)?;
     rows::tell(rt, alloc, &mut answers)?;
     Ok(answers)
 }
