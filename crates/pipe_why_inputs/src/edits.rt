@@ -1,5 +1,8 @@
 //! What is told of two tables, their join and edits of them.
 
+ghost use Rattle.pipe_value.specs.View.{view};
+ghost use Rattle.pipe_job.specs.Reading.{Reading};
+
 use pipe_check::{CheckedPlan, check_plan};
 use pipe_expr::JoinType;
 use pipe_frame::List;
@@ -138,7 +141,9 @@ pub(crate) fn push_edits(
     out: &mut String,
     bytes: &[u8],
     value: &Value,
-) -> Result<(), AllocError> {
+) -> Result<(), AllocError>
+    requires { Reading bytes.now (view value.now) }
+{
     match replay_of(alloc, value)? {
         Some(replay) => {
             let kept = kept_job(alloc, replay)?;

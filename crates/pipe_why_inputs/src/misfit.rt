@@ -1,7 +1,8 @@
 //! What is told of a value that spells no job.
 
-ghost use Rattle.std.specs.Prelude.{◌≡◌, IfOk};
+ghost use Rattle.std.specs.Prelude.{◌≡◌, IfOk, string_bytes};
 ghost use Rattle.pipe_value.specs.View.{view};
+ghost use Rattle.pipe_job.specs.Reading.{Reading};
 ghost use Rattle.pipe_why_wants.specs.Wanted.{SpellsJob};
 ghost use Rattle.pipe_why_value.specs.Places.{kind_of};
 ghost use Rattle.pipe_why_value.specs.Telling.{TellsNoJob};
@@ -27,10 +28,12 @@ fn push_other(
     )
 }
 
-/// What is told of the value of a text that should be a job and spells none.
+/// What is told of the value that a text reads as and that should be a job and spells none.
 fn job_text(alloc: Global, bytes: &[u8], value: &Value) -> Result<String, AllocError>
+    requires { Reading bytes.now (view value.now) }
     ensures { IfOk result (λ text.
-        (SpellsJob (view value.now) → ⊥) → TellsNoJob (view value.now) bytes.now text) }
+        (SpellsJob (view value.now) → ⊥)
+        → TellsNoJob (view value.now) bytes.now (string_bytes text)) }
 {
     let mut out = String::new(alloc);
     out.push_str("not a job: ")?;
@@ -38,27 +41,33 @@ fn job_text(alloc: Global, bytes: &[u8], value: &Value) -> Result<String, AllocE
     Ok(out)
 }
 
-/// What is told of the value of a text of which `reconcile` reads such ones.
-fn reconciliation_text(alloc: Global, bytes: &[u8], value: &Value) -> Result<String, AllocError> {
+/// What is told of the value that a text reads as, of which `reconcile` reads such ones.
+fn reconciliation_text(alloc: Global, bytes: &[u8], value: &Value) -> Result<String, AllocError>
+    requires { Reading bytes.now (view value.now) }
+{
     let mut out = String::new(alloc);
     push_other(&mut out, value, InputKind::Reconciliation, "reconcile")?;
     push_reconciliation(alloc, &mut out, bytes, value)?;
     Ok(out)
 }
 
-/// What is told of the value of a text of which `replay-edits` reads such ones.
-fn edits_text(alloc: Global, bytes: &[u8], value: &Value) -> Result<String, AllocError> {
+/// What is told of the value that a text reads as, of which `replay-edits` reads such ones.
+fn edits_text(alloc: Global, bytes: &[u8], value: &Value) -> Result<String, AllocError>
+    requires { Reading bytes.now (view value.now) }
+{
     let mut out = String::new(alloc);
     push_other(&mut out, value, InputKind::Edits, "replay-edits")?;
     push_edits(alloc, &mut out, bytes, value)?;
     Ok(out)
 }
 
-/// What is told of the value of a text that spells no job: the first place that isn't what it should be, or, of what
-/// another command reads, that place or its fault there, or what that command will do.
+/// What is told of the value that a text reads as and that spells no job: the first place that isn't what it should be,
+/// or, of what another command reads, that place or its fault there, or what that command will do.
 pub fn misfit_text(alloc: Global, bytes: &[u8], value: &Value) -> Result<String, AllocError>
+    requires { Reading bytes.now (view value.now) }
     ensures { IfOk result (λ text. kind_of (view value.now) ≡ InputKind.Job
-        → (SpellsJob (view value.now) → ⊥) → TellsNoJob (view value.now) bytes.now text) }
+        → (SpellsJob (view value.now) → ⊥)
+        → TellsNoJob (view value.now) bytes.now (string_bytes text)) }
 {
     match InputKind::of(value) {
         InputKind::Job => job_text(alloc, bytes, value),

@@ -1,5 +1,8 @@
 //! What is told of two tables and a key.
 
+ghost use Rattle.pipe_value.specs.View.{view};
+ghost use Rattle.pipe_job.specs.Reading.{Reading};
+
 use pipe_expr::JoinType;
 use pipe_frame::{DataFrame, Field, Schema, Text, first_repeated};
 use pipe_plan::PipeError;
@@ -202,7 +205,9 @@ pub(crate) fn push_reconciliation(
     out: &mut String,
     bytes: &[u8],
     value: &Value,
-) -> Result<(), AllocError> {
+) -> Result<(), AllocError>
+    requires { Reading bytes.now (view value.now) }
+{
     match recon_job_of(alloc, value)? {
         Some(job) => push_recon_job(alloc, out, &job),
         None => {

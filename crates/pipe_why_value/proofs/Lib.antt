@@ -4,3 +4,7 @@ pub mod Looks
 pub mod Names
 -- members in the order of a text
 pub mod Orders
+-- how values are written
+pub mod Writing
+-- places whose parts are good
+pub mod Goods

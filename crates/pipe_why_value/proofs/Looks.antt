@@ -1,9 +1,9 @@
 -- Parts of a walk one after another, and one inside another.
-use Rattle.std.proofs.Common.{◌≡◌, ◌⊎◌, inl, inr, ap₂, ◌<◌, ◌+◌, ℕ, zero, suc, List, [], ◌∷◌, ◌++◌, ◌-◌, length, take, Option, Some, None, Result, Ok, Err, refl, sym, ap, ◌∙◌, subst, arith, true, true≢false, rules, BTreeMap, get_or}
+use Rattle.std.proofs.Common.{◌≡◌, ◌⊎◌, inl, inr, ap₂, ◌<◌, ◌≤◌, ◌+◌, ℕ, zero, suc, List, [], ◌∷◌, ◌++◌, ◌-◌, length, take, Option, Some, None, Result, Ok, Err, refl, sym, ap, ◌∙◌, subst, arith, true, true≢false, rules, BTreeMap, get_or}
 use Rattle.std.proofs.lemmas.List.{append_assoc, length-append, take_at}
-use Rattle.std.specs.Prelude.{◌&&◌, option_and_then, option_map, is_some, IfSome, IsSome, OnOk, slice_index_or, String, Bool, false}
+use Rattle.std.specs.Prelude.{◌&&◌, option_and_then, option_map, is_some, IfSome, IsSome, OnOk, slice_index_or, String, Bool, false, if◌then◌else◌}
 use Rattle.std.specs.Borrow.{Bor}
-use Rattle.std.specs.Option.{option_or}
+use Rattle.std.specs.Option.{option_map_or, option_or}
 use Rattle.std.specs.declared.alloc.Global.{Global}
 use Rattle.serde_json.specs.Data.{Data, null, boolean, number, string, array, object, Items, no_items, item}
 use Rattle.json.specs.Json.{Json}
@@ -16,13 +16,13 @@ use Rattle.pipe_frame.specs.declared.data_type.DataType.{DataType}
 use Rattle.pipe_job.specs.Shape.{all_items, is_cell, is_list, is_maybe, is_single, is_text, text_in}
 use Rattle.pipe_why_text.specs.declared.steps.Step.{Step}
 use Rattle.pipe_why_text.specs.declared.steps.Step.TheVariants as step
-use Rattle.pipe_why_wants.specs.Members.{HasMember, beside, couple_at, couple_items, edit_part, item_wanted, list_item, member_wanted, members_in, members_of, plain, type_of, want_in}
+use Rattle.pipe_why_wants.specs.Members.{HasMember, beside, couple_at, couple_items, edit_part, is_edit, item_wanted, list_item, member_wanted, plain_item, members_in, members_of, plain, type_of, want_in}
 use Rattle.pipe_why_wants.specs.Wanted.{is_wanted}
 use Rattle.pipe_why_wants.specs.declared.want.Foreign.TheVariants as foreign
 use Rattle.pipe_why_wants.specs.declared.want.Want.{Want}
 use Rattle.pipe_why_wants.specs.declared.want.Want.TheVariants as want
 use Rattle.pipe_why_value.specs.Order.{tree_part}
-use Rattle.pipe_why_value.specs.Places.{AreGoodBefore, IsBadCell, IsFirst, IsGoodItem, IsGoodPart, IsOwn, IsTold, IsWrong, PassGoodParts, Passes, Place, both, without_two, last_name, part, part_at, wanted, wanted_at, wanted_part}
+use Rattle.pipe_why_value.specs.Places.{AreGoodBefore, AreGoodParts, IsBadCell, IsGood, IsGoodItem, IsGoodPart, IsInner, IsInnermost, IsOwn, IsTold, IsWrong, PassGoodParts, Passes, Place, both, last_name, part, part_at, wanted, wanted_at, wanted_part}
 use Rattle.pipe_why_value.specs.Walks.{AreCellsBefore, IsFirstBad, Looked, Within, Noted, Entered, Left}
 use Rattle.pipe_why_value.specs.declared.walk.Walk.{Walk}
 use Rattle.pipe_why_value.specs.declared.wrong.Misfit.{Misfit}
@@ -89,32 +89,6 @@ passed_further [] s root p h good passes =
 passed_further (t ∷ steps) s root p h good passes =
     (good.0, λ q there. passed_further steps s q p (ap (option_and_then (wanted_at steps)) (sym there) ∙ h) (good.1 q there) passes)
 
-passed_front : (n : ℕ) (steps : List Step) (root : Place) → PassGoodParts steps root → PassGoodParts (take n steps) root
-passed_front zero steps root h = tt
-passed_front (suc n) [] root h = tt
-passed_front (suc n) (s ∷ steps) root h = (h.0, λ q there. passed_front n steps q (h.1 q there))
-
-pub passed_above : (above : List Step) (s t : Step) (root : Place) → PassGoodParts above root → PassGoodParts (without_two (above ++ s ∷ t ∷ [])) root
-passed_above above s t root h =
-    let count : length above ≡ length (above ++ s ∷ t ∷ []) - 2 = omega (arith, length-append above (s ∷ t ∷ [])) in
-    subst (λ l. PassGoodParts l root) (sym (take_at above (s ∷ t ∷ []) (length (above ++ s ∷ t ∷ []) - 2) count)) h
-
--- what is told then is in the first part that is wrong
-pub is_first : (wrong : Wrong) (steps : List Step) (root : Place) → PassGoodParts steps root → IsFirst root wrong steps
-is_first (wrong.Other w) steps root h = h
-is_first (wrong.Missing name w) steps root h = h
-is_first (wrong.Unknown known) steps root h = h
-is_first wrong.UnknownForm steps root h = h
-is_first (wrong.Members count) steps root h = h
-is_first (wrong.Cell t column count) steps root h = h
-is_first wrong.Wide steps root h = h
-is_first wrong.NoColumns steps root h = h
-is_first (wrong.SecondName earlier) steps root h = passed_front (length steps - 2) steps root h
-is_first (wrong.Height cells wanted) steps root h = passed_front (length steps - 2) steps root h
-is_first (wrong.Frames count) steps root h = h
-is_first (wrong.Parts count) steps root h = h
-is_first (wrong.Width cells columns) steps root h = h
-
 -- nothing was told before
 pub was_untold : (old new : Option Misfit) → ((m : Misfit) → old ≡ Some m → new ≡ Some m) → new ≡ None → old ≡ None
 was_untold None new kept none = refl
@@ -131,12 +105,86 @@ pub one_more_good : (p : Place) (i : ℕ) → AreGoodBefore p i → IsGoodItem p
 one_more_good p i before here j h = at_last p i j before here (last_or_below j i h)
 
 -- what may stand where something does is all that may
-pub good_part : (s : Step) (p q : Place) → wanted_part s p ≡ Some q → is_wanted q.0 q.1 ≡ true
-    → (r : Place) → wanted_part s p ≡ Some r → is_wanted r.0 r.1 ≡ true
+pub good_part : (s : Step) (p q : Place) → wanted_part s p ≡ Some q → IsGood q → IsGoodPart p s
 good_part s p q there good r here =
     let same : Some r ≡ Some q = sym here ∙ there in
     let is : r ≡ q = cc in
-    ap (λ (t : Place). is_wanted t.0 t.1) is ∙ good
+    subst IsGood (sym is) good
+
+-- the parts of a good place are good
+pub good_parts : (p : Place) → IsGood p → AreGoodParts p
+good_parts p good s q there steps r here = good (s ∷ steps) r (ap (option_and_then (wanted_at steps)) there ∙ here)
+
+pub good_parts_at : (p q : Place) (s : Step) → AreGoodParts p → wanted_part s p ≡ Some q → AreGoodParts q
+good_parts_at p q s good there = good_parts q (good s q there)
+
+pub passes_good : (s : Step) (p : Place) → AreGoodParts p → Passes s p
+passes_good (step.Member name) p good = λ other stands. good (step.Member other)
+passes_good (step.Item i) p good = λ j h. good (step.Item j)
+
+-- where a place is reached by more steps, it is by those that are left
+rest_along : (f g : Place → Option Place) (o : Option Place) (p r : Place) (c : Option Place) → ((q : Place) → f q ≡ Some p → g q ≡ Some r → c ≡ Some r)
+    → option_and_then f o ≡ Some p → option_and_then g o ≡ Some r → c ≡ Some r
+rest_along f g None p r c each h k = cc
+rest_along f g (Some q) p r c each h k = each q h k
+
+pub wanted_rest : (above more : List Step) (root p r : Place) → wanted_at above root ≡ Some p → wanted_at (above ++ more) root ≡ Some r → wanted_at more p ≡ Some r
+wanted_rest [] more root p r h k =
+    let same : root ≡ p = cc in
+    subst (λ (x : Place). wanted_at more x ≡ Some r) same k
+wanted_rest (s ∷ above) more root p r h k =
+    rest_along (wanted_at above) (wanted_at (above ++ more)) (wanted_part s root) p r (wanted_at more p) (λ q at_q. wanted_rest above more q p r at_q) h k
+
+passed_last : (above : List Step) (s t : Step) (root p : Place) → wanted_at above root ≡ Some p → PassGoodParts (above ++ s ∷ []) root
+    → ((q : Place) → wanted_part s p ≡ Some q → Passes t q) → PassGoodParts (above ++ s ∷ t ∷ []) root
+passed_last [] s t root p here passed next =
+    let same : root ≡ p = cc in
+    (passed.0, λ q there. (next q (ap (wanted_part s) (sym same) ∙ there), λ r at_r. tt))
+passed_last (u ∷ above) s t root p here passed next =
+    (passed.0, λ q there. passed_last above s t q p (ap (option_and_then (wanted_at above)) (sym there) ∙ here) (passed.1 q there) next)
+
+pub passed_two : (above : List Step) (s t : Step) (root p : Place) → wanted_at above root ≡ Some p → PassGoodParts above root → AreGoodParts p → PassGoodParts (above ++ s ∷ t ∷ []) root
+passed_two above s t root p here passed good =
+    passed_last above s t root p here (passed_further above s root p here passed (passes_good s p good))
+    (λ q there. passes_good t q (good_parts_at p q s good there))
+
+-- of a place whose parts are good none within is at fault
+pub innermost : (steps : List Step) (root p : Place) → wanted_at steps root ≡ Some p → AreGoodParts p → IsInnermost root steps
+innermost steps root p here good q there =
+    let same : Some p ≡ Some q = sym here ∙ there in
+    let is : p ≡ q = cc in
+    subst AreGoodParts is good
+
+no_place : (r : Place) → None ≡ Some r → ⊥
+no_place r h = cc
+
+-- the steps behind the first one
+along_one : (t : Step) (steps : List Step) (q r x : Place) → wanted_at (t ∷ []) q ≡ Some r → wanted_at steps r ≡ Some x → wanted_at (t ∷ steps) q ≡ Some x
+along_one t steps q r x h k = further (wanted_at []) (wanted_at steps) (wanted_part t q) r x (λ y at_y. ap (λ (o : Option Place). option_and_then (wanted_at steps) o) at_y ∙ k) h
+
+reached : (s t : Step) (p r : Place) (o : Option Place) → AreGoodParts p → ((q : Place) → o ≡ Some q → wanted_part s p ≡ Some q) → option_and_then (wanted_at (t ∷ [])) o ≡ Some r → AreGoodParts r
+reached s t p r None good each h = absurd (no_place r h)
+reached s t p r (Some q) good each h =
+    good_parts r (λ steps x at_x. good s q (each q refl) (t ∷ steps) x (along_one t steps q r x h at_x))
+
+pub innermost_two : (above : List Step) (s t : Step) (root p : Place) → wanted_at above root ≡ Some p → AreGoodParts p → IsInnermost root (above ++ s ∷ t ∷ [])
+innermost_two above s t root p here good r there =
+    reached s t p r (wanted_part s p) good (λ q at_q. at_q) (wanted_rest above (s ∷ t ∷ []) root p r here there)
+
+pub inner_of : (wrong : Wrong) (root : Place) (steps : List Step) → IsInnermost root steps → IsInner root wrong steps
+inner_of (wrong.Other w) root steps h = h
+inner_of (wrong.Missing name w) root steps h = h
+inner_of (wrong.Unknown known) root steps h = tt
+inner_of wrong.UnknownForm root steps h = tt
+inner_of (wrong.Members count) root steps h = tt
+inner_of (wrong.Cell t column count) root steps h = tt
+inner_of wrong.Wide root steps h = tt
+inner_of wrong.NoColumns root steps h = tt
+inner_of (wrong.SecondName earlier) root steps h = tt
+inner_of (wrong.Height cells wanted) root steps h = h
+inner_of (wrong.Frames count) root steps h = tt
+inner_of (wrong.Parts count) root steps h = tt
+inner_of (wrong.Width cells columns) root steps h = tt
 
 at_tree : (a : Option Want) (b : Option Data) (w : Want) (d : Data) (t u : Json) → a ≡ Some w → b ≡ Some d → t ≡ u → both a b t ≡ Some (w, d, u)
 at_tree a b w d t u h k same = ap₂ (λ (x : Option Want) (y : Option Data). both x y t) h k ∙ ap (λ (s : Json). Some (w, d, s)) same
@@ -177,14 +225,22 @@ not_in_table w d t table name is none =
     not_wanted (w, d, t) (step.Member name) (ap (λ (k : List (List ℕ × Want)). option_and_then (beside (type_of d)) (want_in k name)) (sym is) ∙ none)
 
 pub couple_first : (w : Want) (p : Want × Want) → couple_items w ≡ Some p → item_wanted w 0 ≡ Some p.0
-couple_first w p h = ap (λ (o : Option (Want × Want)). option_or (option_and_then (couple_at 0) o) (option_or (list_item w) (edit_part w 0))) h
+couple_first w p h = ap (λ (o : Option (Want × Want)). option_map_or (couple_at 0) o (plain_item w 0)) h
 
 pub couple_second : (w : Want) (p : Want × Want) → couple_items w ≡ Some p → item_wanted w 1 ≡ Some p.1
-couple_second w p h = ap (λ (o : Option (Want × Want)). option_or (option_and_then (couple_at 1) o) (option_or (list_item w) (edit_part w 1))) h
+couple_second w p h = ap (λ (o : Option (Want × Want)). option_map_or (couple_at 1) o (plain_item w 1)) h
+
+pub couple_third : (w : Want) (p : Want × Want) (i : ℕ) → couple_items w ≡ Some p → item_wanted w (suc (suc i)) ≡ None
+couple_third w p i h = ap (λ (o : Option (Want × Want)). option_map_or (couple_at (suc (suc i))) o (plain_item w (suc (suc i)))) h
 
 pub list_wanted : (w v : Want) → couple_items w ≡ None → list_item w ≡ Some v → (i : ℕ) → item_wanted w i ≡ Some v
 list_wanted w v single h i =
-    ap₂ (λ (o : Option (Want × Want)) (l : Option Want). option_or (option_and_then (couple_at i) o) (option_or l (edit_part w i))) single h
+    ap₂ (λ (o : Option (Want × Want)) (l : Option Want). option_map_or (couple_at i) o (option_or l (if is_edit w then edit_part i else None))) single h
+
+pub none_wanted : (w : Want) → couple_items w ≡ None → list_item w ≡ None → is_edit w ≡ false → (i : ℕ) → item_wanted w i ≡ None
+none_wanted w single none other i =
+    ap₂ (λ (o : Option (Want × Want)) (l : Option Want). option_map_or (couple_at i) o (option_or l (if is_edit w then edit_part i else None))) single none
+    ∙ ap (λ (b : Bool). if b then edit_part i else None) other
 
 -- the last step is the one that was made last
 pub last_of : (steps : List Step) (name : List ℕ) → last_name (steps ++ step.Member name ∷ []) ≡ name
@@ -211,7 +267,7 @@ pub noted_none : (wrong : Wrong) (old new : Walk) → new.steps.items ≡ old.st
 noted_none wrong old new back first = record {
   back = back;
   kept = λ m was. first ∙ was;
-  told = λ root d here bad own items told. subst (λ f. IfSome f (IsTold root)) (sym first) told;
+  told = λ root d here bad own passed inner told. subst (λ f. IfSome f (IsTold root)) (sym first) told;
 }
 
 -- one part after another
@@ -254,36 +310,43 @@ looked_inside s p q old entered looked new there passes enter look leave =
 
 -- something wrong noted where the walk stands, or a step further
 pub noted_here : (p : Place) (wrong : Wrong) (old new : Walk) → Noted wrong old new → IsWrong wrong old.steps.items p.1
-    → ((root : Place) → wanted_at old.steps.items root ≡ Some p → IsOwn root wrong old.steps.items) → Looked p old new
-noted_here p wrong old new note bad own = record {
+    → ((root : Place) → wanted_at old.steps.items root ≡ Some p → IsOwn root wrong old.steps.items)
+    → ((root : Place) → wanted_at old.steps.items root ≡ Some p → old.first ≡ None → IsInner root wrong old.steps.items) → Looked p old new
+noted_here p wrong old new note bad own inner = record {
   back = note.back;
   kept = note.kept;
   told = λ root here passed told.
-      note.told root p.1 (part_of_wanted old.steps.items root p here) bad (own root here) (λ none. is_first wrong old.steps.items root (passed none)) told;
+      note.told root p.1 (part_of_wanted old.steps.items root p here) bad (own root here) passed (inner root here) told;
 }
+
+-- the same of a place whose parts are good
+pub noted_good : (p : Place) (wrong : Wrong) (old new : Walk) → Noted wrong old new → IsWrong wrong old.steps.items p.1
+    → ((root : Place) → wanted_at old.steps.items root ≡ Some p → IsOwn root wrong old.steps.items) → (old.first ≡ None → AreGoodParts p) → Looked p old new
+noted_good p wrong old new note bad own good =
+    noted_here p wrong old new note bad own (λ root here none. inner_of wrong root old.steps.items (innermost old.steps.items root p here (good none)))
 
 pub noted_within : (s : Step) (p : Place) (e : Data) (wrong : Wrong) (old new : Walk) → Noted wrong old new → part s p.1 ≡ Some e → (old.first ≡ None → Passes s p)
     → ((above : List Step) → old.steps.items ≡ above ++ s ∷ [] → IsWrong wrong old.steps.items e)
     → ((root : Place) (above : List Step) → old.steps.items ≡ above ++ s ∷ [] → wanted_at above root ≡ Some p → IsOwn root wrong old.steps.items)
-    → Within p s old new
-noted_within s p e wrong old new note there passes bad own = record {
+    → ((root : Place) (steps : List Step) → IsInner root wrong steps) → Within p s old new
+noted_within s p e wrong old new note there passes bad own inner = record {
   back = note.back;
   kept = note.kept;
   told = λ root above was here passed told.
       note.told root e
       (ap (λ (t : List Step). part_at t root.1) was ∙ one_further above s root.1 p.1 e (part_of_wanted above root p here) there)
       (bad above was) (own root above was here)
-      (λ none. is_first wrong old.steps.items root (subst (λ (t : List Step). PassGoodParts t root) (sym was) (passed_further above s root p here (passed none) (passes none))))
+      (λ none. subst (λ (t : List Step). PassGoodParts t root) (sym was) (passed_further above s root p here (passed none) (passes none)))
+      (λ none. inner root old.steps.items)
       told;
 }
 
 -- something wrong noted two steps further
 pub noted_deeper : (s t : Step) (p : Place) (e f : Data) (wrong : Wrong) (old a b n c d : Walk)
     → Entered s old a → Entered t a b → Noted wrong b n → Left n c → Left c d → part s p.1 ≡ Some e → part t e ≡ Some f
-    → ((steps : List Step) → IsWrong wrong steps f)
-    → ((root : Place) (above : List Step) → wanted_at above root ≡ Some p → IsOwn root wrong (above ++ s ∷ t ∷ []))
-    → ((root : Place) (above : List Step) → PassGoodParts above root → IsFirst root wrong (above ++ s ∷ t ∷ [])) → Looked p old d
-noted_deeper s t p e f wrong old a b n c d one two note leave leave_again there inner bad own first = record {
+    → (old.first ≡ None → AreGoodParts p) → ((steps : List Step) → IsWrong wrong steps f)
+    → ((root : Place) (above : List Step) → wanted_at above root ≡ Some p → IsOwn root wrong (above ++ s ∷ t ∷ [])) → Looked p old d
+noted_deeper s t p e f wrong old a b n c d one two note leave leave_again there inner good bad own = record {
   back = leave_again.steps old.steps.items s (leave.steps a.steps.items t (note.back ∙ two.steps) ∙ one.steps);
   kept = λ m was. leave_again.first ∙ leave.first ∙ note.kept m (two.first ∙ one.first ∙ was);
   told = λ root here passed told.
@@ -293,7 +356,8 @@ noted_deeper s t p e f wrong old a b n c d one two note leave leave_again there 
       let steps : b.steps.items ≡ old.steps.items ++ s ∷ t ∷ [] = two.steps ∙ ap (λ (l : List Step). l ++ t ∷ []) one.steps ∙ append_assoc old.steps.items (s ∷ []) (t ∷ []) in
       subst (λ g. IfSome g (IsTold root)) (sym (leave_again.first ∙ leave.first))
       (note.told root f at_b (bad b.steps.items) (subst (λ l. IsOwn root wrong l) (sym steps) (own root old.steps.items here))
-      (λ none. subst (λ l. IsFirst root wrong l) (sym steps) (first root old.steps.items (passed (sym one.first ∙ sym two.first ∙ none))))
+      (λ none. subst (λ l. PassGoodParts l root) (sym steps) (passed_two old.steps.items s t root p here (passed (sym one.first ∙ sym two.first ∙ none)) (good (sym one.first ∙ sym two.first ∙ none))))
+      (λ none. subst (λ l. IsInner root wrong l) (sym steps) (inner_of wrong root (old.steps.items ++ s ∷ t ∷ []) (innermost_two old.steps.items s t root p here (good (sym one.first ∙ sym two.first ∙ none)))))
       (subst (λ g. IfSome g (IsTold root)) (sym (two.first ∙ one.first)) told));
 }
 
@@ -322,6 +386,13 @@ pub ok_all : {X E A : Type 0} (r : Result X E) → A → OnOk r A
 ok_all (Ok x) a = a
 ok_all (Err e) a = tt
 
+pair : (A B : Type 0) → A → B → A × B
+pair A B a b = (a, b)
+
+pub both_ok : {X E : Type 0} (A B : Type 0) (r : Result X E) → OnOk r A → OnOk r B → OnOk r (A × B)
+both_ok A B (Ok x) a b = pair A B a b
+both_ok A B (Err e) a b = tt
+
 pub some_none : {X : Type 0} (o : Option X) → IsSome o → o ≡ None → ⊥
 some_none None h e = absurd (true≢false (sym h))
 some_none (Some x) h e = cc
@@ -341,12 +412,13 @@ pub noted : (wrong : Wrong) (m : Misfit) (old new : Walk)
 noted wrong m old new steps same back before first = record {
   back = back;
   kept = λ n was. absurd (clash n (sym before ∙ was));
-  told = λ root d here bad own items told. subst (λ f. IfSome f (IsTold root)) (sym first) (record {
+  told = λ root d here bad own passed inner told. subst (λ f. IfSome f (IsTold root)) (sym first) (record {
     value = d;
     stands = ap (λ (t : List Step). part_at t root.1) steps ∙ here;
     wrong = subst (λ w. IsWrong w m.steps.items d) (sym same) (subst (λ t. IsWrong wrong t d) (sym steps) bad);
     own = subst (λ w. IsOwn root w m.steps.items) (sym same) (subst (λ t. IsOwn root wrong t) (sym steps) own);
-    first = subst (λ w. IsFirst root w m.steps.items) (sym same) (subst (λ t. IsFirst root wrong t) (sym steps) (items before));
+    first = subst (λ t. PassGoodParts t root) (sym steps) (passed before);
+    inner = subst (λ w. IsInner root w m.steps.items) (sym same) (subst (λ t. IsInner root wrong t) (sym steps) (inner before));
   });
 }
 
@@ -386,11 +458,31 @@ none_found t d row (Some n) here first = first
 pub none_looked_at : (t : DataType) (d : Data) → AreCellsBefore t d 0
 none_looked_at t d j h = absurd (omega (arith, h))
 
+behind : (steps : List Step) (o : Option Place) (q : Place) → ((r : Place) → o ≡ Some r → IsGood r) → option_and_then (wanted_at steps) o ≡ Some q → is_wanted q.0 q.1 ≡ true
+behind steps None q each h = absurd (no_place q h)
+behind steps (Some r) q each h = each r refl steps q h
+
+-- a place that spells what may stand there is good if its parts are
+pub all_good : (p : Place) → is_wanted p.0 p.1 ≡ true → AreGoodParts p → IsGood p
+all_good p here parts [] q at =
+    let is : p ≡ q = cc in
+    subst (λ (r : Place). is_wanted r.0 r.1 ≡ true) is here
+all_good p here parts (s ∷ steps) q at = behind steps (wanted_part s p) q (λ r there. parts s r there) at
+
+-- of what has no parts of which anything is wanted all are good
+pub none_within : (w : Want) (d : Data) (t : Json) → ((i : ℕ) → item_wanted w i ≡ None) → ((name : List ℕ) → member_wanted w d name ≡ None) → AreGoodParts (w, d, t)
+none_within w d t items members (step.Member name) = not_wanted (w, d, t) (step.Member name) (members name)
+none_within w d t items members (step.Item i) = not_wanted (w, d, t) (step.Item i) (items i)
+
+pub good_cell : (t : DataType) (d : Data) (k : Json) → is_cell t d ≡ true → IsGood (want.Cell t, d, k)
+good_cell t d k h = all_good (want.Cell t, d, k) h (none_within (want.Cell t) d k (λ i. refl) (λ name. refl))
+
 -- the cells of a column before a place
-pub good_cells : (t : DataType) (d : Data) (k : Json) (row : ℕ) → row < length (elements d) → AreCellsBefore t d row → AreGoodBefore (want.Cells t, d, k) row
+pub good_cells : (t : DataType) (d : Data) (k : Json) (row : ℕ) → row ≤ length (elements d) → AreCellsBefore t d row → AreGoodBefore (want.Cells t, d, k) row
 good_cells t d k row inside before j h =
     good_part (step.Item j) (want.Cells t, d, k) (want.Cell t, slice_index_or (elements d) j null, tree_part (step.Item j) k)
-    (wanted_item (want.Cells t) (want.Cell t) d (slice_index_or (elements d) j null) k (tree_part (step.Item j) k) j refl (item_there d j (omega (arith, inside, h))) refl) (before j h)
+    (wanted_item (want.Cells t) (want.Cell t) d (slice_index_or (elements d) j null) k (tree_part (step.Item j) k) j refl (item_there d j (omega (arith, inside, h))) refl)
+    (good_cell t (slice_index_or (elements d) j null) (tree_part (step.Item j) k) (before j h))
 
 all_cells : (t : DataType) (ds : Items) → ((j : ℕ) → j < length (list_of ds) → is_cell t (slice_index_or (list_of ds) j null) ≡ true) → all_items (is_cell t) ds ≡ true
 all_cells t no_items each = refl

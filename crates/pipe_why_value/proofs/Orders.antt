@@ -70,12 +70,12 @@ not_before_itself t name other stands same =
 
 -- ---- objects of one member
 
-tie_of : (o : Ordering) (d e : Data) → match_ordering o None (Some d) None ≡ Some e → o ≡ Equal
+pub tie_of : (o : Ordering) (d e : Data) → match_ordering o None (Some d) None ≡ Some e → o ≡ Equal
 tie_of Less d e h = cc
 tie_of Equal d e h = refl
 tie_of Greater d e h = cc
 
-same_text : (a b : List ℕ) → slice_cmp nat_cmp a b ≡ Equal → a ≡ b
+pub same_text : (a b : List ℕ) → slice_cmp nat_cmp a b ≡ Equal → a ≡ b
 same_text a b e = (bytes_decides a b).0 (texts_ties a b ∙ ap is_eq e)
 
 one_member : (ms : Members) (a b : List ℕ) (d e : Data) → is_single (object ms) ≡ true → get a (object ms) ≡ Some d → get b (object ms) ≡ Some e → a ≡ b

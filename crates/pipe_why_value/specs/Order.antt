@@ -9,6 +9,8 @@ use Rattle.json.specs.Lex.{tokens}
 use Rattle.json.specs.Find as find
 use Rattle.json.specs.Value.{value_view}
 use Rattle.json.specs.declared.value.Value.{Value}
+use Rattle.serde_json.specs.Data.{Data}
+use Rattle.serde_json.specs.Read.{of_json}
 use Rattle.pipe_why_text.specs.declared.steps.Step.{Step}
 use Rattle.pipe_why_text.specs.declared.steps.Step.TheVariants as step
 use Rattle.pipe_why_value.specs.declared.order.Last.{Last}
@@ -51,6 +53,10 @@ first_of (Some p) = Some p.0
 -- how the value at the front of a text is written, null where there is none
 abbrev pub tree_of : List ℕ → Json
 tree_of text = or_null (first_of (value 127 (tokens text)))
+
+-- a value is written so
+abbrev pub IsWritten : Json → Data → Type 0
+IsWritten t d = of_json t ≡ Some d
 
 -- how a part is written, null where that isn't told
 abbrev pub written : Option (Bor (Value Global)) → Json

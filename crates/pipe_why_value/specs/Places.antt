@@ -70,18 +70,26 @@ wanted_at (s ∷ steps) p = option_and_then (wanted_at steps) (wanted_part s p)
 
 -- ---- what stands before a place
 
--- what stands where a step leads spells what may stand there
+-- what stands at a place spells what may stand there, and so does what stands at each place within it
+abbrev pub IsGood : Place → Type 0
+IsGood p = (steps : List Step) (q : Place) → wanted_at steps p ≡ Some q → is_wanted q.0 q.1 ≡ true
+
+-- so is what stands where a step leads
 abbrev pub IsGoodPart : Place → Step → Type 0
-IsGoodPart p s = (q : Place) → wanted_part s p ≡ Some q → is_wanted q.0 q.1 ≡ true
+IsGoodPart p s = (q : Place) → wanted_part s p ≡ Some q → IsGood q
+
+-- so is each part of what stands at a place
+abbrev pub AreGoodParts : Place → Type 0
+AreGoodParts p = (s : Step) → IsGoodPart p s
 
 abbrev pub IsGoodItem : Place → ℕ → Type 0
 IsGoodItem p i = IsGoodPart p (step.Item i)
 
--- so does what stands at each item before a place
+-- so is each item before a place
 abbrev pub AreGoodBefore : Place → ℕ → Type 0
 AreGoodBefore p i = (j : ℕ) → j < i → IsGoodItem p j
 
--- a step leads to a member or an item before which, in the order of the text, each spells what may stand there
+-- a step leads to a member or an item before which, in the order of the text, each is good
 abbrev pub Passes : Step → Place → Type 0
 Passes (step.Member name) p = (other : List ℕ) → StandsBefore p.2 other name → IsGoodPart p (step.Member other)
 Passes (step.Item i) p = AreGoodBefore p i
@@ -193,33 +201,40 @@ IsOwn root (wrong.Frames count) steps = MayStand root steps (want.Foreign foreig
 IsOwn root (wrong.Parts count) steps = MayStand root steps (want.Foreign foreign.Edit)
 IsOwn root (wrong.Width cells columns) steps = MayStand root steps (want.Foreign foreign.Row)
 
--- the steps but the last two
-abbrev pub without_two : List Step → List Step
-without_two steps = take (length steps - 2) steps
+-- no place within the one to which these steps lead is at fault: each part of what stands there, and each part of these,
+-- spells what may stand there
+abbrev pub IsInnermost : Place → List Step → Type 0
+IsInnermost root steps = (p : Place) → wanted_at steps root ≡ Some p → AreGoodParts p
 
--- of each array and each object on the way what is told is in the first part, in the order of the text, that doesn't spell
--- what may stand there; of the name and the height of a column, which are looked at behind all columns, it is said of what
--- is on the way to these
-abbrev pub IsFirst : Place → Wrong → List Step → Type 0
-IsFirst root (wrong.Other w) steps = PassGoodParts steps root
-IsFirst root (wrong.Missing name w) steps = PassGoodParts steps root
-IsFirst root (wrong.Unknown known) steps = PassGoodParts steps root
-IsFirst root wrong.UnknownForm steps = PassGoodParts steps root
-IsFirst root (wrong.Members count) steps = PassGoodParts steps root
-IsFirst root (wrong.Cell t column count) steps = PassGoodParts steps root
-IsFirst root wrong.Wide steps = PassGoodParts steps root
-IsFirst root wrong.NoColumns steps = PassGoodParts steps root
-IsFirst root (wrong.SecondName earlier) steps = PassGoodParts (without_two steps) root
-IsFirst root (wrong.Height cells wanted) steps = PassGoodParts (without_two steps) root
-IsFirst root (wrong.Frames count) steps = PassGoodParts steps root
-IsFirst root (wrong.Parts count) steps = PassGoodParts steps root
-IsFirst root (wrong.Width cells columns) steps = PassGoodParts steps root
+-- where another value is told than may stand there, a member that isn't there, or a column of another height, no place
+-- within is at fault; what else is told has no parts of which anything is wanted, or is told before they are looked at, as
+-- that an expression has several members
+abbrev pub IsInner : Place → Wrong → List Step → Type 0
+IsInner root (wrong.Other w) steps = IsInnermost root steps
+IsInner root (wrong.Missing name w) steps = IsInnermost root steps
+IsInner root (wrong.Unknown known) steps = Unit {0}
+IsInner root wrong.UnknownForm steps = Unit {0}
+IsInner root (wrong.Members count) steps = Unit {0}
+IsInner root (wrong.Cell t column count) steps = Unit {0}
+IsInner root wrong.Wide steps = Unit {0}
+IsInner root wrong.NoColumns steps = Unit {0}
+IsInner root (wrong.SecondName earlier) steps = Unit {0}
+IsInner root (wrong.Height cells wanted) steps = IsInnermost root steps
+IsInner root (wrong.Frames count) steps = Unit {0}
+IsInner root (wrong.Parts count) steps = Unit {0}
+IsInner root (wrong.Width cells columns) steps = Unit {0}
+
+-- of what is told no place within is at fault
+abbrev pub TellsInner : Place → Misfit → Type 0
+TellsInner root m = IsInner root m.wrong m.steps.items
 
 -- a value stands where the steps of what is told lead in the whole, what is told is wrong with it, what is told to be wanted
--- there is what may stand there, and in each array and object on the way it is in the first part that is wrong
+-- there is what may stand there, in each array and object on the way it is in the first part, in the order of the text, that
+-- is wrong, and no place within it is at fault
 pub record IsTold (root : Place) (m : Misfit) : Type 0 where
   pub value : Data
   pub stands : part_at m.steps.items root.1 ≡ Some value
   pub wrong : IsWrong m.wrong m.steps.items value
   pub own : IsOwn root m.wrong m.steps.items
-  pub first : IsFirst root m.wrong m.steps.items
+  pub first : PassGoodParts m.steps.items root
+  pub inner : TellsInner root m

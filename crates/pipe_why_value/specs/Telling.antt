@@ -1,10 +1,9 @@
 -- What is written of a place at which something else stands than may.
-use Rattle.std.specs.Prelude.{◌≡◌, ℕ, List, ◌++◌, codes, IsUtf8, String, string_bytes}
+use Rattle.std.specs.Prelude.{◌≡◌, ℕ, List, ◌++◌, codes, String}
 use Rattle.std.specs.declared.alloc.Global.{Global}
 use Rattle.serde_json.specs.Data.{Data}
 use Rattle.pipe_why_text.specs.Places.{Appends, IsPlaceText}
 use Rattle.pipe_why_text.specs.declared.steps.Step.{Step}
-use Rattle.pipe_why_wants.specs.declared.want.Want.{Want}
 use Rattle.pipe_why_wants.specs.declared.want.Want.TheVariants as want
 use Rattle.pipe_why_value.specs.Order.{tree_of}
 use Rattle.pipe_why_value.specs.Places.{IsTold, Place}
@@ -20,18 +19,11 @@ pub record Tells (root : Place) (old new : String Global) : Type 0 where
   pub is_told : IsTold root misfit
   pub begins : Appends (BeginsWithPlace misfit.steps.items) old new
 
--- the same of a value of these bytes
-pub record TellsOf (w : Want) (d : Data) (bytes : List ℕ) (old new : String Global) : Type 0 where
-  pub read : List ℕ
-  pub is_read : IsUtf8 bytes → read ≡ bytes
-  pub tells : Tells (w, d, tree_of read) old new
-
--- the text says that the value of these bytes is no job, and then the steps to a place of it at which what is told is wrong
-pub record TellsNoJob (d : Data) (bytes : List ℕ) (told : String Global) : Type 0 where
-  pub read : List ℕ
-  pub is_read : IsUtf8 bytes → read ≡ bytes
+-- the text says that the value that these bytes read as is no job, and then the steps to a place of it at which what is
+-- told is wrong
+pub record TellsNoJob (d : Data) (bytes told : List ℕ) : Type 0 where
   pub misfit : Misfit
-  pub is_told : IsTold (want.Job, d, tree_of read) misfit
+  pub is_told : IsTold (want.Job, d, tree_of bytes) misfit
   pub text : List ℕ
-  pub written : string_bytes told ≡ codes "not a job: " ++ text
+  pub written : told ≡ codes "not a job: " ++ text
   pub begins : BeginsWithPlace misfit.steps.items text

@@ -10,7 +10,7 @@ use Rattle.pipe_why_text.specs.declared.steps.Step.{Step}
 use Rattle.pipe_why_wants.specs.Members.{beside}
 use Rattle.pipe_why_wants.specs.declared.want.Want.{Want}
 use Rattle.pipe_why_wants.specs.declared.want.Want.TheVariants as want
-use Rattle.pipe_why_value.specs.Places.{IsBadCell, IsFirst, IsOwn, IsTold, IsWrong, PassGoodParts, Place, name_at, part_at, wanted_at}
+use Rattle.pipe_why_value.specs.Places.{IsBadCell, IsInner, IsOwn, IsTold, IsWrong, PassGoodParts, Place, name_at, part_at, wanted_at}
 use Rattle.pipe_why_value.specs.declared.looking.MemberWant.{MemberWant}
 use Rattle.pipe_why_value.specs.declared.looking.MemberWant.TheVariants as member
 use Rattle.pipe_why_value.specs.declared.walk.Walk.{Walk}
@@ -44,7 +44,8 @@ pub record Noted (wrong : Wrong) (old new : Walk) : Type 0 where
   pub back : new.steps.items ≡ old.steps.items
   pub kept : (m : Misfit) → old.first ≡ Some m → new.first ≡ Some m
   pub told : (root : Place) (d : Data) → part_at old.steps.items root.1 ≡ Some d → IsWrong wrong old.steps.items d
-      → IsOwn root wrong old.steps.items → (old.first ≡ None → IsFirst root wrong old.steps.items) → StaysTold root old new
+      → IsOwn root wrong old.steps.items → (old.first ≡ None → PassGoodParts old.steps.items root)
+      → (old.first ≡ None → IsInner root wrong old.steps.items) → StaysTold root old new
 
 -- a step was made
 pub record Entered (s : Step) (old new : Walk) : Type 0 where

@@ -1,11 +1,12 @@
 //! The rows of edits beside the columns of the tables that they edit.
 
-ghost use Rattle.std.specs.Prelude.{◌≡◌, ◌<◌, ◌≤◌, None, Some, IfOk, IfSome, OnOk, length};
+ghost use Rattle.std.specs.Prelude.{◌≡◌, ◌<◌, ◌≤◌, None, Some, true, is_some, IfOk, IfSome, OnOk, length};
 ghost use Rattle.json.specs.Json.{Json as Written};
+ghost use Rattle.serde_json.specs.Find.{as_array};
 ghost use Rattle.pipe_value.specs.Items.{elements};
 ghost use Rattle.pipe_value.specs.View.{view};
 ghost use Rattle.pipe_why_wants.specs.Members.{item_wanted};
-ghost use Rattle.pipe_why_value.specs.Places.{AreGoodBefore, IsBadPair, IsGoodItem};
+ghost use Rattle.pipe_why_value.specs.Places.{AreGoodBefore, AreGoodParts, IsBadPair, IsGood, IsGoodItem};
 ghost use Rattle.pipe_why_value.specs.Walks.{Looked};
 
 use crate::walk::{Walk, type_in, word_in};
@@ -165,7 +166,9 @@ fn look_at_width(walk: &mut Walk, side: &Value, row: &Value, cells: usize) -> Re
 
 /// Looks at the row of an edit of the table that it names.
 fn look_at_row(walk: &mut Walk, side: &Value, row: &Value) -> Result<(), AllocError>
-    ensures { OnOk result ((t : Written) → Looked (Want.Foreign Foreign.Row, view row.now, t) walk.old walk.new) }
+    ensures looked { OnOk result ((t : Written) → Looked (Want.Foreign Foreign.Row, view row.now, t) walk.old walk.new) }
+    ensures good { OnOk result ((t : Written) → walk.new.first ≡ None
+        → IsGood (Want.Foreign Foreign.Row, view row.now, t)) }
 {
     match row.array_len()? {
         Some(cells) => look_at_width(walk, side, row, cells),
@@ -201,9 +204,11 @@ fn look_at_word(
 /// Looks at the row of an edit.
 fn look_at_third(walk: &mut Walk, edit: &Value) -> Result<(), AllocError>
     requires { length (elements (view edit.now)) ≡ 3 }
-    ensures { OnOk result ((t : Written) → (walk.old.first ≡ None
+    ensures looked { OnOk result ((t : Written) → (walk.old.first ≡ None
         → AreGoodBefore (Want.Foreign Foreign.Edit, view edit.now, t) 2)
         → Looked (Want.Foreign Foreign.Edit, view edit.now, t) walk.old walk.new) }
+    ensures good { OnOk result ((t : Written) → walk.new.first ≡ None
+        → IsGoodItem (Want.Foreign Foreign.Edit, view edit.now, t) 2) }
 {
     let alloc = walk.alloc;
     let side = edit.item(alloc, 0)?;
@@ -216,7 +221,11 @@ fn look_at_third(walk: &mut Walk, edit: &Value) -> Result<(), AllocError>
 
 /// Looks at the parts of an edit: the side, what is done, and the row.
 pub(crate) fn look_at_edit(walk: &mut Walk, value: &Value) -> Result<(), AllocError>
-    ensures { OnOk result ((t : Written) → Looked (Want.Foreign Foreign.Edit, view value.now, t) walk.old walk.new) }
+    requires { is_some (as_array (view value.now)) ≡ true }
+    ensures looked { OnOk result
+        ((t : Written) → Looked (Want.Foreign Foreign.Edit, view value.now, t) walk.old walk.new) }
+    ensures good { OnOk result ((t : Written) → walk.new.first ≡ None
+        → AreGoodParts (Want.Foreign Foreign.Edit, view value.now, t)) }
 {
     let Some(count) = value.array_len()? else {
         return Ok(());

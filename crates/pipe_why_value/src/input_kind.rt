@@ -7,7 +7,7 @@ ghost use Rattle.pipe_why_value.specs.Places.{has_member, kind_of};
 use pipe_value::Value;
 
 /// The kinds of inputs that commands read.
-#[derive(Clone, Copy, Debug, PartialEq, Eq)]
+#[derive(Clone, Copy)]
 pub enum InputKind {
     /// Frames and a plan, which `run` reads.
     Job,

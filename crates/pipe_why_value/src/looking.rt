@@ -1,18 +1,18 @@
 //! The walk through a value that should spell a job, or what another command reads, in the order of its text: the first
 //! place at which something else stands than may, and how many further ones there are.
 
-ghost use Rattle.std.specs.Prelude.{◌≡◌, ◌<◌, ◌≤◌, ℕ, Some, None, true, length, OnOk, IsSome};
+ghost use Rattle.std.specs.Prelude.{◌≡◌, ◌<◌, ◌≤◌, ℕ, Some, None, true, false, is_some, length, OnOk, IsSome};
 ghost use Rattle.json.specs.Json.{Json as Written};
-ghost use Rattle.serde_json.specs.Data.{Data};
-ghost use Rattle.serde_json.specs.Find.{get};
+ghost use Rattle.serde_json.specs.Data.{Data, object};
+ghost use Rattle.serde_json.specs.Find.{as_array, get};
 ghost use Rattle.pipe_value.specs.Items.{elements};
-ghost use Rattle.pipe_value.specs.View.{view};
+ghost use Rattle.pipe_value.specs.View.{members_view, view};
 ghost use Rattle.pipe_why_text.specs.declared.steps.Step.TheVariants as step;
-ghost use Rattle.pipe_job.specs.Shape.{is_single};
-ghost use Rattle.pipe_why_wants.specs.Members.{item_wanted, members_in, members_of, type_of, want_in};
-ghost use Rattle.pipe_why_wants.specs.Wanted.{SpellsJob, is_wanted};
-ghost use Rattle.pipe_why_value.specs.Places.{AreGoodBefore, IsGoodItem, IsGoodPart, Passes};
-ghost use Rattle.pipe_why_value.specs.Order.{tree_part, written};
+ghost use Rattle.pipe_job.specs.Shape.{is_object, is_single};
+ghost use Rattle.pipe_why_wants.specs.Members.{is_edit, item_wanted, members_in, members_of, type_of, want_in};
+ghost use Rattle.pipe_why_wants.specs.Wanted.{SpellsJob};
+ghost use Rattle.pipe_why_value.specs.Places.{AreGoodBefore, AreGoodParts, IsGood, IsGoodItem, IsGoodPart, Passes};
+ghost use Rattle.pipe_why_value.specs.Order.{IsWritten, tree_part, written};
 ghost use Rattle.pipe_why_value.specs.Walks.{IsWantBy, Looked, Within};
 
 use crate::edits::look_at_edit;
@@ -25,6 +25,7 @@ use pipe_frame::DataType;
 use pipe_value::Value;
 use pipe_why_wants::{Foreign, Member, Want, couple_wants, form, item_want, members_of};
 use std::alloc::AllocError;
+use std::collections::BTreeMap;
 
 /// What is wanted of a member of an object.
 #[derive(Clone, Copy)]
@@ -64,6 +65,27 @@ fn member_want(known: &[Member], name: &str, parent: &Value) -> MemberWant
     MemberWant::Unknown
 }
 
+/// Whether an edit is wanted.
+fn is_edit(want: Want) -> bool
+    ensures no { result ≡ false → is_edit want ≡ false }
+    ensures yes { result ≡ true → want ≡ Want.Foreign Foreign.Edit }
+{
+    match want {
+        Want::Foreign(Foreign::Edit) => true,
+        _ => false,
+    }
+}
+
+/// Whether two frames are wanted.
+fn are_frames(want: Want) -> bool
+    ensures { result ≡ true → want ≡ Want.Foreign Foreign.TwoFrames }
+{
+    match want {
+        Want::Foreign(Foreign::TwoFrames) => true,
+        _ => false,
+    }
+}
+
 /// Looks at a value, and first at its parts.
 #[cycle(walk)]
 pub(crate) fn look_at(
@@ -71,39 +93,38 @@ pub(crate) fn look_at(
     want: Want,
     value: &Value,
     tree: Option<&Json<'_>>,
-    depth: usize,
 ) -> Result<(), AllocError>
+    requires written { IsWritten (written tree) (view value.now) }
     ensures looked { OnOk result (Looked (want, view value.now, written tree.entry) walk.old walk.new) }
     ensures good { OnOk result
-        (walk.new.first ≡ None → is_wanted want (view value.now) ≡ true) }
+        (walk.new.first ≡ None → IsGood (want, view value.now, written tree.entry)) }
     ensures job { OnOk result
         (walk.new.first ≡ None → want ≡ Want.Job → SpellsJob (view value.now)) }
 {
     let before = walk.found;
-    parts(walk, want, value, tree, depth)?;
+    parts(walk, want, value, tree)?;
     if walk.found != before && walk.first.is_some() {
         return Ok(());
     }
     walk.judge(want, value)
 }
 
-/// Looks at the parts of a value, unless it is deeper than any that was read.
+/// Looks at the parts of a value.
 #[cycle(walk)]
 fn parts(
     walk: &mut Walk,
     want: Want,
     value: &Value,
     tree: Option<&Json<'_>>,
-    depth: usize,
 ) -> Result<(), AllocError>
-    ensures { OnOk result (Looked (want, view value.now, written tree.entry) walk.old walk.new) }
+    requires written { IsWritten (written tree) (view value.now) }
+    ensures looked { OnOk result (Looked (want, view value.now, written tree.entry) walk.old walk.new) }
+    ensures good { OnOk result
+        (walk.new.first ≡ None → AreGoodParts (want, view value.now, written tree.entry)) }
 {
-    let Some(depth) = depth.checked_sub(1) else {
-        return Ok(());
-    };
     match value {
-        Value::Object(_) => object(walk, want, value, tree, depth),
-        Value::Array(_) | Value::Packed(..) => array(walk, want, value, tree, depth),
+        Value::Object(members) => object(walk, want, value, members, tree),
+        Value::Array(_) | Value::Packed(..) => array(walk, want, value, tree),
         Value::Null | Value::Bool(_) | Value::Number(_) | Value::String(_) => Ok(()),
     }
 }
@@ -121,14 +142,18 @@ fn object(
     walk: &mut Walk,
     want: Want,
     value: &Value,
+    members: &BTreeMap<String, Value>,
     tree: Option<&Json<'_>>,
-    depth: usize,
 ) -> Result<(), AllocError>
-    ensures { OnOk result (Looked (want, view value.now, written tree.entry) walk.old walk.new) }
+    requires written { IsWritten (written tree) (view value.now) }
+    requires members { view value.now ≡ object (members_view members.now.entries) }
+    ensures looked { OnOk result (Looked (want, view value.now, written tree.entry) walk.old walk.new) }
+    ensures good { OnOk result
+        (walk.new.first ≡ None → AreGoodParts (want, view value.now, written tree.entry)) }
 {
     match want {
-        Want::Expr => expr(walk, value, tree, depth),
-        _ => known_object(walk, want, value, tree, depth),
+        Want::Expr => expr(walk, value, members, tree),
+        _ => known_object(walk, want, value, tree),
     }
 }
 
@@ -139,12 +164,15 @@ fn known_object(
     want: Want,
     value: &Value,
     tree: Option<&Json<'_>>,
-    depth: usize,
 ) -> Result<(), AllocError>
-    ensures { OnOk result (Looked (want, view value.now, written tree.entry) walk.old walk.new) }
+    requires written { IsWritten (written tree) (view value.now) }
+    requires object { is_object (view value.now) ≡ true }
+    ensures looked { OnOk result (Looked (want, view value.now, written tree.entry) walk.old walk.new) }
+    ensures good { OnOk result
+        (walk.new.first ≡ None → AreGoodParts (want, view value.now, written tree.entry)) }
 {
     let before = walk.found;
-    members(walk, known_members(want, value), value, tree, depth)?;
+    members(walk, known_members(want, value), value, tree)?;
     match want {
         Want::Frame if walk.found == before => look_at_table(walk, value),
         _ => Ok(()),
@@ -158,15 +186,18 @@ fn members(
     known: &'static [Member],
     value: &Value,
     tree: Option<&Json<'_>>,
-    depth: usize,
 ) -> Result<(), AllocError>
-    ensures { OnOk result ((w : Want) → members_in known.now ≡ members_of w (view value.now)
+    requires written { IsWritten (written tree) (view value.now) }
+    requires object { is_object (view value.now) ≡ true }
+    ensures looked { OnOk result ((w : Want) → members_in known.now ≡ members_of w (view value.now)
         → Looked (w, view value.now, written tree.entry) walk.old walk.new) }
+    ensures good { OnOk result ((w : Want) → members_in known.now ≡ members_of w (view value.now)
+        → walk.new.first ≡ None → AreGoodParts (w, view value.now, written tree.entry)) }
 {
     if known.is_empty() {
         return Ok(());
     }
-    placed_members(walk, known, value, tree, depth)?;
+    placed_members(walk, known, value, tree)?;
     walk.missing(known, value)
 }
 
@@ -177,10 +208,13 @@ fn placed_members(
     known: &'static [Member],
     value: &Value,
     tree: Option<&Json<'_>>,
-    depth: usize,
 ) -> Result<(), AllocError>
-    ensures { OnOk result ((w : Want) → members_in known.now ≡ members_of w (view value.now)
+    requires written { IsWritten (written tree) (view value.now) }
+    requires object { is_object (view value.now) ≡ true }
+    ensures looked { OnOk result ((w : Want) → members_in known.now ≡ members_of w (view value.now)
         → Looked (w, view value.now, written tree.entry) walk.old walk.new) }
+    ensures good { OnOk result ((w : Want) → members_in known.now ≡ members_of w (view value.now)
+        → walk.new.first ≡ None → AreGoodParts (w, view value.now, written tree.entry)) }
 {
     let Some(object) = tree else {
         return Ok(());
@@ -189,15 +223,7 @@ fn placed_members(
     let lasts = last_members(walk.alloc, members)?;
     for i in 0..members.len() {
         let name = name_at(members, i);
-        member(
-            walk,
-            known,
-            name,
-            last_at(&lasts, name, i),
-            value,
-            tree,
-            depth,
-        )?;
+        member(walk, known, name, last_at(&lasts, name, i), value, tree)?;
     }
     Ok(())
 }
@@ -211,8 +237,8 @@ fn member(
     last: Option<Last>,
     parent: &Value,
     tree: Option<&Json<'_>>,
-    depth: usize,
 ) -> Result<(), AllocError>
+    requires written { IsWritten (written tree) (view parent.now) }
     ensures looked { OnOk result ((w : Want) → members_in known.now ≡ members_of w (view parent.now)
         → (walk.old.first ≡ None → IsSome last
         → Passes (step.Member name.now) (w, view parent.now, written tree.entry))
@@ -222,7 +248,7 @@ fn member(
         → IsGoodPart (w, view parent.now, written tree.entry) (step.Member name.now)) }
 {
     match last {
-        Some(last) => last_member(walk, known, name, last, parent, tree, depth),
+        Some(last) => last_member(walk, known, name, last, parent, tree),
         None => Ok(()),
     }
 }
@@ -236,8 +262,8 @@ fn last_member(
     last: Last,
     parent: &Value,
     tree: Option<&Json<'_>>,
-    depth: usize,
 ) -> Result<(), AllocError>
+    requires written { IsWritten (written tree) (view parent.now) }
     ensures looked { OnOk result ((w : Want) → members_in known.now ≡ members_of w (view parent.now)
         → (walk.old.first ≡ None
         → Passes (step.Member name.now) (w, view parent.now, written tree.entry))
@@ -250,7 +276,7 @@ fn last_member(
         return Ok(());
     };
     let repeated = walk.enter_member(name, last)?;
-    member_value(walk, known, name, parent, value, tree, depth)?;
+    member_value(walk, known, name, parent, value, tree)?;
     walk.leave_member(repeated);
     Ok(())
 }
@@ -264,21 +290,21 @@ fn member_value(
     parent: &Value,
     value: &Value,
     tree: Option<&Json<'_>>,
-    depth: usize,
 ) -> Result<(), AllocError>
+    requires written { IsWritten (written tree) (view parent.now) }
+    requires part { get name.now (view parent.now) ≡ Some (view value.now) }
     ensures looked { OnOk result ((w : Want) → members_in known.now ≡ members_of w (view parent.now)
-        → get name.now (view parent.now) ≡ Some (view value.now)
         → (walk.old.first ≡ None
         → Passes (step.Member name.now) (w, view parent.now, written tree.entry))
         → Within (w, view parent.now, written tree.entry) (step.Member name.now)
         walk.old walk.new) }
     ensures good { OnOk result ((w : Want) → members_in known.now ≡ members_of w (view parent.now)
-        → get name.now (view parent.now) ≡ Some (view value.now) → walk.new.first ≡ None
+        → walk.new.first ≡ None
         → IsGoodPart (w, view parent.now, written tree.entry) (step.Member name.now)) }
 {
     match member_want(known, name, parent) {
         MemberWant::Cells(dtype) => walk.cells(dtype, parent, value),
-        MemberWant::Is(want) => look_at(walk, want, value, member_tree(tree, name), depth),
+        MemberWant::Is(want) => look_at(walk, want, value, member_tree(tree, name)),
         MemberWant::Untold => Ok(()),
         // Where a node's kind isn't told, its members aren't known.
         MemberWant::Unknown => if 1 < known.len() {
@@ -289,42 +315,47 @@ fn member_value(
     }
 }
 
-/// Looks at the member of a name of an expression.
+/// Looks at the one member of an expression, of a name.
 #[cycle(walk)]
 fn form_member(
     walk: &mut Walk,
     name: &str,
     value: &Value,
     tree: Option<&Json<'_>>,
-    depth: usize,
 ) -> Result<(), AllocError>
-    ensures { OnOk result (is_single (view value.now) ≡ true
-        → Looked (Want.Expr, view value.now, written tree.entry) walk.old walk.new) }
+    requires written { IsWritten (written tree) (view value.now) }
+    requires single { is_single (view value.now) ≡ true }
+    ensures looked { OnOk result (Looked (Want.Expr, view value.now, written tree.entry) walk.old walk.new) }
+    ensures good { OnOk result (walk.new.first ≡ None
+        → IsGoodPart (Want.Expr, view value.now, written tree.entry) (step.Member name.now)) }
 {
     let Some(inner) = value.get(name) else {
         return Ok(());
     };
     walk.enter(name)?;
-    form_value(walk, name, inner, member_tree(tree, name), depth)?;
+    form_value(walk, name, inner, member_tree(tree, name))?;
     walk.leave();
     Ok(())
 }
 
-/// Looks at the value of the member of a name of an expression.
+/// Looks at the value of the one member, of a name, of an expression.
 #[cycle(walk)]
 fn form_value(
     walk: &mut Walk,
     name: &str,
     value: &Value,
     tree: Option<&Json<'_>>,
-    depth: usize,
 ) -> Result<(), AllocError>
-    ensures { OnOk result ((d : Data) (t : Written) → get name.now d ≡ Some (view value.now)
+    requires written { IsWritten (written tree) (view value.now) }
+    ensures looked { OnOk result ((d : Data) (t : Written) → get name.now d ≡ Some (view value.now)
         → tree_part (step.Member name.now) t ≡ written tree.entry → is_single d ≡ true
         → Within (Want.Expr, d, t) (step.Member name.now) walk.old walk.new) }
+    ensures good { OnOk result ((d : Data) (t : Written) → get name.now d ≡ Some (view value.now)
+        → tree_part (step.Member name.now) t ≡ written tree.entry → walk.new.first ≡ None
+        → IsGoodPart (Want.Expr, d, t) (step.Member name.now)) }
 {
     match form(name) {
-        Some(want) => look_at(walk, want, value, tree, depth),
+        Some(want) => look_at(walk, want, value, tree),
         None => walk.note(Wrong::UnknownForm),
     }
 }
@@ -334,21 +365,22 @@ fn form_value(
 fn expr(
     walk: &mut Walk,
     value: &Value,
+    members: &BTreeMap<String, Value>,
     tree: Option<&Json<'_>>,
-    depth: usize,
 ) -> Result<(), AllocError>
-    ensures { OnOk result (Looked (Want.Expr, view value.now, written tree.entry) walk.old walk.new) }
+    requires written { IsWritten (written tree) (view value.now) }
+    requires members { view value.now ≡ object (members_view members.now.entries) }
+    ensures looked { OnOk result (Looked (Want.Expr, view value.now, written tree.entry) walk.old walk.new) }
+    ensures good { OnOk result
+        (walk.new.first ≡ None → AreGoodParts (Want.Expr, view value.now, written tree.entry)) }
 {
-    let Value::Object(members) = value else {
-        return Ok(());
-    };
     if members.len() != 1 {
         return walk.note(Wrong::Members(members.len()));
     }
-    for (name, _) in members.iter() {
-        form_member(walk, name.as_str(), value, tree, depth)?;
+    match members.first_key_value() {
+        Some((name, _)) => form_member(walk, name.as_str(), value, tree),
+        None => Ok(()),
     }
-    Ok(())
 }
 
 /// Looks at the items of an array.
@@ -358,13 +390,17 @@ fn array(
     want: Want,
     value: &Value,
     tree: Option<&Json<'_>>,
-    depth: usize,
 ) -> Result<(), AllocError>
-    ensures { OnOk result (Looked (want, view value.now, written tree.entry) walk.old walk.new) }
+    requires written { IsWritten (written tree) (view value.now) }
+    requires array { is_some (as_array (view value.now)) ≡ true }
+    ensures looked { OnOk result (Looked (want, view value.now, written tree.entry) walk.old walk.new) }
+    ensures good { OnOk result
+        (walk.new.first ≡ None → AreGoodParts (want, view value.now, written tree.entry)) }
 {
-    match want {
-        Want::Foreign(Foreign::Edit) => look_at_edit(walk, value),
-        _ => array_items(walk, want, value, tree, depth),
+    if is_edit(want) {
+        look_at_edit(walk, value)
+    } else {
+        array_items(walk, want, value, tree)
     }
 }
 
@@ -375,27 +411,55 @@ fn array_items(
     want: Want,
     value: &Value,
     tree: Option<&Json<'_>>,
-    depth: usize,
 ) -> Result<(), AllocError>
-    ensures { OnOk result (Looked (want, view value.now, written tree.entry) walk.old walk.new) }
+    requires written { IsWritten (written tree) (view value.now) }
+    requires array { is_some (as_array (view value.now)) ≡ true }
+    requires other { is_edit want ≡ false }
+    ensures looked { OnOk result (Looked (want, view value.now, written tree.entry) walk.old walk.new) }
+    ensures good { OnOk result
+        (walk.new.first ≡ None → AreGoodParts (want, view value.now, written tree.entry)) }
 {
     let Some(count) = value.array_len()? else {
         return Ok(());
     };
     if let Some((first, second)) = couple_wants(want) {
-        if count == 2 {
-            item(walk, first, value, 0, tree, depth)?;
-            return item(walk, second, value, 1, tree, depth);
+        if are_frames(want) && count != 2 {
+            return walk.note(Wrong::Frames(count));
         }
-        return match want {
-            Want::Foreign(Foreign::TwoFrames) => walk.note(Wrong::Frames(count)),
-            _ => Ok(()),
-        };
+        return couple(walk, first, second, value, count, tree);
     }
     match item_want(want) {
-        Some(item) => items(walk, item, value, count, tree, depth),
+        Some(item) => items(walk, item, value, count, tree),
         None => Ok(()),
     }
+}
+
+/// Looks at the items of an array that should have two, as far as it has them.
+#[cycle(walk)]
+fn couple(
+    walk: &mut Walk,
+    first: Want,
+    second: Want,
+    value: &Value,
+    count: usize,
+    tree: Option<&Json<'_>>,
+) -> Result<(), AllocError>
+    requires written { IsWritten (written tree) (view value.now) }
+    requires count { count ≡ length (elements (view value.now)) }
+    ensures looked { OnOk result ((w : Want) → item_wanted w 0 ≡ Some first
+        → item_wanted w 1 ≡ Some second → Looked (w, view value.now, written tree.entry) walk.old walk.new) }
+    ensures good { OnOk result ((w : Want) → item_wanted w 0 ≡ Some first
+        → item_wanted w 1 ≡ Some second → walk.new.first ≡ None
+        → AreGoodBefore (w, view value.now, written tree.entry) 2) }
+{
+    if count == 0 {
+        return Ok(());
+    }
+    item(walk, first, value, 0, tree)?;
+    if count == 1 {
+        return Ok(());
+    }
+    item(walk, second, value, 1, tree)
 }
 
 /// Looks at so many items of an array.
@@ -406,14 +470,16 @@ fn items(
     value: &Value,
     count: usize,
     tree: Option<&Json<'_>>,
-    depth: usize,
 ) -> Result<(), AllocError>
-    requires { count ≤ length (elements (view value.now)) }
-    ensures { OnOk result ((w : Want) → ((i : ℕ) → item_wanted w i ≡ Some want)
+    requires written { IsWritten (written tree) (view value.now) }
+    requires count { count ≤ length (elements (view value.now)) }
+    ensures looked { OnOk result ((w : Want) → ((i : ℕ) → item_wanted w i ≡ Some want)
         → Looked (w, view value.now, written tree.entry) walk.old walk.new) }
+    ensures good { OnOk result ((w : Want) → ((i : ℕ) → item_wanted w i ≡ Some want)
+        → walk.new.first ≡ None → AreGoodBefore (w, view value.now, written tree.entry) count) }
 {
     for i in 0..count {
-        item(walk, want, value, i, tree, depth)?;
+        item(walk, want, value, i, tree)?;
     }
     Ok(())
 }
@@ -426,9 +492,9 @@ fn item(
     value: &Value,
     i: usize,
     tree: Option<&Json<'_>>,
-    depth: usize,
 ) -> Result<(), AllocError>
-    requires { i < length (elements (view value.now)) }
+    requires written { IsWritten (written tree) (view value.now) }
+    requires place { i < length (elements (view value.now)) }
     ensures looked { OnOk result ((w : Want) → item_wanted w i ≡ Some want
         → (walk.old.first ≡ None → AreGoodBefore (w, view value.now, written tree.entry) i)
         → Looked (w, view value.now, written tree.entry) walk.old walk.new) }
@@ -437,7 +503,7 @@ fn item(
 {
     let found = value.item(walk.alloc, i)?;
     walk.enter_item(i)?;
-    look_at(walk, want, found.value(), item_tree(tree, i), depth)?;
+    look_at(walk, want, found.value(), item_tree(tree, i))?;
     walk.leave();
     Ok(())
 }

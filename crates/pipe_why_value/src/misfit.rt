@@ -1,11 +1,13 @@
 //! The first place of a value that isn't what a command reads, and what is told of it.
 
 ghost use Rattle.std.specs.Prelude.{◌≡◌, ◌↔◌, None, Some, true, false, IfOk, IfSome, IsUtf8, OnOk};
+ghost use Rattle.serde_json.specs.Read.{read as read_text};
 ghost use Rattle.pipe_value.specs.View.{view};
+ghost use Rattle.pipe_job.specs.Reading.{Reading};
 ghost use Rattle.pipe_why_wants.specs.Wanted.{Misspells, SpellsJob};
 ghost use Rattle.pipe_why_value.specs.Order.{tree_of};
-ghost use Rattle.pipe_why_value.specs.Places.{IsTold, whole_want};
-ghost use Rattle.pipe_why_value.specs.Telling.{TellsOf};
+ghost use Rattle.pipe_why_value.specs.Places.{IsTold, TellsInner, whole_want};
+ghost use Rattle.pipe_why_value.specs.Telling.{Tells};
 ghost use Rattle.pipe_why_value.specs.declared.wrong.Misfit.{Misfit};
 
 use crate::edits::Tables;
@@ -19,9 +21,6 @@ use json::Scratch;
 use pipe_value::Value;
 use pipe_why_wants::{Foreign, Want, is_spelled};
 use std::alloc::{AllocError, Global};
-
-/// Deeper than any value that was read.
-const DEPTH: usize = 130;
 
 /// Whether types may be Int128.
 fn is_wide(value: &Value) -> bool {
@@ -62,15 +61,18 @@ fn is_good_job(alloc: Global, value: &Value, kind: InputKind) -> Result<bool, Al
     }
 }
 
-/// The places of the value of a text at which something else stands than may in an input of a kind.
+/// The places of the value that a text reads as at which something else stands than may in an input of a kind.
 pub fn misfits_of(
     alloc: Global,
     text: &str,
     value: &Value,
     kind: InputKind,
 ) -> Result<Misfits, AllocError>
+    requires { read_text text.now ≡ Some (view value.now) }
     ensures told { IfOk result (λ misfits.
         IfSome misfits.first (IsTold (whole_want kind, view value.now, tree_of text.now))) }
+    ensures innermost { IfOk result (λ misfits.
+        IfSome misfits.first (TellsInner (whole_want kind, view value.now, tree_of text.now))) }
     ensures none { IfOk result (λ misfits.
         kind ≡ InputKind.Job → ((misfits.first ≡ None) ↔ SpellsJob (view value.now))) }
 {
@@ -84,7 +86,7 @@ pub fn misfits_of(
     let tree = tree_of(alloc, text, &mut scratch)?;
     let tables = tables_of(alloc, value, kind)?;
     let mut walk = Walk::new(alloc, is_wide(value), tables);
-    look_at(&mut walk, whole_of(kind), value, Some(&tree), DEPTH)?;
+    look_at(&mut walk, whole_of(kind), value, Some(&tree))?;
     Ok(walk.misfits())
 }
 
@@ -112,8 +114,8 @@ fn text_in(bytes: &[u8]) -> &str
     }
 }
 
-/// Appends the first place of the bytes at which their value isn't what an input of a kind is, and how many further
-/// ones there are; the whole, where no place tells it.
+/// Appends the first place of the bytes at which the value that they read as isn't what an input of a kind is, and how
+/// many further ones there are; the whole, where no place tells it.
 pub fn push_misfit(
     alloc: Global,
     out: &mut String,
@@ -121,8 +123,9 @@ pub fn push_misfit(
     value: &Value,
     kind: InputKind,
 ) -> Result<(), AllocError>
+    requires { Reading bytes.now (view value.now) }
     ensures { OnOk result (kind ≡ InputKind.Job → (SpellsJob (view value.now) → ⊥)
-        → TellsOf (whole_want kind) (view value.now) bytes.now out.old out.new) }
+        → Tells (whole_want kind, view value.now, tree_of bytes.now) out.old out.new) }
 {
     let text = text_in(bytes);
     let Misfits { first, found } = misfits_of(alloc, text, value, kind)?;

@@ -1,9 +1,10 @@
 //! The names and the heights of a frame's columns, each of which is a good one.
 
-ghost use Rattle.std.specs.Prelude.{◌≡◌, ◌+◌, ◌<◌, ◌≤◌, IfOk, OnOk, length};
+ghost use Rattle.std.specs.Prelude.{◌≡◌, ◌+◌, ◌<◌, ◌≤◌, None, IfOk, OnOk, length};
 ghost use Rattle.json.specs.Json.{Json as Written};
 ghost use Rattle.pipe_value.specs.Items.{elements};
 ghost use Rattle.pipe_value.specs.View.{view};
+ghost use Rattle.pipe_why_value.specs.Places.{AreGoodParts};
 ghost use Rattle.pipe_why_value.specs.Walks.{AreNames, Looked};
 
 use crate::walk::{Walk, text_of};
@@ -130,7 +131,9 @@ fn look_at_height(
     wanted: usize,
 ) -> Result<(), AllocError>
     requires { i < length (elements (view columns.now)) }
-    ensures { OnOk result ((t : Written) → Looked (Want.Columns, view columns.now, t) walk.old walk.new) }
+    ensures { OnOk result ((t : Written) → (walk.old.first ≡ None
+        → AreGoodParts (Want.Columns, view columns.now, t))
+        → Looked (Want.Columns, view columns.now, t) walk.old walk.new) }
 {
     let column = columns.item(walk.alloc, i)?;
     let Some(values) = column.value().get("values") else {
@@ -146,7 +149,9 @@ fn look_at_height(
 /// Looks whether each of so many columns has as many cells as it should.
 fn look_at_heights(walk: &mut Walk, columns: &Value, count: usize) -> Result<(), AllocError>
     requires { count ≤ length (elements (view columns.now)) }
-    ensures { OnOk result ((t : Written) → Looked (Want.Columns, view columns.now, t) walk.old walk.new) }
+    ensures { OnOk result ((t : Written) → (walk.old.first ≡ None
+        → AreGoodParts (Want.Columns, view columns.now, t))
+        → Looked (Want.Columns, view columns.now, t) walk.old walk.new) }
 {
     let wanted = wanted_height(walk.alloc, columns, count)?;
     for i in 0..count {
@@ -164,7 +169,9 @@ fn look_at_name(
 ) -> Result<(), AllocError>
     requires place { i < length (elements (view columns.now)) }
     requires names { AreNames (view columns.now) i names.old }
-    ensures looked { OnOk result ((t : Written) → Looked (Want.Columns, view columns.now, t) walk.old walk.new) }
+    ensures looked { OnOk result ((t : Written) → (walk.old.first ≡ None
+        → AreGoodParts (Want.Columns, view columns.now, t))
+        → Looked (Want.Columns, view columns.now, t) walk.old walk.new) }
     ensures names { OnOk result (AreNames (view columns.now) (i + 1) names.new) }
 {
     let alloc = walk.alloc;
@@ -182,7 +189,9 @@ fn look_at_name(
 /// Looks whether each of so many columns has a name that no earlier one has.
 fn look_at_names(walk: &mut Walk, columns: &Value, count: usize) -> Result<(), AllocError>
     requires { count ≤ length (elements (view columns.now)) }
-    ensures { OnOk result ((t : Written) → Looked (Want.Columns, view columns.now, t) walk.old walk.new) }
+    ensures { OnOk result ((t : Written) → (walk.old.first ≡ None
+        → AreGoodParts (Want.Columns, view columns.now, t))
+        → Looked (Want.Columns, view columns.now, t) walk.old walk.new) }
 {
     let mut names = BTreeMap::new(walk.alloc);
     for i in 0..count {
@@ -205,7 +214,9 @@ fn look_at_count(walk: &mut Walk, columns: &Value, count: usize) -> Result<(), A
 
 /// Looks at the columns of a frame, each of which is a good one.
 pub(crate) fn look_at_table(walk: &mut Walk, value: &Value) -> Result<(), AllocError>
-    ensures { OnOk result ((t : Written) → Looked (Want.Frame, view value.now, t) walk.old walk.new) }
+    ensures { OnOk result ((t : Written) → (walk.old.first ≡ None
+        → AreGoodParts (Want.Frame, view value.now, t))
+        → Looked (Want.Frame, view value.now, t) walk.old walk.new) }
 {
     let Some(columns) = value.get("columns") else {
         return Ok(());

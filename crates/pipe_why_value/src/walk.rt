@@ -9,7 +9,7 @@ ghost use Rattle.pipe_value.specs.View.{view};
 ghost use Rattle.pipe_job.specs.Shape.{text_in};
 ghost use Rattle.pipe_why_wants.specs.Members.{HasMember, members_in, members_of, plain, type_of};
 ghost use Rattle.pipe_why_wants.specs.Wanted.{SpellsJob, is_wanted};
-ghost use Rattle.pipe_why_value.specs.Places.{AreGoodBefore, IsBadCell, IsFirst, IsOwn, IsWrong, PassGoodParts, Place, wanted_at};
+ghost use Rattle.pipe_why_value.specs.Places.{AreGoodBefore, AreGoodParts, IsBadCell, IsGood, IsInner, IsOwn, IsWrong, Place, wanted_at};
 ghost use Rattle.pipe_why_value.specs.Walks.{Entered, Left, Looked, Noted};
 
 use crate::cells::bad_cells;
@@ -163,7 +163,8 @@ impl Walk {
 
     /// Takes note of a value that doesn't spell what is wanted, of whose parts nothing was noted.
     pub(crate) fn judge(&mut self, want: Want, value: &Value) -> Result<(), AllocError>
-        ensures looked { OnOk result ((t : Written) → Looked (want, view value.now, t) self.old self.new) }
+        ensures looked { OnOk result ((t : Written) → (self.old.first ≡ None
+            → AreGoodParts (want, view value.now, t)) → Looked (want, view value.now, t) self.old self.new) }
         ensures good { OnOk result
             (self.new.first ≡ None → is_wanted want (view value.now) ≡ true) }
         ensures job { OnOk result
@@ -203,7 +204,9 @@ impl Walk {
             → (self.old.first ≡ None → AreGoodBefore p i)
             → ((steps : List Step) → IsWrong wrong steps e)
             → ((root : Place) (above : List Step) → wanted_at above root ≡ Some p
-            → IsOwn root wrong (above ++ Step.Item i ∷ [])) → Looked p self.old self.new) }
+            → IsOwn root wrong (above ++ Step.Item i ∷ []))
+            → ((root : Place) (steps : List Step) → IsInner root wrong steps)
+            → Looked p self.old self.new) }
         ensures some { OnOk result (IsSome self.new.first) }
     {
         self.enter_item(i)?;
@@ -216,11 +219,10 @@ impl Walk {
     pub(crate) fn note_at(&mut self, i: usize, name: &str, wrong: Wrong) -> Result<(), AllocError>
         ensures { OnOk result ((p : Place) (e f : Data)
             → at i p.1 ≡ Some e → get name.now e ≡ Some f
+            → (self.old.first ≡ None → AreGoodParts p)
             → ((steps : List Step) → IsWrong wrong steps f)
             → ((root : Place) (above : List Step) → wanted_at above root ≡ Some p
             → IsOwn root wrong (above ++ Step.Item i ∷ Step.Member name.now ∷ []))
-            → ((root : Place) (above : List Step) → PassGoodParts above root
-            → IsFirst root wrong (above ++ Step.Item i ∷ Step.Member name.now ∷ []))
             → Looked p self.old self.new) }
     {
         self.enter_item(i)?;
@@ -235,7 +237,8 @@ impl Walk {
     fn missing_member(&mut self, member: &Member, value: &Value) -> Result<(), AllocError>
         ensures { OnOk result ((w : Want)
             → HasMember (members_of w (view value.now)) (plain member.now)
-            → (t : Written) → Looked (w, view value.now, t) self.old self.new) }
+            → (t : Written) → (self.old.first ≡ None → AreGoodParts (w, view value.now, t))
+            → Looked (w, view value.now, t) self.old self.new) }
     {
         match value.get(member.0) {
             Some(_) => Ok(()),
@@ -250,7 +253,8 @@ impl Walk {
         value: &Value,
     ) -> Result<(), AllocError>
         ensures { OnOk result ((w : Want) → members_in known.now ≡ members_of w (view value.now)
-            → (t : Written) → Looked (w, view value.now, t) self.old self.new) }
+            → (t : Written) → (self.old.first ≡ None → AreGoodParts (w, view value.now, t))
+            → Looked (w, view value.now, t) self.old self.new) }
     {
         for member in known {
             self.missing_member(member, value)?;
@@ -295,8 +299,8 @@ impl Walk {
         requires { IsArrayOf (view value.now) count }
         ensures looked { OnOk result
             ((t : Written) → Looked (Want.Cells dtype, view value.now, t) self.old self.new) }
-        ensures good { OnOk result
-            (self.new.first ≡ None → is_wanted (Want.Cells dtype) (view value.now) ≡ true) }
+        ensures good { OnOk result ((t : Written) → self.new.first ≡ None
+            → IsGood (Want.Cells dtype, view value.now, t)) }
     {
         let bad = bad_cells(self.alloc, dtype, value, count)?;
         match bad.first {
@@ -314,8 +318,8 @@ impl Walk {
     ) -> Result<(), AllocError>
         ensures looked { OnOk result
             ((t : Written) → Looked (Want.Cells dtype, view value.now, t) self.old self.new) }
-        ensures good { OnOk result
-            (self.new.first ≡ None → is_wanted (Want.Cells dtype) (view value.now) ≡ true) }
+        ensures good { OnOk result ((t : Written) → self.new.first ≡ None
+            → IsGood (Want.Cells dtype, view value.now, t)) }
     {
         match value.array_len()? {
             Some(count) => self.counted_cells(dtype, parent, value, count),

@@ -1,7 +1,7 @@
 -- The members of objects and the items of arrays, and what may stand at each.
-use Rattle.std.specs.Prelude.{◌≡◌, ◌⊎◌, ℕ, zero, suc, List, [], ◌∷◌, map, codes, Option, Some, None, option_map, option_and_then, if◌then◌else◌}
+use Rattle.std.specs.Prelude.{◌≡◌, ◌⊎◌, ℕ, zero, suc, List, [], ◌∷◌, map, codes, Bool, true, false, Option, Some, None, option_map, option_and_then, if◌then◌else◌}
 use Rattle.std.specs.Borrow.{Bor}
-use Rattle.std.specs.Option.{option_or}
+use Rattle.std.specs.Option.{option_map_or, option_or}
 use Rattle.std.specs.Str.{bytes_eq}
 use Rattle.serde_json.specs.Data.{Data}
 use Rattle.serde_json.specs.Find.{get}
@@ -149,13 +149,22 @@ couple_at zero p = Some p.0
 couple_at (suc zero) p = Some p.1
 couple_at (suc (suc i)) p = None
 
+-- whether an edit is wanted
+abbrev pub is_edit : Want → Bool
+is_edit (want.Foreign foreign.Edit) = true
+is_edit w = false
+
 -- what the three parts of an edit may be
-abbrev pub edit_part : Want → ℕ → Option Want
-edit_part (want.Foreign foreign.Edit) zero = Some (want.Foreign foreign.Side)
-edit_part (want.Foreign foreign.Edit) (suc zero) = Some (want.Foreign foreign.Word)
-edit_part (want.Foreign foreign.Edit) (suc (suc zero)) = Some (want.Foreign foreign.Row)
-edit_part w i = None
+abbrev pub edit_part : ℕ → Option Want
+edit_part zero = Some (want.Foreign foreign.Side)
+edit_part (suc zero) = Some (want.Foreign foreign.Word)
+edit_part (suc (suc zero)) = Some (want.Foreign foreign.Row)
+edit_part (suc (suc (suc i))) = None
+
+-- what may stand at an item of what is no array of two
+abbrev pub plain_item : Want → ℕ → Option Want
+plain_item w i = option_or (list_item w) (if is_edit w then edit_part i else None)
 
 -- what may stand at an item
 abbrev pub item_wanted : Want → ℕ → Option Want
-item_wanted w i = option_or (option_and_then (couple_at i) (couple_items w)) (option_or (list_item w) (edit_part w i))
+item_wanted w i = option_map_or (couple_at i) (couple_items w) (plain_item w i)

@@ -6,11 +6,9 @@ pub returns : goal.returns
 returns c = λ none.
     let told = c.in_ok-push_misfit.ensures refl none in
     record {
-      read = told.read;
-      is_read = told.is_read;
-      misfit = told.tells.misfit;
-      is_told = told.tells.is_told;
-      text = told.tells.begins.0;
-      written = told.tells.begins.1 ∙ ap (λ bytes. bytes ++ told.tells.begins.0) (c.in_ok-push_str.ensures.bytes ∙ ap (λ bytes. bytes ++ codes "not a job: ") c.new-out.ensures.bytes);
-      begins = told.tells.begins.2;
+      misfit = told.misfit;
+      is_told = told.is_told;
+      text = told.begins.0;
+      written = told.begins.1 ∙ ap (λ bytes. bytes ++ told.begins.0) (c.in_ok-push_str.ensures.bytes ∙ ap (λ bytes. bytes ++ codes "not a job: ") c.new-out.ensures.bytes);
+      begins = told.begins.2;
     }

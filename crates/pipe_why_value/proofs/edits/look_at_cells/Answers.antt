@@ -16,5 +16,5 @@ returns c =
     let bad = subst (λ f. IfSome f (IsBadPair d)) c.in-Some.is c.in_ok-place.ensures in
     on_ok c.note_item.result
     (λ looked t. looked (want.Foreign foreign.Row, d, t) (slice_index_or (elements d) place null) (item_there d place bad.0) (λ none. row_cells d t place) (λ steps. bad.1)
-    (λ root above here. record { above = above; place = place; steps_are = refl; stands = inr (d, t, here) }))
+    (λ root above here. record { above = above; place = place; steps_are = refl; stands = inr (d, t, here) }) (λ root steps. tt))
     c.note_item.ensures.looked

@@ -9,5 +9,5 @@ pub returns-then-cells-columns : goal.returns-then-cells-columns
 returns-then-cells-columns c =
     let d = view c.args.row.now in
     on_ok c.note.result
-    (λ noted t. noted_here (want.Foreign foreign.Row, d, t) _ c.args.walk.now c.note.new.self noted (sym c.requires, c.if-cells-columns.true) (λ root here. (d, t, here)))
+    (λ noted t. noted_here (want.Foreign foreign.Row, d, t) _ c.args.walk.now c.note.new.self noted (sym c.requires, c.if-cells-columns.true) (λ root here. (d, t, here)) (λ root here none. tt))
     c.note.ensures.noted

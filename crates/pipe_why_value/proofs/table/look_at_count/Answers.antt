@@ -10,7 +10,7 @@ pub returns-then-count-eq0 : goal.returns-then-count-eq0
 returns-then-count-eq0 c =
     let d = view c.args.columns.now in
     on_ok c.note.result
-    (λ noted t. noted_here (want.Columns, d, t) wrong.NoColumns c.args.walk.now c.note.new.self noted (empty (elements d) (sym c.requires ∙ c.if-count-eq0.true)) (λ root here. (d, t, here)))
+    (λ noted t. noted_here (want.Columns, d, t) wrong.NoColumns c.args.walk.now c.note.new.self noted (empty (elements d) (sym c.requires ∙ c.if-count-eq0.true)) (λ root here. (d, t, here)) (λ root here none. tt))
     c.note.ensures.noted
 
 pub returns-else-count-eq0 : goal.returns-else-count-eq0

@@ -8,7 +8,7 @@ use Rattle.pipe_value.specs.View.{view}
 use Rattle.pipe_job.specs.Shape.{text_in}
 use Rattle.pipe_why_wants.specs.declared.want.Want.TheVariants as want
 use Rattle.pipe_why_value.specs.Places.{name_at}
-use Rattle.pipe_why_value.proofs.Looks.{item_there, ok_all, on_ok, passed_above}
+use Rattle.pipe_why_value.proofs.Looks.{item_there, ok_all, on_ok}
 use Rattle.pipe_why_value.proofs.Names.{names_kept, names_put}
 use Rattle.pipe_why_value.proofs.table.look_at_name.Goals as goal
 
@@ -21,9 +21,9 @@ returns-in-Some-2-clause-looked c =
     let here : name_at d i ≡ bytes = ap (λ e. text_in (get (codes "name") e)) column ∙ sym (ap text_in c.in-Some.ensures) ∙ sym (c.in_ok-name.ensures.ok ∙ c.text_of.ensures) in
     let was = c.requires.names bytes c.in-Some-2.earlier (sym c.in_ok-earlier.ensures.old ∙ c.in-Some-2.is) in
     on_ok c.note_at.result
-    (λ looked t. looked (want.Columns, d, t) (view c.value.result.now) (view c.in-Some.name.now)
+    (λ looked t good. looked (want.Columns, d, t) (view c.value.result.now) (view c.in-Some.name.now)
     (item_there d i c.requires.place ∙ ap Some column)
-    (sym c.in-Some.ensures)
+    (sym c.in-Some.ensures) good
     (λ steps. tt)
     (λ root above at. record {
       above = above;
@@ -34,8 +34,7 @@ returns-in-Some-2-clause-looked c =
       stands = at;
       before = was.0;
       same = was.1 ∙ sym here;
-    })
-    (λ root above passed. passed_above above _ _ root passed))
+    }))
     c.note_at.ensures
 
 pub returns-in-Some-2-clause-names : goal.returns-in-Some-2-clause-names

@@ -1,11 +1,13 @@
+use Rattle.std.proofs.Common.{◌≡◌, None}
 use Rattle.json.specs.Json.{Json}
 use Rattle.pipe_value.specs.View.{view}
 use Rattle.pipe_why_wants.specs.declared.want.Want.TheVariants as want
+use Rattle.pipe_why_value.specs.Places.{AreGoodParts}
 use Rattle.pipe_why_value.specs.Walks.{AreNames, Looked}
 use Rattle.pipe_why_value.proofs.table.look_at_names.Given as goal
 
 abbrev pub invariant-loop-i : goal.invariant-loop-i
 invariant-loop-i l = record {
-  looked : (t : Json) → Looked (want.Columns, view l.columns, t) l.fn.walk l.walk;
+  looked : (t : Json) → (l.fn.walk.first ≡ None → AreGoodParts (want.Columns, view l.columns, t)) → Looked (want.Columns, view l.columns, t) l.fn.walk l.walk;
   names : AreNames (view l.columns) l.i l.names;
 }

@@ -13,7 +13,7 @@ returns-clause-looked c = λ d t bad before.
     let p : Place = (want.Cells c.args.dtype, d, t) in
     looked_twice p c.args.self.now c.note_item.new.self _
     (c.in_ok-note_item.ensures.looked p (slice_index_or (elements d) row null) (item_there d row bad.0) before (λ steps. bad.1)
-    (λ root above here. record { above = above; place = row; steps_are = refl; stands = inl (d, t, here) }))
+    (λ root above here. record { above = above; place = row; steps_are = refl; stands = inl (d, t, here) }) (λ root steps. tt))
     (looked_none p c.note_item.new.self _ refl refl)
 
 pub returns-clause-some : goal.returns-clause-some
