@@ -5,17 +5,27 @@ use Rattle.std.specs.Str.{bytes_eq}
 use Rattle.std.proofs.lemmas.Slice.Eq.{bytes_eq-Decides}
 use Rattle.pipe_frame.specs.Counts.{Counts}
 use Rattle.pipe_outside.specs.Outside.{InputSeen, OutputSeen, ReadFails, WriteFails, WritesFront, Writes}
-use Rattle.pipe_job.specs.JobSpelling.{Task}
+use Rattle.serde_json.specs.Data.{Data}
+use Rattle.pipe_exec.specs.Sound.{CheckCauses}
+use Rattle.pipe_faults.specs.FaultLine.{fault_status}
+use Rattle.pipe_job.specs.JobSpelling.{Spells, Task}
+use Rattle.pipe_job.specs.Reading.{Reading, ReadsJob}
+use Rattle.pipe_plan.specs.declared.error.PipeError.{PipeError}
+use Rattle.pipe_why.specs.Heads.{fault_head}
+use Rattle.pipe_why_wants.specs.Wanted.{SpellsJob}
+use Rattle.pipe_why_value.specs.Places.{kind_of}
+use Rattle.pipe_why_value.specs.Telling.{TellsNoJob}
+use Rattle.pipe_why_value.specs.declared.input_kind.InputKind.TheVariants as kind
 use Rattle.pipe_cli.specs.Commands.{Request, Why, contract_of, request, source_of, word_request, named_request}
 use Rattle.pipe_cli.specs.Commands.CheckCommand.{ok_text}
 use Rattle.pipe_cli.specs.Commands.WhyCommand.{IsGoodText, why}
 use Rattle.pipe_cli.specs.Contract.{Answered, NoInput, Nothing, OfInput, RefusedAs, Short, ShortGood, Told, TooWide, Unread}
 use Rattle.pipe_cli.specs.Jobs.{IsLookedAt, job_kind}
 use Rattle.pipe_cli.specs.Outcome.{AsksNoInput, Noted, OfOutput, WroteFrontOn, WroteFrontTold, WroteOn, WroteTold, asks_run, is_asked, is_run}
-use Rattle.pipe_cli.specs.Refused.{OfReading}
+use Rattle.pipe_cli.specs.Refused.{OfReading, Tells}
 use Rattle.pipe_cli.specs.Sources.{HasAll, IsLongOn, IsTakenInPart, IsTooMany, Nowhere, WasRead, bytes_at, limit, standard_or}
 use Rattle.pipe_cli.specs.Status.{IsFixed, OneOf, line_of, status_line, status_of, yes_of}
-use Rattle.pipe_cli.specs.Whys.{NotedWhy, OfText, ShortAnswered, WhyEnds, WroteText, asks_why, told_statuses}
+use Rattle.pipe_cli.specs.Whys.{NotedWhy, OfFault, OfText, ShortAnswered, TellsFaultOf, TellsOf, TellsPlace, WhyEnds, WroteOf, WroteText, WroteWhy, asks_why, told_statuses}
 use Rattle.pipe_cli.specs.declared.status.Refusal.{Refusal}
 use Rattle.pipe_cli.specs.declared.status.Refusal.TheVariants as refusal
 use Rattle.pipe_cli.proofs.Lawful.{lawful}
@@ -46,6 +56,66 @@ early_few n h = among (2 ∷ 3 ∷ 10 ∷ []) told_statuses refl n h
 
 pub few_why : (n : ℕ) → OneOf told_statuses n → OneOf why.statuses n
 few_why n h = among told_statuses why.statuses refl n h
+
+-- ---- what is told of bytes
+
+-- a place of a value that spells no job
+pub place_told : (text bytes : List ℕ) (value : Data) → Reading bytes value → ((job : Task) → Spells value job → ⊥)
+    → (kind_of value ≡ kind.Job → (SpellsJob value → ⊥) → TellsNoJob value bytes text) → TellsPlace text bytes
+place_told text bytes value reading none tells = record {
+  value = value;
+  reading = reading;
+  tells = λ job. tells job (λ spelled. none spelled.0 spelled.1);
+}
+
+-- the error by which a job is refused
+pub fault_told : (r : Refusal) (text : List ℕ) (job : Task) (e : PipeError) → CheckCauses job.plan job.root job.config e → Tells r e
+    → (more : List ℕ) × (text ≡ fault_head e ++ more) → OfFault r text job
+fault_told refusal.BadWords text job e h t told = tt
+fault_told refusal.ReadFault text job e h t told = tt
+fault_told refusal.TooLong text job e h t told = tt
+fault_told refusal.NotJson text job e h t told = tt
+fault_told refusal.NotJob text job e h t told = t
+fault_told (refusal.Fault line) text job e (inl m) t told = absurd (let ten : 6 ≡ 10 = t.0 ∙ ap fault_status m in omega (arith, ten))
+fault_told (refusal.Fault line) text job e (inr h) t told = record { error = e; refused = h; status_is = t.0; more = told.0; begins = told.1 }
+fault_told (refusal.TooMany line) text job e (inl m) t told = absurd (let ten : 7 ≡ 10 = t.0 ∙ ap fault_status m in omega (arith, ten))
+fault_told (refusal.TooMany line) text job e (inr h) t told = record { error = e; refused = h; status_is = t.0; more = told.0; begins = told.1 }
+fault_told refusal.Stopped text job e h t told = tt
+fault_told refusal.WriteFault text job e h t told = tt
+fault_told refusal.Memory text job e h t told = tt
+
+-- of the job that bytes are
+pub fault_of_bytes : (r : Refusal) (text bytes : List ℕ) (job : Task) → ReadsJob bytes job → OfFault r text job → TellsOf r text bytes
+fault_of_bytes refusal.BadWords text bytes job read h = tt
+fault_of_bytes refusal.ReadFault text bytes job read h = tt
+fault_of_bytes refusal.TooLong text bytes job read h = tt
+fault_of_bytes refusal.NotJson text bytes job read h = tt
+fault_of_bytes refusal.NotJob text bytes job read h = absurd h
+fault_of_bytes (refusal.Fault line) text bytes job read h = record { job = job; read = read; tells = h }
+fault_of_bytes (refusal.TooMany line) text bytes job read h = record { job = job; read = read; tells = h }
+fault_of_bytes refusal.Stopped text bytes job read h = tt
+fault_of_bytes refusal.WriteFault text bytes job read h = tt
+fault_of_bytes refusal.Memory text bytes job read h = tt
+
+early_of : (r : Refusal) (text bytes : List ℕ) → OneOf (2 ∷ 3 ∷ 10 ∷ []) (status_of r) → TellsOf r text bytes
+early_of refusal.BadWords text bytes o = tt
+early_of refusal.ReadFault text bytes o = tt
+early_of refusal.TooLong text bytes o = tt
+early_of refusal.NotJson text bytes o = tt
+early_of refusal.NotJob text bytes o = absurd (apart (2 ∷ 3 ∷ 10 ∷ []) 5 refl o)
+early_of (refusal.Fault line) text bytes o = absurd (apart (2 ∷ 3 ∷ 10 ∷ []) 6 refl o)
+early_of (refusal.TooMany line) text bytes o = absurd (apart (2 ∷ 3 ∷ 10 ∷ []) 7 refl o)
+early_of refusal.Stopped text bytes o = tt
+early_of refusal.WriteFault text bytes o = tt
+early_of refusal.Memory text bytes o = tt
+
+pub early_told : (r : Refusal) (text : List ℕ) (told : Option (List ℕ)) → OneOf (2 ∷ 3 ∷ 10 ∷ []) (status_of r) → IfSome told (TellsOf r text)
+early_told r text None o = tt
+early_told r text (Some bytes) o = early_of r text bytes o
+
+pub all_told : (r : Refusal) (text bytes : List ℕ) (told : Option (List ℕ)) → HasAll bytes told → TellsOf r text bytes → IfSome told (TellsOf r text)
+all_told r text bytes None all h = tt
+all_told r text bytes (Some b) all h = subst (TellsOf r text) all h
 
 -- ---- the answer
 
@@ -123,7 +193,60 @@ text_of refusal.Memory front out now o w = w
 pub told_text : {X E : Type 0} (r : Refusal) (w : Result X E) (text : List ℕ) (front : Type 0) (out now : OutputSeen) → OneOf told_statuses (status_of r) → OnOk w (Writes text out now) → OnErr w (WritesFront text out now) → OfText r front out now
 told_text r w text front out now o ok err = text_of r front out now o (some_text w text out now ok err)
 
+some_front : {X E : Type 0} (w : Result X E) (text : List ℕ) (out now : OutputSeen) → OnOk w (Writes text out now) → OnErr w (WritesFront text out now) → WritesFront text out now
+some_front (Ok x) text out now ok err = all_is_front text out now ok
+some_front (Err e) text out now ok err = err
+
+wrote_by : (T : List ℕ → List ℕ → Type 0) (text : List ℕ) (told : Option (List ℕ)) (out now : OutputSeen) → IfSome told (T text) → WritesFront text out now → IfSome told (WroteWhy T out now)
+wrote_by T text None out now t w = tt
+wrote_by T text (Some bytes) out now t w = record { text = text; told = t; wrote = w }
+
+wrote_front : (r : Refusal) (text : List ℕ) (told : Option (List ℕ)) (out now : OutputSeen) → IfSome told (TellsOf r text) → WritesFront text out now → WroteOf r told out now
+wrote_front refusal.BadWords text told out now t w = tt
+wrote_front refusal.ReadFault text told out now t w = tt
+wrote_front refusal.TooLong text told out now t w = tt
+wrote_front refusal.NotJson text told out now t w = tt
+wrote_front refusal.NotJob text told out now t w = wrote_by TellsPlace text told out now t w
+wrote_front (refusal.Fault line) text told out now t w = wrote_by (TellsFaultOf 6) text told out now t w
+wrote_front (refusal.TooMany line) text told out now t w = wrote_by (TellsFaultOf 7) text told out now t w
+wrote_front refusal.Stopped text told out now t w = tt
+wrote_front refusal.WriteFault text told out now t w = tt
+wrote_front refusal.Memory text told out now t w = tt
+
+pub wrote_of : {X E : Type 0} (r : Refusal) (w : Result X E) (text shown : List ℕ) (told : Option (List ℕ)) (out now : OutputSeen) → shown ≡ text → IfSome told (TellsOf r text)
+    → OnOk w (Writes shown out now) → OnErr w (WritesFront shown out now) → WroteOf r told out now
+wrote_of r w text shown told out now same t ok err =
+    wrote_front r text told out now t (subst (λ (s : List ℕ). WritesFront s out now) same (some_front w shown out now ok err))
+
+pub fault_wrote : {X : Type 0} (r : Result X Refusal) (told : Option (List ℕ)) (out now : OutputSeen) → IfErr r (λ e. e ≡ refusal.WriteFault) → IfErr r (λ e. WroteOf e told out now)
+fault_wrote (Ok x) told out now e = tt
+fault_wrote (Err f) told out now e = fault_is (λ (s : Refusal). WroteOf s told out now) f e tt
+
 -- ---- a run that was refused
+
+place_of : (r : Refusal) (told : Option (List ℕ)) (out written : OutputSeen) → WroteOf r told out written → status_of r ≡ 5 → IfSome told (WroteWhy TellsPlace out written)
+place_of refusal.BadWords told out written h e = absurd (omega (arith, e))
+place_of refusal.ReadFault told out written h e = absurd (omega (arith, e))
+place_of refusal.TooLong told out written h e = absurd (omega (arith, e))
+place_of refusal.NotJson told out written h e = absurd (omega (arith, e))
+place_of refusal.NotJob told out written h e = h
+place_of (refusal.Fault line) told out written h e = absurd (omega (arith, e))
+place_of (refusal.TooMany line) told out written h e = absurd (omega (arith, e))
+place_of refusal.Stopped told out written h e = absurd (omega (arith, e))
+place_of refusal.WriteFault told out written h e = absurd (omega (arith, e))
+place_of refusal.Memory told out written h e = absurd (omega (arith, e))
+
+fault_of : (r : Refusal) (told : Option (List ℕ)) (out written : OutputSeen) → WroteOf r told out written → OneOf (6 ∷ 7 ∷ []) (status_of r) → IfSome told (WroteWhy (TellsFaultOf (status_of r)) out written)
+fault_of refusal.BadWords told out written h f = absurd (apart (6 ∷ 7 ∷ []) 1 refl f)
+fault_of refusal.ReadFault told out written h f = absurd (apart (6 ∷ 7 ∷ []) 2 refl f)
+fault_of refusal.TooLong told out written h f = absurd (apart (6 ∷ 7 ∷ []) 3 refl f)
+fault_of refusal.NotJson told out written h f = absurd (apart (6 ∷ 7 ∷ []) 4 refl f)
+fault_of refusal.NotJob told out written h f = absurd (apart (6 ∷ 7 ∷ []) 5 refl f)
+fault_of (refusal.Fault line) told out written h f = h
+fault_of (refusal.TooMany line) told out written h f = h
+fault_of refusal.Stopped told out written h f = absurd (apart (6 ∷ 7 ∷ []) 8 refl f)
+fault_of refusal.WriteFault told out written h f = absurd (apart (6 ∷ 7 ∷ []) 9 refl f)
+fault_of refusal.Memory told out written h f = absurd (apart (6 ∷ 7 ∷ []) 10 refl f)
 
 settled : (r : Refusal) (told : Option (List ℕ)) (out written : OutputSeen) → OfText r (WroteFrontTold why told out written) out written → (now : OutputSeen) × OfOutput why r told out now
 settled refusal.BadWords told out written k = (out, refl)
@@ -202,8 +325,8 @@ no_stop n o (inr (inr (inr (inr (inr h))))) = absurd h
 
 pub why_refused : (name : Option (List ℕ)) (r : Refusal) (input now : InputSeen) (out written notes noted : OutputSeen) → OneOf why.statuses (status_of r) → (status_of r ≡ 0 → ⊥) → OfReading r (bytes_at (standard_or name) input) input now
     → (status_of r ≡ 3 → IsTakenInPart (standard_or name) input now) → OfInput why r (bytes_at (standard_or name) input) → OfText r (WroteFrontTold why (bytes_at (standard_or name) input) out written) out written → Noted (line_of r) notes noted
-    → WhyEnds name (status_of r) input now out written notes noted
-why_refused name r input now out written notes noted o z d m t k n =
+    → WroteOf r (bytes_at (standard_or name) input) out written → WhyEnds name (status_of r) input now out written notes noted
+why_refused name r input now out written notes noted o z d m t k n x =
     let told : Option (List ℕ) = bytes_at (standard_or name) input in
     let front : Type 0 = WroteFrontTold why told out written in
     let past = settled r told out written k in
@@ -226,6 +349,8 @@ why_refused name r input now out written notes noted o z d m t k n =
       if_many = λ h. refused_status why (lawful (Why name)) 7 r told out past.0 w t past.1 h;
       complete = λ h. no_stop (status_of r) o (good_status why (lawful (Why name)) r told input now w d t h);
       text = λ n f. some_written r front out written k f;
+      place = place_of r told out written x;
+      fault = fault_of r told out written x;
       front = front_written r front out written k;
       fixed = noted_fixed r notes noted n;
       told = told_why r told notes noted t n;
@@ -265,6 +390,8 @@ why_written name input now out written notes whole wrote = record {
   if_many = λ h. absurd (refused_ran_by 7 (Some (Why name)) input out written wrote h);
   complete = λ h. inl refl;
   text = λ n f. absurd (n refl);
+  place = λ e. absurd (omega (arith, e));
+  fault = λ f. absurd (apart (6 ∷ 7 ∷ []) 0 refl f);
   front = λ e. absurd (omega (arith, e));
   fixed = λ f. absurd (apart (1 ∷ 2 ∷ 3 ∷ 4 ∷ 5 ∷ 8 ∷ 9 ∷ 10 ∷ []) 0 refl f);
   told = λ f. absurd (apart (6 ∷ 7 ∷ []) 0 refl f);

@@ -1,7 +1,7 @@
 //! `why`: a job is read and looked at, and what keeps it from being run is told in words for people; or that nothing does,
 //! and what it will do.
 
-ghost use Rattle.std.specs.Prelude.{◌≡◌, ◌≤◌, ◌∷◌, [], length, IfOk, IfErr, IfSome, IsErrOf, OnOk};
+ghost use Rattle.std.specs.Prelude.{◌≡◌, ◌≤◌, ◌∷◌, [], length, string_bytes, IfOk, IfErr, IfSome, IsErrOf, OnOk};
 ghost use Rattle.std.specs.Option.{option_copied};
 ghost use Rattle.pipe_value.specs.View.{view};
 ghost use Rattle.pipe_job.specs.JobSpelling.{task_of};
@@ -13,7 +13,7 @@ ghost use Rattle.pipe_cli.specs.Outcome.{WroteFrontTold, WroteTold};
 ghost use Rattle.pipe_cli.specs.Refused.{OfReading};
 ghost use Rattle.pipe_cli.specs.Sources.{HasAll, IsTakenInPart, WasRead, bytes_at, limit, standard_or};
 ghost use Rattle.pipe_cli.specs.Status.{OneOf, status_of, yes_of};
-ghost use Rattle.pipe_cli.specs.Whys.{OfText, ShortAnswered, WhyEnds, asks_why, name_in, told_statuses};
+ghost use Rattle.pipe_cli.specs.Whys.{OfFault, OfText, ShortAnswered, TellsOf, WhyEnds, WroteOf, asks_why, name_in, told_statuses};
 
 use crate::program::note;
 use crate::refused::refused;
@@ -50,32 +50,34 @@ pub(crate) fn name_in(words: &[Text]) -> Option<&Text>
     }
 }
 
-/// The value that the bytes read as; where they are no JSON text, what is told of that is put.
+/// The value that the bytes read as; where they are no JSON text, what is told is that.
 fn value_in(alloc: Global, bytes: &[u8], told: &mut String) -> Result<Value, Refusal>
     ensures ok { IfOk result (λ value. Reading bytes.now (view value)) }
     ensures err { IfErr result (λ refusal. Unread job_kind refusal bytes.now) }
+    ensures tells { IfErr result (λ refusal. TellsOf refusal (string_bytes told.new) bytes.now) }
 {
     match read_value(alloc, bytes) {
         Ok(value) => Ok(value),
         Err(JobError::BadText) => {
-            told.push_str(bad_json(alloc, bytes)?.as_str())?;
+            *told = bad_json(alloc, bytes)?;
             Err(Refusal::NotJson)
         }
         Err(_) => Err(Refusal::Memory),
     }
 }
 
-/// The job that the bytes spell; where they spell none, what is told of that is put.
+/// The job that the bytes spell; where they spell none, what is told is a place of them that keeps them from it.
 #[tactic(auto, using(crate::proofs::JobLemmas::job_read, crate::proofs::JobLemmas::no_job_read))]
 fn job_in(alloc: Global, bytes: &[u8], told: &mut String) -> Result<Job, Refusal>
     ensures ok { IfOk result (λ job. ReadsJob bytes.now (task_of job)) }
     ensures err { IfErr result (λ refusal. Unread job_kind refusal bytes.now) }
+    ensures tells { IfErr result (λ refusal. TellsOf refusal (string_bytes told.new) bytes.now) }
 {
     let value = value_in(alloc, bytes, told)?;
     match job_of(alloc, &value) {
         Ok(Some(job)) => Ok(job),
         Ok(None) => {
-            told.push_str(misfit_text(alloc, bytes, &value)?.as_str())?;
+            *told = misfit_text(alloc, bytes, &value)?;
             Err(Refusal::NotJob)
         }
         Err(_) => Err(Refusal::Memory),
@@ -93,12 +95,14 @@ fn good_text(alloc: Global, plan: &CheckedPlan, row_limit: u32) -> Result<Vec<u8
     Ok(text)
 }
 
-/// The answer to a job; where it can't be run, what is told of that is put.
-#[tactic(auto, using(crate::proofs::JobLemmas::looked_at))]
+/// The answer to a job; where it can't be run, what is told is its fault.
+#[tactic(auto, using(crate::proofs::JobLemmas::looked_at, crate::proofs::WhyLemmas::fault_told))]
 fn look_at(alloc: Global, job: &Job, told: &mut String) -> Result<Vec<u8>, Refusal>
     ensures sound { OnOk result (IsSoundJob (task_of job.now)) }
     ensures good { IfOk result (λ text. IsGoodText text.items) }
     ensures err { IfErr result (λ refusal. IsLookedAt refusal (task_of job.now)) }
+    ensures fault { IfErr result (λ refusal.
+        OfFault refusal (string_bytes told.new) (task_of job.now)) }
 {
     match check_job(alloc, &job.arena, job.root, &job.config) {
         Ok(plan) => {
@@ -106,18 +110,19 @@ fn look_at(alloc: Global, job: &Job, told: &mut String) -> Result<Vec<u8>, Refus
             Ok(text)
         }
         Err(error) => {
-            told.push_str(fault_text(alloc, job, &error)?.as_str())?;
+            *told = fault_text(alloc, job, &error)?;
             Err(refused(alloc, error))
         }
     }
 }
 
-/// The answer to the job that the bytes are; where there is none, what is told of that is put.
-#[tactic(auto, using(crate::proofs::JobLemmas::unread_looked, crate::proofs::WhyLemmas::unread_few, crate::proofs::JobLemmas::looked_told, crate::proofs::WhyLemmas::looked_few, crate::proofs::JobLemmas::looked_answer))]
+/// The answer to the job that the bytes are; where there is none, what is told is why.
+#[tactic(auto, using(crate::proofs::JobLemmas::unread_looked, crate::proofs::WhyLemmas::unread_few, crate::proofs::JobLemmas::looked_told, crate::proofs::WhyLemmas::looked_few, crate::proofs::JobLemmas::looked_answer, crate::proofs::WhyLemmas::fault_of_bytes))]
 fn answer_to(alloc: Global, bytes: &[u8], told: &mut String) -> Result<Vec<u8>, Refusal>
     ensures ok { IfOk result (λ text. Answered why bytes.now text.items) }
     ensures err { IfErr result (λ r. Causes why r bytes.now) }
     ensures only { IfErr result (λ r. OneOf told_statuses (status_of r)) }
+    ensures tells { IfErr result (λ r. TellsOf r (string_bytes told.new) bytes.now) }
 {
     let job = job_in(alloc, bytes, told)?;
     let text = look_at(alloc, &job, told)?;
@@ -169,8 +174,8 @@ fn input_at<R: JobReader>(
     }
 }
 
-/// The answer to an input; where there is none, what is told of that is put.
-#[tactic(auto, using(crate::proofs::WhyLemmas::early_few, crate::proofs::WhyLemmas::short_answered, crate::proofs::RuleLemmas::early_input, crate::proofs::RuleLemmas::input_told, crate::proofs::RuleLemmas::caused_reading, crate::proofs::RuleLemmas::caused_short))]
+/// The answer to an input; where there is none, what is told is why.
+#[tactic(auto, using(crate::proofs::WhyLemmas::early_few, crate::proofs::WhyLemmas::short_answered, crate::proofs::RuleLemmas::early_input, crate::proofs::RuleLemmas::input_told, crate::proofs::RuleLemmas::caused_reading, crate::proofs::RuleLemmas::caused_short, crate::proofs::WhyLemmas::early_told, crate::proofs::WhyLemmas::all_told))]
 fn answer_at<R: JobReader>(
     alloc: Global,
     name: Option<&Text>,
@@ -190,13 +195,16 @@ fn answer_at<R: JobReader>(
     ensures input { IfErr result (λ r.
         OfInput why r (bytes_at (standard_or (option_copied name.entry)) (R.seen input.old))) }
     ensures only { IfErr result (λ r. OneOf told_statuses (status_of r)) }
+    ensures tells { IfErr result (λ r.
+        IfSome (bytes_at (standard_or (option_copied name.entry)) (R.seen input.old))
+        (TellsOf r (string_bytes told.new))) }
 {
     let bytes = input_at(alloc, name, input, told)?;
     answer_to(alloc, bytes.as_slice(), told)
 }
 
 /// Reads an input, and writes the answer to it, or what is told of why there is none.
-#[tactic(auto, using(crate::proofs::WhyLemmas::wrote_answer, crate::proofs::WhyLemmas::unwritten_answer, crate::proofs::WhyLemmas::fault_reading, crate::proofs::WhyLemmas::fault_input, crate::proofs::WhyLemmas::fault_only, crate::proofs::WhyLemmas::fault_short, crate::proofs::WhyLemmas::told_text, crate::proofs::WhyLemmas::few_why))]
+#[tactic(auto, using(crate::proofs::WhyLemmas::wrote_answer, crate::proofs::WhyLemmas::unwritten_answer, crate::proofs::WhyLemmas::fault_reading, crate::proofs::WhyLemmas::fault_input, crate::proofs::WhyLemmas::fault_only, crate::proofs::WhyLemmas::fault_short, crate::proofs::WhyLemmas::told_text, crate::proofs::WhyLemmas::few_why, crate::proofs::WhyLemmas::wrote_of, crate::proofs::WhyLemmas::fault_wrote))]
 fn tell_at<R: JobReader, W: RowWriter>(
     alloc: Global,
     name: Option<&Text>,
@@ -219,6 +227,9 @@ fn tell_at<R: JobReader, W: RowWriter>(
         (bytes_at (standard_or (option_copied name.entry)) (R.seen input.old))
         (W.seen out.old) (W.seen out.new)) (W.seen out.old) (W.seen out.new)) }
     ensures only { IfErr result (λ r. OneOf why.statuses (status_of r)) }
+    ensures told { IfErr result (λ r. WroteOf r
+        (bytes_at (standard_or (option_copied name.entry)) (R.seen input.old))
+        (W.seen out.old) (W.seen out.new)) }
 {
     let mut told = String::new(alloc);
     match answer_at(alloc, name, input, &mut told) {
