@@ -1,10 +1,10 @@
 //! Events, read from values.
 
 use crate::items::items_of;
-use crate::keys::key_of;
+use crate::keys::{KeyTypes, key_of};
 use pipe_events::{Event, Side};
-use pipe_frame::{List, Row};
-use pipe_stages::{Stage, StagedPlan};
+use pipe_frame::List;
+use pipe_plan::Arena;
 use pipe_value::Item;
 use std::alloc::{AllocError, Global};
 
@@ -53,16 +53,8 @@ fn flush_of(items: &[Item]) -> Option<Event> {
     })
 }
 
-/// The key at a join that some values spell, none where there is no join.
-fn key_at(alloc: Global, plan: &StagedPlan, join: u32, values: &[Item]) -> Result<Row, AllocError> {
-    match plan.stage(join as usize) {
-        Stage::Joined(join) => key_of(alloc, &join, values),
-        _ => Ok(Row::new(alloc)),
-    }
-}
-
 /// A mark.
-fn mark_of(alloc: Global, plan: &StagedPlan, items: &[Item]) -> Result<Option<Event>, AllocError> {
+fn mark_of(alloc: Global, types: &KeyTypes, items: &[Item]) -> Result<Option<Event>, AllocError> {
     let (Some(worker), Some(join)) = (number_at(items, 1), number_at(items, 2)) else {
         return Ok(None);
     };
@@ -71,7 +63,7 @@ fn mark_of(alloc: Global, plan: &StagedPlan, items: &[Item]) -> Result<Option<Ev
     };
     match items_of(alloc, spelled.value())? {
         Some(values) => {
-            let key = key_at(alloc, plan, join, values.as_slice())?;
+            let key = key_of(alloc, types, join, values.as_slice())?;
             Ok(Some(Event::Mark { worker, join, key }))
         }
         None => Ok(None),
@@ -79,14 +71,14 @@ fn mark_of(alloc: Global, plan: &StagedPlan, items: &[Item]) -> Result<Option<Ev
 }
 
 /// The event that the items of an array spell.
-fn event_of(alloc: Global, plan: &StagedPlan, items: &[Item]) -> Result<Option<Event>, AllocError> {
+fn event_of(alloc: Global, types: &KeyTypes, items: &[Item]) -> Result<Option<Event>, AllocError> {
     let Some(first) = items.first() else {
         return Ok(None);
     };
     match first.value().as_str() {
         Some(word) => match word {
             "Take" => Ok(take_of(items)),
-            "Mark" => mark_of(alloc, plan, items),
+            "Mark" => mark_of(alloc, types, items),
             "Emit" => Ok(number_at(items, 1).map(|worker| Event::Emit { worker })),
             "Done" => Ok(number_at(items, 1).map(|worker| Event::Done { worker })),
             "Close" => Ok(close_of(items)),
@@ -100,15 +92,16 @@ fn event_of(alloc: Global, plan: &StagedPlan, items: &[Item]) -> Result<Option<E
 /// The events that values spell, up to the first that spells none.
 pub(crate) fn events_of(
     alloc: Global,
-    plan: &StagedPlan,
+    arena: &Arena,
     values: &[Item],
 ) -> Result<List<Event>, AllocError> {
+    let types = KeyTypes::of(alloc, arena)?;
     let mut events = List::new(alloc);
     for value in values {
         let Some(items) = items_of(alloc, value.value())? else {
             return Ok(events);
         };
-        match event_of(alloc, plan, items.as_slice())? {
+        match event_of(alloc, &types, items.as_slice())? {
             Some(event) => events.push(event)?,
             None => return Ok(events),
         }

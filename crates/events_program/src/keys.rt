@@ -1,8 +1,9 @@
 //! Keys of marks, read by the types of a join's keys.
 
 use pipe_expr::expr_type;
-use pipe_frame::{AnyValue, Bytes, DataType, Row, Text};
-use pipe_stages::JoinStage;
+use pipe_frame::{AnyValue, Bytes, DataType, Field, List, Row, Text};
+use pipe_plain::plan_schemas;
+use pipe_plan::{Arena, IR, swap_join_order};
 use pipe_value::{Item, Value};
 use std::alloc::{AllocError, Global};
 
@@ -59,21 +60,54 @@ fn cell_of(alloc: Global, dtype: DataType, value: &Value) -> Result<Option<AnyVa
     }
 }
 
-/// The type of the key at a place of a join's built side.
-fn key_type(join: &JoinStage, place: usize) -> Option<DataType> {
-    let (on, schema) = if join.right_built {
-        (join.sides.right_on, join.sides.right)
-    } else {
-        (join.sides.left_on, join.sides.left)
-    };
-    expr_type(on.get(place)?, schema)
+/// The nodes of a plan with their schemas, by which keys are read.
+#[derive(Drop)]
+pub(crate) struct KeyTypes<'a> {
+    arena: &'a Arena,
+    schemas: List<List<Field>>,
 }
 
-/// The key of a join that some values spell, as far as they spell one.
-pub(crate) fn key_of(alloc: Global, join: &JoinStage, values: &[Item]) -> Result<Row, AllocError> {
+impl<'a> KeyTypes<'a> {
+    /// Those of a plan.
+    pub(crate) fn of(alloc: Global, arena: &'a Arena) -> Result<KeyTypes<'a>, AllocError> {
+        let schemas = plan_schemas(alloc, arena)?;
+        Ok(KeyTypes { arena, schemas })
+    }
+
+    /// The type of the key at a place of the built side of a join; none where the node is no join, or has no such key.
+    fn key_type(&self, node: u32, place: usize) -> Option<DataType> {
+        let Some(
+            IR::Join {
+                left,
+                right,
+                left_on,
+                right_on,
+                options,
+            },
+        ) = self.arena.nodes.as_slice().get(node as usize)
+        else {
+            return None;
+        };
+        let (built, on) = if swap_join_order(options) {
+            (*right, right_on)
+        } else {
+            (*left, left_on)
+        };
+        let schema = self.schemas.as_slice().get(built as usize)?;
+        expr_type(on.as_slice().get(place)?, schema.as_slice())
+    }
+}
+
+/// The key at a node that some values spell, as far as they spell one; none where the node is no join.
+pub(crate) fn key_of(
+    alloc: Global,
+    types: &KeyTypes,
+    node: u32,
+    values: &[Item],
+) -> Result<Row, AllocError> {
     let mut key = Row::new(alloc);
     for (place, value) in values.iter().enumerate() {
-        let Some(dtype) = key_type(join, place) else {
+        let Some(dtype) = types.key_type(node, place) else {
             return Ok(Row::new(alloc));
         };
         match cell_of(alloc, dtype, value.value())? {

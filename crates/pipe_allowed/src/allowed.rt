@@ -16,11 +16,11 @@ use crate::sources::{are_fresh, is_source_ready, source_count};
 use pipe_events::{Event, Side};
 use pipe_frame::Row;
 use pipe_stages::StagedPlan;
-use pipe_world::World;
+use pipe_world::Progress;
 use std::alloc::{AllocError, Global};
 
 /// Whether the positions are there, and not taken.
-fn may_take(plan: &StagedPlan, world: &World, source: usize, from: u32, amount: u32) -> bool
+fn may_take(plan: &StagedPlan, world: &Progress, source: usize, from: u32, amount: u32) -> bool
     ensures { result ≡ takes (staged plan.now) (world_of world.now) source from amount }
 {
     let stage = plan.stage(source);
@@ -34,7 +34,7 @@ fn may_take(plan: &StagedPlan, world: &World, source: usize, from: u32, amount: 
 fn is_take_allowed(
     alloc: Global,
     plan: &StagedPlan,
-    world: &World,
+    world: &Progress,
     worker: u32,
     source: u32,
     from: u32,
@@ -44,7 +44,7 @@ fn is_take_allowed(
         IfOk result (λ holds. holds ≡ allows (staged plan.now) (world_of world.now) event) }
 {
     let n = source as usize;
-    if worker < plan.workers && is_idle(worker, world.pending()) && n < plan.len() {
+    if worker < plan.workers() && is_idle(worker, world.pending()) && n < plan.len() {
         Ok(may_take(plan, world, n, from, amount) && is_chain_built(alloc, plan, world, n)?)
     } else {
         Ok(false)
@@ -55,7 +55,7 @@ fn is_take_allowed(
 fn is_mark_allowed(
     alloc: Global,
     plan: &StagedPlan,
-    world: &World,
+    world: &Progress,
     worker: u32,
     join: u32,
     key: &Row,
@@ -64,7 +64,7 @@ fn is_mark_allowed(
         IfOk result (λ holds. holds ≡ allows (staged plan.now) (world_of world.now) event) }
 {
     let k = join as usize;
-    if worker < plan.workers && k < plan.len() {
+    if worker < plan.workers() && k < plan.len() {
         may_mark(alloc, plan, world, worker, k, key)
     } else {
         Ok(false)
@@ -75,13 +75,13 @@ fn is_mark_allowed(
 fn is_emit_allowed(
     alloc: Global,
     plan: &StagedPlan,
-    world: &World,
+    world: &Progress,
     worker: u32,
 ) -> Result<bool, AllocError>
     ensures { let event = worlds.Emit worker in
         IfOk result (λ holds. holds ≡ allows (staged plan.now) (world_of world.now) event) }
 {
-    if worker < plan.workers && !is_idle(worker, world.pending()) {
+    if worker < plan.workers() && !is_idle(worker, world.pending()) {
         is_all_marked(alloc, plan, world, worker)
     } else {
         Ok(false)
@@ -89,18 +89,18 @@ fn is_emit_allowed(
 }
 
 /// Whether a worker has something on its way.
-fn is_done_allowed(plan: &StagedPlan, world: &World, worker: u32) -> bool
+fn is_done_allowed(plan: &StagedPlan, world: &Progress, worker: u32) -> bool
     ensures { let event = worlds.Done worker in
         result ≡ allows (staged plan.now) (world_of world.now) event }
 {
-    worker < plan.workers && !is_idle(worker, world.pending())
+    worker < plan.workers() && !is_idle(worker, world.pending())
 }
 
 /// Whether a side may be closed.
 fn is_close_allowed(
     alloc: Global,
     plan: &StagedPlan,
-    world: &World,
+    world: &Progress,
     node: u32,
     side: Side,
 ) -> Result<bool, AllocError>
@@ -122,7 +122,7 @@ fn is_close_allowed(
 fn is_flush_allowed(
     alloc: Global,
     plan: &StagedPlan,
-    world: &World,
+    world: &Progress,
     worker: u32,
     join: u32,
     part: u32,
@@ -131,7 +131,7 @@ fn is_flush_allowed(
         IfOk result (λ holds. holds ≡ allows (staged plan.now) (world_of world.now) event) }
 {
     let k = join as usize;
-    if worker < plan.workers && is_idle(worker, world.pending()) && k < plan.len() {
+    if worker < plan.workers() && is_idle(worker, world.pending()) && k < plan.len() {
         may_flush(alloc, plan, world, k, part)
     } else {
         Ok(false)
@@ -142,7 +142,7 @@ fn is_flush_allowed(
 pub fn is_allowed(
     alloc: Global,
     plan: &StagedPlan,
-    world: &World,
+    world: &Progress,
     event: &Event,
 ) -> Result<bool, AllocError>
     ensures { let w = world_of world.now in

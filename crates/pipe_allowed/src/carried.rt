@@ -11,7 +11,7 @@ ghost use Rattle.pipe_allowed.specs.Carried.{load_table, tables_of, gathered};
 use pipe_frame::{List, Row};
 use pipe_plain::push_rows;
 use pipe_stages::{StagedPlan, flows_of};
-use pipe_world::{Load, World};
+use pipe_world::{Load, Progress};
 use std::alloc::{AllocError, Global};
 
 /// Whether nothing of a worker is among loads.
@@ -44,7 +44,7 @@ fn push_flows(
     alloc: Global,
     tables: &mut List<List<List<Row>>>,
     plan: &StagedPlan,
-    world: &World,
+    world: &Progress,
     worker: u32,
     load: &Load,
 ) -> Result<(), AllocError>
@@ -62,7 +62,7 @@ fn push_flows(
 pub fn carried_tables(
     alloc: Global,
     plan: &StagedPlan,
-    world: &World,
+    world: &Progress,
     worker: u32,
 ) -> Result<List<List<List<Row>>>, AllocError>
     ensures { let w = world_of world.now in
@@ -106,7 +106,7 @@ pub fn gathered_rows(
 pub fn carried_rows(
     alloc: Global,
     plan: &StagedPlan,
-    world: &World,
+    world: &Progress,
     worker: u32,
     t: usize,
 ) -> Result<List<Row>, AllocError>

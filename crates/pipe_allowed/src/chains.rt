@@ -8,11 +8,11 @@ ghost use Rattle.pipe_world.specs.Shown.{world_of};
 ghost use Rattle.pipe_allowed.specs.Joins.{join_passes, built_if_reached};
 
 use pipe_stages::{Stage, StagedPlan, is_marked, reach_marks};
-use pipe_world::World;
+use pipe_world::Progress;
 use std::alloc::{AllocError, Global};
 
 /// Whether the build side of a join is closed where its probe side is marked.
-fn is_build_closed(marks: &[bool], world: &World, plan: &StagedPlan, k: usize) -> bool
+fn is_build_closed(marks: &[bool], world: &Progress, plan: &StagedPlan, k: usize) -> bool
     ensures { let closed = (world_of world.now).closed in
         let test = built_if_reached (at_place false marks.now) closed in
         result ≡ join_passes (staged plan.now) test k }
@@ -42,7 +42,7 @@ fn is_build_closed(marks: &[bool], world: &World, plan: &StagedPlan, k: usize) -
 pub(crate) fn is_chain_built(
     alloc: Global,
     plan: &StagedPlan,
-    world: &World,
+    world: &Progress,
     n: usize,
 ) -> Result<bool, AllocError>
     ensures { let closed = (world_of world.now).closed in

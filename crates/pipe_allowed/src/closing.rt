@@ -1,6 +1,6 @@
 //! Whether a side may be closed.
 
-ghost use Rattle.std.specs.Prelude.{◌≡◌, length, IfOk};
+ghost use Rattle.std.specs.Prelude.{◌≡◌, IfOk};
 ghost use Rattle.std.specs.List.{list_any};
 ghost use Rattle.pipe_events.specs.Stages.{reaches};
 ghost use Rattle.pipe_events.specs.Worlds.{sort_side, join_side, side_below as side_of};
@@ -16,7 +16,7 @@ use crate::marks::is_flushing;
 use crate::spent::is_spent;
 use pipe_events::Side;
 use pipe_stages::{JoinStage, Stage, StagedPlan, is_marked, reach_marks};
-use pipe_world::{Load, World};
+use pipe_world::{Load, Progress};
 use std::alloc::{AllocError, Global};
 
 /// Whether the rows of a node come to another.
@@ -49,7 +49,7 @@ fn is_any_coming(
 fn is_spent_if_coming(
     alloc: Global,
     plan: &StagedPlan,
-    world: &World,
+    world: &Progress,
     t: usize,
     m: usize,
 ) -> Result<bool, AllocError>
@@ -68,11 +68,11 @@ fn is_spent_if_coming(
 fn are_coming_spent(
     alloc: Global,
     plan: &StagedPlan,
-    world: &World,
+    world: &Progress,
     t: usize,
 ) -> Result<bool, AllocError>
     ensures { let spent = spent_if_coming (staged plan.now) (world_of world.now) t in
-        IfOk result (λ all. all ≡ all_below spent (length plan.now.stages)) }
+        IfOk result (λ all. all ≡ all_below spent (staged plan.now).size) }
 {
     for m in 0..plan.len() {
         if !is_spent_if_coming(alloc, plan, world, t, m)? {
@@ -83,7 +83,12 @@ fn are_coming_spent(
 }
 
 /// Whether all that comes to a node is spent, and nothing on its way comes to it.
-fn is_quiet(alloc: Global, plan: &StagedPlan, world: &World, t: usize) -> Result<bool, AllocError>
+fn is_quiet(
+    alloc: Global,
+    plan: &StagedPlan,
+    world: &Progress,
+    t: usize,
+) -> Result<bool, AllocError>
     ensures { let w = world_of world.now in
         IfOk result (λ quiet. quiet ≡ quiet_at (staged plan.now) w t) }
 {
@@ -95,7 +100,7 @@ fn is_quiet(alloc: Global, plan: &StagedPlan, world: &World, t: usize) -> Result
 }
 
 /// Whether the build side of a join is closed where its probe side is above a node.
-fn is_probe_built(world: &World, t: usize, plan: &StagedPlan, k: usize) -> bool
+fn is_probe_built(world: &Progress, t: usize, plan: &StagedPlan, k: usize) -> bool
     ensures { let test = built_if_probed t (world_of world.now).closed in
         result ≡ join_passes (staged plan.now) test k }
 {
@@ -119,9 +124,9 @@ fn is_probe_built(world: &World, t: usize, plan: &StagedPlan, k: usize) -> bool
 
 /// Whether each join whose probe side is above a node has its build side closed.
 #[tactic(auto, using(crate::proofs::Below::below_rules))]
-fn are_probes_built(world: &World, t: usize, plan: &StagedPlan) -> bool
+fn are_probes_built(world: &Progress, t: usize, plan: &StagedPlan) -> bool
     ensures { let test = built_if_probed t (world_of world.now).closed in
-        result ≡ all_below (join_passes (staged plan.now) test) (length plan.now.stages) }
+        result ≡ all_below (join_passes (staged plan.now) test) (staged plan.now).size }
 {
     for k in 0..plan.len() {
         if !is_probe_built(world, t, plan, k) {
@@ -135,7 +140,7 @@ fn are_probes_built(world: &World, t: usize, plan: &StagedPlan) -> bool
 pub(crate) fn may_close(
     alloc: Global,
     plan: &StagedPlan,
-    world: &World,
+    world: &Progress,
     t: usize,
 ) -> Result<bool, AllocError>
     ensures { let w = world_of world.now in

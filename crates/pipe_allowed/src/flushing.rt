@@ -10,14 +10,14 @@ ghost use Rattle.pipe_world.specs.Shown.{world_of};
 use crate::chains::is_chain_built;
 use crate::marks::is_flushing;
 use pipe_stages::{JoinStage, Stage, StagedPlan};
-use pipe_world::{World, is_among};
+use pipe_world::{Progress, is_among};
 use std::alloc::{AllocError, Global};
 
 /// Whether a partition of a join may be flushed.
 fn may_flush_join(
     alloc: Global,
     plan: &StagedPlan,
-    world: &World,
+    world: &Progress,
     k: usize,
     part: u32,
     join: &JoinStage,
@@ -28,7 +28,7 @@ fn may_flush_join(
 {
     if is_flushing(join)
         && world.is_closed(join.probe as usize)
-        && part < plan.parts
+        && part < plan.parts()
         && !is_among(world.flushed(k), u64::from(part))
     {
         is_chain_built(alloc, plan, world, k)
@@ -41,7 +41,7 @@ fn may_flush_join(
 pub(crate) fn may_flush(
     alloc: Global,
     plan: &StagedPlan,
-    world: &World,
+    world: &Progress,
     k: usize,
     part: u32,
 ) -> Result<bool, AllocError>

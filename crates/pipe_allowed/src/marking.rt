@@ -1,6 +1,6 @@
 //! Whether a key may be marked, and whether marks are owed.
 
-ghost use Rattle.std.specs.Prelude.{◌≡◌, false, not, length, IfOk};
+ghost use Rattle.std.specs.Prelude.{◌≡◌, false, not, IfOk};
 ghost use Rattle.std.specs.List.{list_any};
 ghost use Rattle.pipe_events.specs.Stages.{marks};
 ghost use Rattle.pipe_events.specs.Worlds.{at_join, seen};
@@ -16,14 +16,14 @@ use crate::carried::{carried_rows, carried_tables, gathered_rows};
 use crate::marks::{is_any_flag_owed, is_marking, is_seen};
 use pipe_frame::{List, Row};
 use pipe_stages::{JoinStage, Stage, StagedPlan};
-use pipe_world::World;
+use pipe_world::Progress;
 use std::alloc::{AllocError, Global};
 
 /// Whether what a worker has on its way matches a key at a join.
 fn is_key_seen(
     alloc: Global,
     plan: &StagedPlan,
-    world: &World,
+    world: &Progress,
     worker: u32,
     join: &JoinStage,
     key: &Row,
@@ -46,7 +46,7 @@ fn is_key_seen(
 pub(crate) fn may_mark(
     alloc: Global,
     plan: &StagedPlan,
-    world: &World,
+    world: &Progress,
     worker: u32,
     k: usize,
     key: &Row,
@@ -82,7 +82,7 @@ pub(crate) fn may_mark(
 /// Whether no mark is owed at a join.
 fn is_none_owed(
     alloc: Global,
-    world: &World,
+    world: &Progress,
     tables: &[List<List<Row>>],
     k: usize,
     join: &JoinStage,
@@ -106,7 +106,7 @@ fn is_none_owed(
 fn is_none_owed_at(
     alloc: Global,
     plan: &StagedPlan,
-    world: &World,
+    world: &Progress,
     worker: u32,
     tables: &[List<List<Row>>],
     k: usize,
@@ -138,12 +138,12 @@ fn is_none_owed_at(
 pub(crate) fn is_all_marked(
     alloc: Global,
     plan: &StagedPlan,
-    world: &World,
+    world: &Progress,
     worker: u32,
 ) -> Result<bool, AllocError>
     ensures { let test = owes_none (staged plan.now) (world_of world.now) worker in
         let passes = join_passes (staged plan.now) test in
-        IfOk result (λ marked. marked ≡ all_below passes (length plan.now.stages)) }
+        IfOk result (λ marked. marked ≡ all_below passes (staged plan.now).size) }
 {
     let tables = carried_tables(alloc, plan, world, worker)?;
     let flows = tables.as_slice();

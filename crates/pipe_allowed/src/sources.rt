@@ -9,11 +9,11 @@ ghost use Rattle.pipe_allowed.specs.Sources.{is_fresh};
 
 use pipe_plain::kept_slice;
 use pipe_stages::Stage;
-use pipe_world::{World, is_among};
+use pipe_world::{Progress, is_among};
 
 /// How many rows a source has.
 #[tactic(auto, using(crate::proofs::Slices::slice_rules))]
-pub(crate) fn source_count(world: &World, stage: Stage) -> usize
+pub(crate) fn source_count(world: &Progress, stage: Stage) -> usize
     ensures { let rows = source_rows (world_of world.now).bag (stage_value stage.entry) in
         result ≡ length rows }
 {
@@ -36,7 +36,7 @@ pub(crate) fn source_count(world: &World, stage: Stage) -> usize
 }
 
 /// Whether a stage is a source that has positions: a scan, or a closed sort.
-pub(crate) fn is_source_ready(world: &World, stage: Stage) -> bool
+pub(crate) fn is_source_ready(world: &Progress, stage: Stage) -> bool
     ensures { result ≡ is_ready (world_of world.now).closed (stage_value stage.entry) }
 {
     match stage {
@@ -59,7 +59,7 @@ pub(crate) fn is_source_ready(world: &World, stage: Stage) -> bool
 
 /// Whether none of so many positions of a source, from one on, is taken.
 #[tactic(auto, using(crate::proofs::Below::below_rules))]
-pub(crate) fn are_fresh(world: &World, source: usize, from: u32, amount: u32) -> bool
+pub(crate) fn are_fresh(world: &Progress, source: usize, from: u32, amount: u32) -> bool
     ensures { let taken = (world_of world.now).taken source in
         result ≡ all_below (is_fresh taken from) amount }
 {
@@ -73,7 +73,7 @@ pub(crate) fn are_fresh(world: &World, source: usize, from: u32, amount: u32) ->
 
 /// Whether all positions of a source below a number are taken.
 #[tactic(auto, using(crate::proofs::Below::below_rules))]
-pub(crate) fn are_all_taken(world: &World, source: usize, count: usize) -> bool
+pub(crate) fn are_all_taken(world: &Progress, source: usize, count: usize) -> bool
     ensures { let taken = (world_of world.now).taken source in
         result ≡ all_below (stands_in taken) count }
 {

@@ -9,11 +9,11 @@ use crate::marks::is_flushing;
 use crate::sources::{are_all_among, are_all_taken};
 use pipe_plain::kept_slice;
 use pipe_stages::{Stage, StagedPlan};
-use pipe_world::World;
+use pipe_world::Progress;
 
 /// Whether a source has all its positions taken, and a join that flushes all its partitions flushed.
 #[tactic(auto, using(crate::proofs::Slices::slice_rules))]
-pub(crate) fn is_spent(plan: &StagedPlan, world: &World, n: usize) -> bool
+pub(crate) fn is_spent(plan: &StagedPlan, world: &Progress, n: usize) -> bool
     ensures { result ≡ spent_at (staged plan.now) (world_of world.now) n }
 {
     match plan.stage(n) {
@@ -34,7 +34,7 @@ pub(crate) fn is_spent(plan: &StagedPlan, world: &World, n: usize) -> bool
             world.is_closed(input as usize) && are_all_taken(world, n, kept)
         }
         Stage::Joined(join) => {
-            !is_flushing(&join) || are_all_among(world.flushed(n), plan.parts as usize)
+            !is_flushing(&join) || are_all_among(world.flushed(n), plan.parts() as usize)
         }
     }
 }

@@ -7,8 +7,7 @@ use Rattle.pipe_frame.specs.Rows.{Row, eq_row}
 use Rattle.pipe_events.specs.Stages.{Key, Stage, Stages, Scan, Each, Union, Sort, Joined, marks}
 use Rattle.pipe_events.specs.Worlds.{World, Event, Take, Mark, Emit, Done, Close, Flush, after, at_join, seen, mark_keys, mark_seen, mark_below, emitted, closed_above, side_below, carried, mine, is_sink, source_rows}
 use Rattle.pipe_world.proofs.BlankLists.{at-blank}
-use Rattle.pipe_stages.specs.Staged.{staged}
-use Rattle.pipe_stages.specs.declared.plan.StagedPlan.{StagedPlan}
+use Rattle.pipe_stages.specs.Staged.{Staging, staged}
 use Rattle.pipe_replay.specs.Replayed.{parted}
 use Rattle.pipe_replay.specs.KeptLists.{IsListOf, IsKept, AreKept, BagsGrow, list_at, is_made_of, listed, source_by}
 use Rattle.pipe_replay.specs.declared.lists.SortedList.{SortedList}
@@ -88,7 +87,7 @@ module _ (before later : ℕ → List Row) (grows : BagsGrow before later) where
 kept-after : (plan : Stages) (w : World) (e : Event) (lists : List (Option SortedList)) → AreKept plan w.bag lists → AreKept plan (after plan w e).bag lists
 kept-after plan w e lists h = all-stay w.bag (after plan w e).bag (after-grows plan w e) plan lists h
 
-pub kept-next : (hash_of : List ℕ → ℕ) (made : StagedPlan) (w next : World) (e : Event) (lists : List (Option SortedList)) → AreKept (staged made) w.bag lists → next ≡ after (parted hash_of made) w e → AreKept (staged made) next.bag lists
+pub kept-next : (hash_of : List ℕ → ℕ) (made : Staging) (w next : World) (e : Event) (lists : List (Option SortedList)) → AreKept (staged made) w.bag lists → next ≡ after (parted hash_of made) w e → AreKept (staged made) next.bag lists
 kept-next hash_of made w next e lists h is =
     let p = parted hash_of made in
     let here : AreKept p w.bag lists = record { size = h.size; each = h.each } in

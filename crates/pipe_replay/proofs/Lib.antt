@@ -6,4 +6,5 @@ pub mod Parts
 pub mod Sides
 pub mod RowLists
 pub mod KeptLemmas
+pub mod Worlds
 pub mod SortLemmas

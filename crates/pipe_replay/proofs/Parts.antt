@@ -1,15 +1,13 @@
--- There are partitions.
-use Rattle.std.proofs.Common.{ℕ, ◌<◌, sym, subst}
+-- There are partitions, and one number of them for so many workers.
+use Rattle.std.proofs.Common.{◌≡◌, ℕ, ◌<◌, ◌≤◌, sym, subst, arith}
 use Rattle.std.proofs.lemmas.Nat.{pow_pos}
 use Rattle.pipe_rows.specs.Partition.{IsPartitionCount}
-use Rattle.pipe_plan.specs.Plan.{Plan}
-use Rattle.pipe_stages.specs.Staged.{IsStaged}
-use Rattle.pipe_stages.specs.declared.plan.StagedPlan.{StagedPlan}
 
-some-of : (workers parts : ℕ) → IsPartitionCount workers parts → 0 < parts
-some-of workers parts is = subst (λ n. 0 < n) (sym is.is_power) (pow_pos is.exponent)
+pub some-parts : (workers parts : ℕ) → IsPartitionCount workers parts → 0 < parts
+some-parts workers parts is = subst (λ n. 0 < n) (sym is.is_power) (pow_pos is.exponent)
 
-pub some-parts : (plan : Plan) (top many : ℕ) (made : StagedPlan) → IsStaged plan top many made → 0 < made.parts
-some-parts plan top many made staged = some-of many made.parts staged.parts
+fewer-parts : (workers a b : ℕ) → IsPartitionCount workers a → IsPartitionCount workers b → a ≤ b
+fewer-parts workers a b h k = subst (λ p. a ≤ p) (sym k.is_power) (h.smallest k.exponent (subst (λ p. workers ≤ p) k.is_power k.enough))
 
-pub ruleset parts_rules = (some-parts)
+pub same-parts : (workers a b : ℕ) → IsPartitionCount workers a → IsPartitionCount workers b → a ≡ b
+same-parts workers a b h k = let low = fewer-parts workers a b h k in let high = fewer-parts workers b a k h in omega (arith, low, high)

@@ -1,5 +1,5 @@
 -- The node below a side stands below the side's node, in a plan without a fault.
-use Rattle.std.proofs.Common.{◌≡◌, ℕ, ◌<◌, ◌≤◌, Bool, true, false, cond, ◌||◌, length, List, [], refl, sym, subst, arith, Some, None, ◌⊎◌, inl, inr}
+use Rattle.std.proofs.Common.{◌≡◌, ℕ, ◌<◌, ◌≤◌, Bool, true, false, cond, ◌||◌, List, [], refl, arith, Some, None, ◌⊎◌, inl, inr}
 use Rattle.std.specs.Prelude.{nat_le}
 use Rattle.std.specs.List.{list_any}
 use Rattle.std.proofs.lemmas.Bool.{cases_lt, le-leb}
@@ -7,7 +7,7 @@ use Rattle.pipe_frame.specs.Frame.{Table}
 use Rattle.pipe_frame.specs.declared.field.Field.{Field}
 use Rattle.pipe_plan.specs.Node.{Node}
 use Rattle.pipe_plan.specs.Node as node
-use Rattle.pipe_plan.specs.Plan.{Plan}
+use Rattle.pipe_plan.specs.Plan.{plan_of}
 use Rattle.pipe_plan.specs.Swap.{swaps}
 use Rattle.pipe_plan.specs.Under.{node_at, inputs_of, is_under}
 use Rattle.pipe_plan.specs.Schemas.{schemas_to}
@@ -15,13 +15,11 @@ use Rattle.pipe_plan.specs.Faults.{plan_fault}
 use Rattle.pipe_events.specs.Stages.{Stage, Stages, Scan, Each, Union, Sort, Joined, IsBelow, flushes}
 use Rattle.pipe_events.specs.Worlds.{World, Side, OfSort, OfBuild, OfProbe, Take, Mark, Close, Flush, side_below}
 use Rattle.pipe_events.specs.Decided.{is_allowed}
-use Rattle.pipe_events.specs.PlanStages.{stage_of, stage_at}
+use Rattle.pipe_events.specs.PlanStages.{stage_of}
 use Rattle.pipe_events.proofs.Deciding.{events_decided}
 use Rattle.pipe_events.proofs.Unfaulted.{without_fault}
-use Rattle.pipe_stages.specs.Staged.{staged, IsStaged}
-use Rattle.pipe_stages.specs.declared.plan.StagedPlan.{StagedPlan}
+use Rattle.pipe_stages.specs.Staged.{Staging, size_in, stage_in, staged}
 use Rattle.pipe_replay.specs.Replayed.{AreBelow}
-use Rattle.pipe_replay.proofs.EndLemmas.{same-stage, same-size}
 
 some-is : (a b n : ℕ) → Some a ≡ Some b → a < n → b < n
 some-is a b n e lt = let is : a ≡ b = cc in omega (arith, is)
@@ -96,16 +94,12 @@ stage-below frames schema k (node.Join left right left_on right_on options) h =
     two-below k left right (swaps options) (is-smaller k left (or-first (nat_le k left) _ h)) (is-smaller k right (or-first (nat_le k right) _ (or-second (nat_le k left) _ h)))
 stage-below frames schema k (node.Sort input by options) h = is-smaller k input (or-first (nat_le k input) _ h)
 
-pub are-below : (plan : Plan) (top many : ℕ) (made : StagedPlan) → IsStaged plan top many made → plan_fault plan top ≡ None → AreBelow (staged made)
-are-below plan top many made is none k lt =
-    let size = same-size plan top many made is in
-    let within : k < length plan.nodes = omega (arith, lt, size) in
-    let smaller = (without_fault plan top none).1 k within in
-    let here : IsBelow k (stage_at plan top k) =
-    elim (is_under plan.nodes top k) as (λ b. is_under plan.nodes top k ≡ b → IsBelow k (cond b (stage_of plan.frames (schemas_to plan k) (node_at plan.nodes k)) (Union []))) [
-      | true ↦ λ under. stage-below plan.frames (schemas_to plan k) k (node_at plan.nodes k) (smaller under)
+pub are-below : (plan : Staging) → plan_fault (plan_of plan.arena) plan.root ≡ None → AreBelow (staged plan)
+unfolding size_in stage_in
+are-below plan none k lt =
+    let whole = plan_of plan.arena in
+    let smaller = (without_fault whole plan.root none).1 k lt in
+    elim (is_under whole.nodes plan.root k) as (λ b. is_under whole.nodes plan.root k ≡ b → IsBelow k (cond b (stage_of whole.frames (schemas_to whole k) (node_at whole.nodes k)) (Union []))) [
+      | true ↦ λ under. stage-below whole.frames (schemas_to whole k) k (node_at whole.nodes k) (smaller under)
       | false ↦ λ _. tt
     ] refl
-    in subst (IsBelow k) (sym (same-stage plan top many made is k)) here
-
-pub ruleset below_rules = (are-below)

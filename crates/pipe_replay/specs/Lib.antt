@@ -4,6 +4,8 @@ pub mod Marks
 pub mod Replayed
 -- lists of sorts that are kept
 pub mod KeptLists
+-- a world with what it keeps of its plan
+pub mod KeptWorld
 -- sinks that are filled
 pub mod Sinks
 -- what a world of a plan has at its root

@@ -5,11 +5,10 @@ use Rattle.pipe_events.specs.Stages.{Stages, IsBelow}
 use Rattle.pipe_events.specs.Worlds.{World, Event, start}
 use Rattle.pipe_events.specs.Schedules.{run}
 use Rattle.pipe_events.specs.Decided.{all_allowed}
-use Rattle.pipe_stages.specs.Staged.{parted_by}
-use Rattle.pipe_stages.specs.declared.plan.StagedPlan.{StagedPlan}
+use Rattle.pipe_stages.specs.Staged.{Staging, parted_by}
 
 -- the stages of a plan, with the partition of each key by a hash
-abbrev pub parted : (hash_of : List ℕ → ℕ) → StagedPlan → Stages
+abbrev pub parted : (hash_of : List ℕ → ℕ) → Staging → Stages
 parted hash_of plan = parted_by (partition_of_key hash_of plan.parts) plan
 
 -- the inputs of each stage stand below it

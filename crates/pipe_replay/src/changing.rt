@@ -20,7 +20,7 @@ use pipe_events::Side;
 use pipe_frame::{List, Row, TryClone};
 use pipe_rows::KeyHasher;
 use pipe_stages::{Stage, StagedPlan};
-use pipe_world::World;
+use pipe_world::Progress;
 use std::alloc::{AllocError, Global};
 
 /// Positions of a source are taken.
@@ -28,7 +28,7 @@ pub(crate) fn take(
     alloc: Global,
     plan: &StagedPlan,
     lists: &mut SortedLists,
-    world: &mut World,
+    world: &mut Progress,
     worker: u32,
     source: usize,
     from: u32,
@@ -52,7 +52,7 @@ pub(crate) fn take(
 pub(crate) fn mark(
     alloc: Global,
     plan: &StagedPlan,
-    world: &mut World,
+    world: &mut Progress,
     worker: u32,
     k: usize,
     key: &Row,
@@ -88,27 +88,27 @@ pub(crate) fn mark(
 pub(crate) fn finish(
     alloc: Global,
     plan: &StagedPlan,
-    world: &mut World,
+    world: &mut Progress,
     worker: u32,
 ) -> Result<(), AllocError>
-    requires nodes { IsFor (length plan.now.stages) world.old }
+    requires nodes { IsFor (staged plan.now).size world.old }
     ensures world { let event = worlds.Done worker in
         OnOk result (world_of world.new ≡ after (staged plan.now) (world_of world.old) event) }
-    ensures nodes { OnOk result (IsFor (length plan.now.stages) world.new) }
+    ensures nodes { OnOk result (IsFor (staged plan.now).size world.new) }
 {
     mark_all_seen(alloc, plan, world, worker)?;
     emit(alloc, plan, world, worker)
 }
 
 /// A side is closed.
-pub(crate) fn close(plan: &StagedPlan, world: &mut World, n: usize, side: Side)
+pub(crate) fn close(plan: &StagedPlan, world: &mut Progress, n: usize, side: Side)
     requires allowed { let event = worlds.Close n (side_value side) in
         allows (staged plan.now) (world_of world.old) event ≡ true }
     requires below { AreBelow (staged plan.now) }
-    requires nodes { IsFor (length plan.now.stages) world.old }
+    requires nodes { IsFor (staged plan.now).size world.old }
     ensures world { let event = worlds.Close n (side_value side) in
         world_of world.new ≡ after (staged plan.now) (world_of world.old) event }
-    ensures nodes { IsFor (length plan.now.stages) world.new }
+    ensures nodes { IsFor (staged plan.now).size world.new }
 {
     if let Some(t) = side_below(plan.stage(n), side) {
         world.close(t as usize);
@@ -120,7 +120,7 @@ pub(crate) fn flush<H: KeyHasher>(
     alloc: Global,
     plan: &StagedPlan,
     hasher: &H,
-    world: &mut World,
+    world: &mut Progress,
     worker: u32,
     k: usize,
     part: u32,

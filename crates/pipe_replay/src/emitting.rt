@@ -11,7 +11,7 @@ ghost use Rattle.pipe_replay.specs.Sinks.{filled};
 use pipe_allowed::{carried_tables, gathered_rows};
 use pipe_frame::{List, Row};
 use pipe_stages::{Stage, StagedPlan};
-use pipe_world::World;
+use pipe_world::Progress;
 use std::alloc::{AllocError, Global};
 
 /// Whether a stage has the sink above a node.
@@ -41,7 +41,7 @@ fn is_end(stage: Stage, t: usize) -> bool
 fn has_sink(plan: &StagedPlan, t: usize) -> bool
     ensures { result ≡ is_sink (staged plan.now) t }
 {
-    if plan.root as usize == t {
+    if plan.root() as usize == t {
         return true;
     }
     for n in 0..plan.len() {
@@ -56,7 +56,7 @@ fn has_sink(plan: &StagedPlan, t: usize) -> bool
 fn fill_sink(
     alloc: Global,
     plan: &StagedPlan,
-    world: &mut World,
+    world: &mut Progress,
     tables: &[List<List<Row>>],
     t: usize,
 ) -> Result<(), AllocError>
@@ -78,13 +78,13 @@ fn fill_sink(
 pub(crate) fn emit(
     alloc: Global,
     plan: &StagedPlan,
-    world: &mut World,
+    world: &mut Progress,
     worker: u32,
 ) -> Result<(), AllocError>
-    requires nodes { IsFor (length plan.now.stages) world.old }
+    requires nodes { IsFor (staged plan.now).size world.old }
     ensures world { let after = emitted (staged plan.now) worker (world_of world.old) in
         OnOk result (world_of world.new ≡ after) }
-    ensures nodes { OnOk result (IsFor (length plan.now.stages) world.new) }
+    ensures nodes { OnOk result (IsFor (staged plan.now).size world.new) }
 {
     let tables = carried_tables(alloc, plan, world, worker)?;
     let flows = tables.as_slice();

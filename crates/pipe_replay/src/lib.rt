@@ -5,6 +5,7 @@
 //! are the plan's rows.
 #![tactic(auto)]
 
+mod applying;
 mod changing;
 mod emitting;
 mod flushing;
@@ -16,6 +17,7 @@ mod marks;
 mod replaying;
 mod sorting;
 mod sources;
+mod world;
 
-pub use lists::SortedLists;
-pub use replaying::{Played, StepAnswer, play, replay, root_bag, step};
+pub use replaying::{Played, play, replay};
+pub use world::{StepAnswer, World, step};

@@ -12,7 +12,7 @@ ghost use Rattle.pipe_replay.specs.KeptLists.{AreKept, list_at, is_made_of, list
 use crate::sorting::sliced_list;
 use pipe_frame::{List, Row};
 use pipe_stages::{Stage, StagedPlan};
-use pipe_world::World;
+use pipe_world::Progress;
 use std::alloc::{AllocError, Global};
 use std::marker::Model;
 
@@ -25,7 +25,7 @@ pub(crate) struct SortedList {
 
 /// For each node of a plan its list, if it is a sort whose list was made.
 #[derive(Debug)]
-pub struct SortedLists {
+pub(crate) struct SortedLists {
     lists: Vec<Option<SortedList>>,
 }
 
@@ -48,7 +48,7 @@ impl Model for SortedLists {
 impl SortedLists {
     /// No list of so many nodes.
     #[tactic(auto, using(crate::proofs::KeptLemmas::none_rules))]
-    pub fn new(alloc: Global, nodes: usize) -> Result<SortedLists, AllocError>
+    pub(crate) fn new(alloc: Global, nodes: usize) -> Result<SortedLists, AllocError>
         ensures { (p : Stages) (bag : ℕ → List Row) → p.size ≡ nodes →
             IfOk result (AreKept p bag) }
     {
@@ -93,7 +93,7 @@ impl SortedLists {
         &mut self,
         alloc: Global,
         plan: &StagedPlan,
-        world: &World,
+        world: &Progress,
         n: usize,
     ) -> Result<(), AllocError>
         requires within { n < length self.old }

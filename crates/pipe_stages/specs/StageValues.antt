@@ -1,5 +1,5 @@
 -- The stages that the code's ones are.
-use Rattle.std.specs.Prelude.{◌≡◌, ℕ, List, [], ◌∷◌, map, slice_index_or}
+use Rattle.std.specs.Prelude.{List, map}
 use Rattle.pipe_frame.specs.Rows.{Row}
 use Rattle.pipe_frame.specs.declared.field.Field.{Field}
 use Rattle.pipe_expr.specs.Formula.{formula_of, named_formula_of}
@@ -36,7 +36,3 @@ stage_value (code.Union inputs) = stages.Union inputs.now
 stage_value (code.Sort input schema by options) =
     stages.Sort input (sorted_slice schema.now by.now options.now)
 stage_value (code.Joined j) = stages.Joined (join_value j)
-
--- the stage of a number, a union of nothing where there is none
-abbrev pub stage_in : List Stage → ℕ → stages.Stage
-stage_in xs k = slice_index_or (map stage_value xs) k (stages.Union [])

@@ -3,25 +3,37 @@ use Rattle.std.specs.Prelude.{◌≡◌, ℕ, List, [], length, map}
 use Rattle.std.specs.List.{range_with_len}
 use Rattle.pipe_frame.specs.Frame.{Table}
 use Rattle.pipe_frame.specs.Rows.{Row}
-use Rattle.pipe_rows.specs.Partition.{IsPartitionCount}
 use Rattle.pipe_plan.specs.Node.{Node}
 use Rattle.pipe_plan.specs.Node as node
-use Rattle.pipe_plan.specs.Plan.{Plan}
+use Rattle.pipe_plan.specs.Plan.{Plan, plan_of}
 use Rattle.pipe_plan.specs.Under.{is_under}
 use Rattle.pipe_plan.specs.Schemas.{frame_at, schema_at}
 use Rattle.pipe_plan.specs.PlanRows.{scan_rows}
-use Rattle.pipe_events.specs.Stages.{Key, Stages}
+use Rattle.pipe_plan.specs.declared.arena.Arena.{Arena}
+use Rattle.pipe_events.specs.Stages.{Key, Stage, Stages}
 use Rattle.pipe_events.specs.PlanStages.{stage_at}
 use Rattle.pipe_plain.specs.Tables.{table}
-use Rattle.pipe_stages.specs.StageValues.{stage_value, stage_in}
-use Rattle.pipe_stages.specs.declared.plan.PlanTables.{PlanTables}
-use Rattle.pipe_stages.specs.declared.plan.StagedPlan.{StagedPlan}
+use Rattle.pipe_stages.specs.declared.plan_tables.PlanTables.{PlanTables}
+
+-- an arena with its root, and how many workers and partitions its stages are for
+pub record Staging : Type 0 where
+  pub arena : Arena
+  pub root : ℕ
+  pub workers : ℕ
+  pub parts : ℕ
+
+-- how many nodes there are, and the stage of each
+unfoldable pub size_in : Staging → ℕ
+size_in plan = length (plan_of plan.arena).nodes
+
+unfoldable pub stage_in : Staging → ℕ → Stage
+stage_in plan = stage_at (plan_of plan.arena) plan.root
 
 -- the stages of a plan, with the partition of each key
-abbrev pub parted_by : (part : Key → ℕ) → StagedPlan → Stages
+abbrev pub parted_by : (part : Key → ℕ) → Staging → Stages
 parted_by part plan = record {
-  size = length plan.stages;
-  stage = stage_in plan.stages;
+  size = size_in plan;
+  stage = stage_in plan;
   root = plan.root;
   workers = plan.workers;
   parts = plan.parts;
@@ -32,7 +44,7 @@ abbrev pub first_part : Key → ℕ
 first_part key = 0
 
 -- the same, where it doesn't matter to which partition a key belongs
-abbrev pub staged : StagedPlan → Stages
+abbrev pub staged : Staging → Stages
 staged plan = parted_by first_part plan
 
 -- the rows of a node, where it is a scan
@@ -53,11 +65,3 @@ pub record AreTables (plan : Plan) (tables : PlanTables) : Type 0 where
       (range_with_len 0 (length plan.nodes))
   pub schemas : tables.schemas ≡ table [] (schema_at plan) (length plan.nodes)
   pub scans : tables.scans ≡ map (scan_of plan.frames) plan.nodes
-
--- the stages are those of a plan, for some workers
-pub record IsStaged (plan : Plan) (top many : ℕ) (made : StagedPlan) : Type 0 where
-  pub stages : map stage_value made.stages ≡ map (stage_at plan top)
-      (range_with_len 0 (length plan.nodes))
-  pub root : made.root ≡ top
-  pub workers : made.workers ≡ many
-  pub parts : IsPartitionCount many made.parts

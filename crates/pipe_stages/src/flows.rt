@@ -1,6 +1,6 @@
 //! What comes out of each node where one node has rows of its own.
 
-ghost use Rattle.std.specs.Prelude.{◌≡◌, ◌++◌, [], length, IfOk, if◌then◌else◌};
+ghost use Rattle.std.specs.Prelude.{◌≡◌, ◌++◌, [], IfOk, if◌then◌else◌};
 ghost use Rattle.std.specs.List.{flat_map};
 ghost use Rattle.pipe_events.specs.Stages.{feeds, through, only, flow_at};
 ghost use Rattle.pipe_plain.specs.Tables.{table, at_place};
@@ -97,7 +97,7 @@ pub fn flows_of(
     rows: &[Row],
 ) -> Result<List<List<Row>>, AllocError>
     ensures { let at = flow_at (staged plan.now) (at_place [] bags.now) (only node rows.now) in
-        IfOk result (λ flows. flows ≡ table [] at (length plan.now.stages)) }
+        IfOk result (λ flows. flows ≡ table [] at (staged plan.now).size) }
 {
     let mut flows = List::new(alloc);
     for k in 0..plan.len() {

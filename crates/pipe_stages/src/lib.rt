@@ -7,12 +7,14 @@
 mod flows;
 mod operators;
 mod plan;
+mod plan_tables;
 mod reach;
 mod shares;
 mod stage;
 
 pub use flows::flows_of;
-pub use plan::{PlanTables, StagedPlan};
+pub use plan::StagedPlan;
+pub use plan_tables::PlanTables;
 pub use reach::{is_marked, reach_marks};
 pub use shares::{build_key, meets, padded_built};
 pub use stage::{JoinStage, RowOp, Stage};

@@ -1,154 +1,48 @@
-//! A plan's stages, made once.
+//! The stages of a plan.
 
-ghost use Rattle.std.specs.Prelude.{◌≡◌, ◌≤◌, ◌<◌, ◌^◌, [], map, take, length, if◌then◌else◌, IfOk};
-ghost use Rattle.std.specs.List.{range_with_len};
+ghost use Rattle.std.specs.Prelude.{◌≡◌, ◌<◌, [], map, take, length, if◌then◌else◌};
 ghost use Rattle.pipe_expr.specs.Formula.{formula_of};
 ghost use Rattle.pipe_plan.specs.Node.{node_of};
 ghost use Rattle.pipe_plan.specs.Plan.{plan_of};
-ghost use Rattle.pipe_plan.specs.Faults.{most_nodes};
-ghost use Rattle.pipe_plan.specs.Under.{is_under};
 ghost use Rattle.pipe_events.specs.Stages as stages;
 ghost use Rattle.pipe_events.specs.PlanStages.{join_stage, stage_of, stage_at};
 ghost use Rattle.pipe_plain.specs.Tables.{at_place};
 ghost use Rattle.pipe_stages.specs.StageValues.{op_value, join_value, stage_value};
-ghost use Rattle.pipe_stages.specs.Staged.{staged, scan_of, AreTables, IsStaged};
+ghost use Rattle.pipe_stages.specs.Staged.{staged, scan_of, AreTables};
 
 use crate::flows::rows_at;
+use crate::plan_tables::PlanTables;
 use crate::reach::is_marked;
 use crate::stage::{JoinStage, RowOp, Stage};
 use pipe_expr::Expr;
 use pipe_frame::{DataFrame, Field, List, Row};
-use pipe_plain::{Sides, is_below, plan_schemas, scanned_rows};
+use pipe_plain::Sides;
 use pipe_plan::{Arena, IR, JoinOptions, swap_join_order};
-use pipe_rows::partition_count;
-use std::alloc::{AllocError, Global};
+use std::marker::Model;
 
-/// What the stages of a plan refer to: for each node whether it is under the root, its schema, and its rows where it
-/// is a scan.
-#[derive(Debug)]
-pub struct PlanTables {
-    pub root: u32,
-    pub under: List<bool>,
-    pub schemas: List<List<Field>>,
-    pub scans: List<List<Row>>,
-}
-
-impl Drop for PlanTables {
-    fn drop(self) {
-        let PlanTables {
-            root: _,
-            under,
-            schemas,
-            scans,
-        } = self;
-        drop(under);
-        drop(schemas);
-        drop(scans);
-    }
-}
-
-/// The stages of a plan under its root, and for how many workers and partitions they are.
+/// The stages of a plan under its root, each made when it is asked for, and for how many workers and partitions they
+/// are.
+#[derive(Drop)]
 pub struct StagedPlan<'a> {
-    pub stages: List<Stage<'a>>,
-    pub root: u32,
-    pub workers: u32,
-    pub parts: u32,
+    arena: &'a Arena,
+    tables: &'a PlanTables,
+    workers: u32,
+    parts: u32,
 }
 
-impl<'a> Drop for StagedPlan<'a> {
-    fn drop(self) {
-        let StagedPlan {
-            stages,
-            root: _,
-            workers: _,
-            parts: _,
-        } = self;
-        drop(stages);
-    }
-}
+impl<'a> Model for StagedPlan<'a> {
+    ghost use Rattle.pipe_plan.specs.Plan.{plan_of};
+    ghost use Rattle.pipe_stages.specs.Staged.{Staging, AreTables};
+    ghost use Rattle.pipe_expr.specs.contracts.expr.Expr as expr;
+    ghost use Rattle.std.specs.Coded.{codes};
 
-/// For each node, whether it is under the root.
-fn under_marks(alloc: Global, nodes: &[IR], root: u32) -> Result<List<bool>, AllocError>
-    requires { length nodes.now ≤ most_nodes }
-    ensures { let marks_of = is_under (map node_of nodes.now) root in
-        IfOk result (λ marks. marks ≡ map marks_of (range_with_len 0 (length nodes.now))) }
-{
-    let mut marks = List::new(alloc);
-    for n in 0..nodes.len() {
-        marks.push(is_below(alloc, nodes, root, n as u32)?)?;
-    }
-    Ok(marks)
-}
+    ghost Value = { Staging };
 
-/// The rows of a node, where it is a scan.
-fn scan_rows_of(alloc: Global, frames: &[DataFrame], node: &IR) -> Result<List<Row>, AllocError>
-    ensures { IfOk result (λ rows. rows ≡ scan_of frames.now (node_of node.now)) }
-{
-    match node {
-        IR::DataFrameScan { frame, columns } => scanned_rows(alloc, frames, *frame, columns),
-        IR::Filter {
-            input: _,
-            predicate: _,
-        } => Ok(List::new(alloc)),
-        IR::SimpleProjection {
-            input: _,
-            columns: _,
-        } => Ok(List::new(alloc)),
-        IR::Select { input: _, exprs: _ } => Ok(List::new(alloc)),
-        IR::HStack { input: _, exprs: _ } => Ok(List::new(alloc)),
-        IR::MapFunction {
-            input: _,
-            function: _,
-        } => Ok(List::new(alloc)),
-        IR::Union { inputs: _ } => Ok(List::new(alloc)),
-        IR::Join {
-            left: _,
-            right: _,
-            left_on: _,
-            right_on: _,
-            options: _,
-        } => Ok(List::new(alloc)),
-        IR::Sort {
-            input: _,
-            by: _,
-            options: _,
-        } => Ok(List::new(alloc)),
-    }
-}
+    ghost coded = { Prim.hlevel (codes, expr.the_row.coded) };
 
-/// The rows of each scan.
-fn all_scans(
-    alloc: Global,
-    frames: &[DataFrame],
-    nodes: &[IR],
-) -> Result<List<List<Row>>, AllocError>
-    ensures { let nodes = map node_of nodes.now in
-        IfOk result (λ scans. scans ≡ map (scan_of frames.now) nodes) }
-{
-    let mut scans = List::new(alloc);
-    for node in nodes {
-        scans.push(scan_rows_of(alloc, frames, node)?)?;
-    }
-    Ok(scans)
-}
+    ghost view = { λ p. record { arena = p.arena.now; root = p.tables.now.root; workers = p.workers; parts = p.parts } };
 
-impl PlanTables {
-    /// The tables of a plan.
-    pub fn of(alloc: Global, arena: &Arena, root: u32) -> Result<PlanTables, AllocError>
-        requires few { length arena.now.nodes ≤ most_nodes }
-        ensures root { IfOk result (λ tables. tables.root ≡ root) }
-        ensures tables { IfOk result (AreTables (plan_of arena.now)) }
-    {
-        let under = under_marks(alloc, arena.nodes.as_slice(), root)?;
-        let schemas = plan_schemas(alloc, arena)?;
-        let scans = all_scans(alloc, arena.frames.as_slice(), arena.nodes.as_slice())?;
-        Ok(PlanTables {
-            root,
-            under,
-            schemas,
-            scans,
-        })
-    }
+    ghost invariant = { λ p. AreTables (plan_of p.arena.now) p.tables.now };
 }
 
 /// The schema of a node, none of it where there is none.
@@ -277,43 +171,56 @@ fn stage_of_number<'a>(arena: &'a Arena, tables: &'a PlanTables, k: usize) -> St
 }
 
 impl<'a> StagedPlan<'a> {
-    /// The stages of a plan, for some workers.
-    pub fn of(
-        alloc: Global,
-        arena: &'a Arena,
-        tables: &'a PlanTables,
-        workers: u32,
-    ) -> Result<StagedPlan<'a>, AllocError>
-        requires tables { AreTables (plan_of arena.now) tables.now }
-        requires workers { workers ≤ 2 ^ 31 }
-        ensures { IfOk result (IsStaged (plan_of arena.now) tables.now.root workers) }
+    /// The stages of a plan with these tables, for so many workers and partitions.
+    pub fn of(arena: &'a Arena, tables: &'a PlanTables, workers: u32, parts: u32) -> StagedPlan<'a>
+        requires { AreTables (plan_of arena.now) tables.now }
+        ensures { let root = tables.now.root in
+            result ≡ record { arena = arena.now; root = root; workers = workers; parts = parts } }
     {
-        let mut stages = List::new(alloc);
-        for k in 0..arena.nodes.len() {
-            stages.push(stage_of_number(arena, tables, k))?;
-        }
-        Ok(StagedPlan {
-            stages,
-            root: tables.root,
+        StagedPlan {
+            arena,
+            tables,
             workers,
-            parts: partition_count(workers),
-        })
+            parts,
+        }
     }
 
     /// How many nodes there are.
     pub fn len(&self) -> usize
-        ensures { result ≡ length self.now.stages }
+        ensures { result ≡ (staged self.now).size }
     {
-        self.stages.len()
+        self.arena.nodes.len()
+    }
+
+    /// The root.
+    pub fn root(&self) -> u32
+        ensures { result ≡ self.now.root }
+    {
+        self.tables.root
+    }
+
+    /// For how many workers the stages are.
+    pub fn workers(&self) -> u32
+        ensures { result ≡ self.now.workers }
+    {
+        self.workers
+    }
+
+    /// Into how many partitions keys are parted.
+    pub fn parts(&self) -> u32
+        ensures { result ≡ self.now.parts }
+    {
+        self.parts
     }
 
     /// The stage of a number, a union of nothing where there is none.
     pub fn stage(&self, k: usize) -> Stage<'a>
         ensures { stage_value result ≡ (staged self.now).stage k }
     {
-        match self.stages.as_slice().get(k) {
-            Some(stage) => *stage,
-            None => Stage::Union(&[]),
+        if k < self.arena.nodes.len() {
+            stage_of_number(self.arena, self.tables, k)
+        } else {
+            Stage::Union(&[])
         }
     }
 }

@@ -1,6 +1,6 @@
 //! Which nodes the rows of a node come to.
 
-ghost use Rattle.std.specs.Prelude.{◌≡◌, ◌==◌, ◌||◌, false, length, IfOk};
+ghost use Rattle.std.specs.Prelude.{◌≡◌, ◌==◌, ◌||◌, false, IfOk};
 ghost use Rattle.std.specs.List.{list_any};
 ghost use Rattle.pipe_events.specs.Stages.{feeds, reach_at};
 ghost use Rattle.pipe_plain.specs.Tables.{table, at_place};
@@ -66,7 +66,7 @@ fn is_reached(k: usize, n: usize, fed: bool) -> bool
 /// For each node, whether the rows of a node come to it.
 pub fn reach_marks(alloc: Global, plan: &StagedPlan, n: usize) -> Result<List<bool>, AllocError>
     ensures { let at = reach_at (staged plan.now) n in
-        IfOk result (λ marks. marks ≡ table false at (length plan.now.stages)) }
+        IfOk result (λ marks. marks ≡ table false at (staged plan.now).size) }
 {
     let mut marks = List::new(alloc);
     for k in 0..plan.len() {

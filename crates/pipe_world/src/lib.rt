@@ -8,8 +8,8 @@ mod blanks;
 mod keys;
 mod load;
 mod positions;
-mod world;
+mod progress;
 
 pub use keys::{is_among, is_row_among};
 pub use load::Load;
-pub use world::World;
+pub use progress::Progress;

@@ -1,27 +1,20 @@
 //! The answer to a list of events.
 
-ghost use Rattle.std.specs.Prelude.{◌≡◌, ◌<◌, ◌≤◌, ◌^◌, None, length};
-ghost use Rattle.pipe_plan.specs.Plan.{plan_of as plan_value};
-ghost use Rattle.pipe_plan.specs.Faults.{most_nodes, plan_fault as fault_of};
-ghost use Rattle.pipe_stages.specs.Staged.{staged};
-ghost use Rattle.pipe_replay.specs.Replayed.{AreBelow};
+ghost use Rattle.pipe_replay.specs.KeptWorld.{IsOf};
 
 use crate::written::{WrittenEvent, WrittenList};
-use pipe_allowed::is_complete;
+use pipe_check::{CheckedPlan, check_plan};
 use pipe_events::Event;
 use pipe_frame::{AnyValue, List, Row};
-use pipe_plain::plan_fault;
-use pipe_plan::Arena;
-use pipe_replay::{play, root_bag};
+use pipe_plan::PipeError;
+use pipe_replay::{Played, World, play};
 use pipe_rows::Fnv;
-use pipe_stages::{PlanTables, StagedPlan};
-use pipe_world::World;
 use std::alloc::{AllocError, Global};
 use worked_builders::plan_of;
 
 /// What is done to a list at a place.
 #[derive(Clone, Copy)]
-enum Damage {
+pub(crate) enum Damage {
     /// Nothing.
     Whole,
     /// The event is left out.
@@ -53,35 +46,24 @@ fn push_row(alloc: Global, text: &mut String, row: &Row) -> Result<(), AllocErro
     text.push_str(")")
 }
 
-fn push_end(
+/// Appends whether all was done that a plan's world needs, and the rows of its root.
+pub(crate) fn push_end(
     alloc: Global,
     text: &mut String,
-    plan: &StagedPlan,
+    plan: &CheckedPlan,
     world: &World,
-) -> Result<(), AllocError> {
-    text.push_str(if is_complete(plan, world) {
+) -> Result<(), AllocError>
+    requires { IsOf plan.now world.now }
+{
+    text.push_str(if world.is_complete(plan) {
         "complete"
     } else {
         "incomplete"
     })?;
-    for row in root_bag(plan, world) {
+    for row in world.root_bag() {
         push_row(alloc, text, row)?;
     }
     text.push_str("\n")
-}
-
-/// Appends which event isn't allowed, or the end that the world stands at.
-fn push_answer(
-    alloc: Global,
-    text: &mut String,
-    plan: &StagedPlan,
-    world: &World,
-    refused: Option<usize>,
-) -> Result<(), AllocError> {
-    match refused {
-        Some(i) => text.push_str(format!(in alloc; "refused {i}\n")?.as_str()),
-        None => push_end(alloc, text, plan, world),
-    }
 }
 
 // ---- lists of events
@@ -118,7 +100,7 @@ fn push_place(
     }
 }
 
-fn events_of(
+pub(crate) fn events_of(
     alloc: Global,
     written: &[WrittenEvent],
     damage: Damage,
@@ -132,26 +114,23 @@ fn events_of(
 
 // ---- answers
 
-/// Plays a list, damaged or not, and appends its answer.
+/// Plays events, and appends the first that isn't allowed, or the end that the world stands at.
 fn tell_events(
     alloc: Global,
     answers: &mut String,
-    arena: &Arena,
-    plan: &StagedPlan,
-    written: &[WrittenEvent],
-    damage: Damage,
-) -> Result<(), AllocError>
-    requires parts { 0 < plan.now.parts }
-    requires below { AreBelow (staged plan.now) }
-{
-    let events = events_of(alloc, written, damage)?;
-    let played = play(alloc, arena, plan, &Fnv, events.as_slice())?;
-    let refused = if played.count < events.len() {
-        Some(played.count)
+    plan: &CheckedPlan,
+    workers: u32,
+    events: &[Event],
+) -> Result<(), AllocError> {
+    if workers > 256 {
+        return answers.push_str("too many workers\n");
+    }
+    let Played { world, count } = play(alloc, plan, &Fnv, workers, events)?;
+    if count < events.len() {
+        answers.push_str(format!(in alloc; "refused {count}\n")?.as_str())
     } else {
-        None
-    };
-    push_answer(alloc, answers, plan, &played.world, refused)
+        push_end(alloc, answers, plan, &world)
+    }
 }
 
 /// Plays a list, and appends what it shows and its answer.
@@ -162,6 +141,7 @@ fn tell(alloc: Global, answers: &mut String, list: WrittenList) -> Result<(), Al
     tell_at(alloc, answers, list, Damage::Whole)
 }
 
+/// Plays a list, damaged or not, and appends its answer.
 fn tell_at(
     alloc: Global,
     answers: &mut String,
@@ -169,31 +149,12 @@ fn tell_at(
     damage: Damage,
 ) -> Result<(), AllocError> {
     let built = plan_of(alloc, list.nodes)?;
-    if built.arena.nodes.len() > 4096 || list.workers > 256 {
-        return answers.push_str("too large\n");
+    let events = events_of(alloc, list.events, damage)?;
+    match check_plan(alloc, &built.arena, built.root) {
+        Ok(plan) => tell_events(alloc, answers, &plan, list.workers, events.as_slice()),
+        Err(PipeError::Memory) => Err(AllocError),
+        Err(_) => answers.push_str("fault\n"),
     }
-    match plan_fault(alloc, &built.arena, built.root)? {
-        Some(_) => answers.push_str("fault\n"),
-        None => tell_in(alloc, answers, &built.arena, built.root, list, damage),
-    }
-}
-
-#[tactic(auto, using(pipe_replay::proofs::Parts::parts_rules, pipe_replay::proofs::Sides::below_rules))]
-fn tell_in(
-    alloc: Global,
-    answers: &mut String,
-    arena: &Arena,
-    root: u32,
-    list: WrittenList,
-    damage: Damage,
-) -> Result<(), AllocError>
-    requires few { length arena.now.nodes ≤ most_nodes }
-    requires workers { list.workers ≤ 2 ^ 31 }
-    requires faultless { fault_of (plan_value arena.now) root ≡ None }
-{
-    let tables = PlanTables::of(alloc, arena, root)?;
-    let plan = StagedPlan::of(alloc, arena, &tables, list.workers)?;
-    tell_events(alloc, answers, arena, &plan, list.events, damage)
 }
 
 /// Appends what some lists show, and their answers.

@@ -7,7 +7,8 @@ use pipe_events::Side;
 use std::alloc::{AllocError, Global};
 use worked_builders::WrittenNode::{Join, Scan};
 
-const LIST: WrittenList = WrittenList {
+/// The full join of one row and two, step by step.
+pub(crate) const LIST: WrittenList = WrittenList {
     shows: "a full join: one row matches, and the other is flushed",
     nodes: &[Scan(ONE), Scan(ONE_AND_TWO), Join(0, 1, FULL)],
     workers: 1,

@@ -4,6 +4,7 @@
 
 mod answers;
 mod anti_joins;
+mod calls;
 mod full_joins;
 mod nested_joins;
 mod refused_closings;

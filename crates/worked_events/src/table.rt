@@ -1,7 +1,7 @@
 //! The worked lists, in the order in which they are told.
 
 use crate::{
-    anti_joins, full_joins, nested_joins, refused_closings, refused_flushes, refused_marks,
+    anti_joins, calls, full_joins, nested_joins, refused_closings, refused_flushes, refused_marks,
     refused_takes, semi_joins, sorts,
 };
 use std::alloc::{AllocError, Global};
@@ -18,5 +18,6 @@ pub(crate) fn answers(alloc: Global) -> Result<String, AllocError> {
     refused_marks::tell_all(alloc, &mut answers)?;
     refused_closings::tell_all(alloc, &mut answers)?;
     refused_flushes::tell_all(alloc, &mut answers)?;
+    calls::tell_all(alloc, &mut answers)?;
     Ok(answers)
 }

@@ -12,7 +12,7 @@ use Rattle.pipe_allowed.proofs.chains.is_chain_built.Goals as goal
 pub returns-then-not-is_build_closed : goal.returns-then-not-is_build_closed
 returns-then-not-is_build_closed c =
     let plan = staged c.args.plan.now in
-    let size = length c.args.plan.now.stages in
+    let size = (staged c.args.plan.now).size in
     let closed = (world_of c.args.world.now).closed in
     let reached = at_place false c.as_slice-reached.result.now in
     let same : reached ≡ reaches plan c.args.n = ap (at_place false) (c.as_slice-reached.ensures ∙ c.in_ok-marks.ensures) ∙ marks-reach plan c.args.n in
@@ -22,7 +22,7 @@ returns-then-not-is_build_closed c =
 pub returns : goal.returns
 returns c =
     let plan = staged c.args.plan.now in
-    let size = length c.args.plan.now.stages in
+    let size = (staged c.args.plan.now).size in
     let closed = (world_of c.args.world.now).closed in
     let reached = at_place false c.as_slice-reached.result.now in
     let same : reached ≡ reaches plan c.args.n = ap (at_place false) (c.as_slice-reached.ensures ∙ c.in_ok-marks.ensures) ∙ marks-reach plan c.args.n in

@@ -7,4 +7,4 @@ use Rattle.pipe_allowed.proofs.closing.are_coming_spent.Goals as goal
 
 pub returns-then-not-branch : goal.returns-then-not-branch
 returns-then-not-branch c =
-    sym (below-stops (spent_if_coming (staged c.args.plan.now) (world_of c.args.world.now) c.args.t) c.loop-m.m (length c.args.plan.now.stages) (omega (arith, c.loop-m-test.true, c.len-m-end.ensures)) (sym c.in_ok-is_spent_if_coming.ensures ∙ c.if-not-branch.true))
+    sym (below-stops (spent_if_coming (staged c.args.plan.now) (world_of c.args.world.now) c.args.t) c.loop-m.m (staged c.args.plan.now).size (omega (arith, c.loop-m-test.true, c.len-m-end.ensures)) (sym c.in_ok-is_spent_if_coming.ensures ∙ c.if-not-branch.true))

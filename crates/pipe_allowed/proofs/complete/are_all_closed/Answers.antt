@@ -7,4 +7,4 @@ use Rattle.pipe_allowed.proofs.complete.are_all_closed.Goals as goal
 
 pub returns-then-not-are_sides_closed : goal.returns-then-not-are_sides_closed
 returns-then-not-are_sides_closed c =
-    sym (below-stops (closed_at (staged c.args.plan.now) (world_of c.args.world.now)) c.loop-n.n (length c.args.plan.now.stages) (omega (arith, c.loop-n-test.true, c.len-n-end.ensures)) (sym c.are_sides_closed.ensures ∙ c.if-not-are_sides_closed.true))
+    sym (below-stops (closed_at (staged c.args.plan.now) (world_of c.args.world.now)) c.loop-n.n (staged c.args.plan.now).size (omega (arith, c.loop-n-test.true, c.len-n-end.ensures)) (sym c.are_sides_closed.ensures ∙ c.if-not-are_sides_closed.true))

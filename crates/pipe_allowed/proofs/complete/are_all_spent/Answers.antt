@@ -7,4 +7,4 @@ use Rattle.pipe_allowed.proofs.complete.are_all_spent.Goals as goal
 
 pub returns-then-not-is_spent : goal.returns-then-not-is_spent
 returns-then-not-is_spent c =
-    sym (below-stops (spent_at (staged c.args.plan.now) (world_of c.args.world.now)) c.loop-n.n (length c.args.plan.now.stages) (omega (arith, c.loop-n-test.true, c.len-n-end.ensures)) (sym c.is_spent.ensures ∙ c.if-not-is_spent.true))
+    sym (below-stops (spent_at (staged c.args.plan.now) (world_of c.args.world.now)) c.loop-n.n (staged c.args.plan.now).size (omega (arith, c.loop-n-test.true, c.len-n-end.ensures)) (sym c.is_spent.ensures ∙ c.if-not-is_spent.true))

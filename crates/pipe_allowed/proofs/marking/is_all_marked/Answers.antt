@@ -7,4 +7,4 @@ use Rattle.pipe_allowed.proofs.marking.is_all_marked.Goals as goal
 
 pub returns-then-not-branch : goal.returns-then-not-branch
 returns-then-not-branch c =
-    sym (below-stops (join_passes (staged c.args.plan.now) (owes_none (staged c.args.plan.now) (world_of c.args.world.now) c.args.worker)) c.loop-k.k (length c.args.plan.now.stages) (omega (arith, c.loop-k-test.true, c.len-k-end.ensures)) (sym c.in_ok-is_none_owed_at.ensures ∙ c.if-not-branch.true))
+    sym (below-stops (join_passes (staged c.args.plan.now) (owes_none (staged c.args.plan.now) (world_of c.args.world.now) c.args.worker)) c.loop-k.k (staged c.args.plan.now).size (omega (arith, c.loop-k-test.true, c.len-k-end.ensures)) (sym c.in_ok-is_none_owed_at.ensures ∙ c.if-not-branch.true))

@@ -8,5 +8,5 @@ use Rattle.pipe_replay.proofs.emitting.emit.Given as goal
 abbrev pub invariant-loop-t : goal.invariant-loop-t
 invariant-loop-t l = record {
   world : world_of l.world ≡ filled_below (staged l.plan) (gathered l.flows) l.t (world_of l.initial.world);
-  nodes : IsFor (length l.plan.stages) l.world;
+  nodes : IsFor (staged l.plan).size l.world;
 }

@@ -5,4 +5,4 @@ use Rattle.pipe_replay.specs.Sinks.{ends_at}
 use Rattle.pipe_replay.proofs.emitting.has_sink.Given as goal
 
 abbrev pub invariant-loop-n : goal.invariant-loop-n
-invariant-loop-n l = list_any (ends_at (staged l.plan) l.t) (range_with_len l.n (length l.plan.stages - l.n)) ≡ list_any (ends_at (staged l.plan) l.t) (range_with_len 0 (length l.plan.stages))
+invariant-loop-n l = list_any (ends_at (staged l.plan) l.t) (range_with_len l.n ((staged l.plan).size - l.n)) ≡ list_any (ends_at (staged l.plan) l.t) (range_with_len 0 (staged l.plan).size)

@@ -7,12 +7,12 @@ use Rattle.pipe_events.specs.EventValues.{event_value}
 use Rattle.pipe_stages.specs.Staged.{staged}
 use Rattle.pipe_replay.specs.KeptLists.{AreKept}
 use Rattle.pipe_replay.specs.Replayed.{parted}
-use Rattle.pipe_replay.proofs.replaying.play_events.Given as goal
+use Rattle.pipe_replay.proofs.applying.apply_while_allowed.Given as goal
 
 abbrev pub invariant-loop-count : goal.invariant-loop-count
 invariant-loop-count g l = record {
   allowed : all_allowed (parted (g.H.KeyHasher.hash_of l.hasher) l.plan) start (map event_value (take l.count l.events)) ≡ true;
   world : world_of l.world ≡ run (parted (g.H.KeyHasher.hash_of l.hasher) l.plan) start (map event_value (take l.count l.events));
-  nodes : IsFor (length l.plan.stages) l.world;
+  nodes : IsFor (staged l.plan).size l.world;
   kept : AreKept (staged l.plan) (world_of l.world).bag l.lists;
 }

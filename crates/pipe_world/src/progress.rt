@@ -1,4 +1,4 @@
-//! The world of a run.
+//! How far a run came.
 
 ghost use Rattle.std.specs.Prelude.{◌≡◌, ℕ, ◌<◌, [], ◌∷◌, length, IfOk, OnOk, Some};
 ghost use Rattle.pipe_events.specs.Worlds.{start, closed_above, others};
@@ -16,9 +16,10 @@ use pipe_plain::push_rows;
 use std::alloc::{AllocError, Global};
 use std::marker::Model;
 
-/// What was taken, is on its way, is flagged, flushed and closed, and the rows of each sink.
+/// How far a run came: what was taken, is on its way, is flagged, flushed and closed, and the rows of each sink. Seen as
+/// the world that this is.
 #[derive(Debug)]
-pub struct World {
+pub struct Progress {
     taken: Vec<Positions>,
     pending: Vec<Load>,
     flagged: Vec<List<Row>>,
@@ -27,9 +28,9 @@ pub struct World {
     bags: Vec<List<Row>>,
 }
 
-impl Drop for World {
+impl Drop for Progress {
     fn drop(self) {
-        let World {
+        let Progress {
             taken,
             pending,
             flagged,
@@ -46,7 +47,7 @@ impl Drop for World {
     }
 }
 
-impl Model for World {
+impl Model for Progress {
     ghost use Rattle.pipe_world.specs.Shown.{Shown};
 
     ghost Value = { Shown };
@@ -81,14 +82,14 @@ fn drop_loads(loads: &mut Vec<Load>, worker: u32)
     loads.retain(|load| load.worker() != worker);
 }
 
-impl World {
-    /// The world of so many nodes in which nothing has happened.
+impl Progress {
+    /// That of so many nodes at which nothing has happened.
     #[tactic(auto, using(crate::proofs::BlankLists::blank_rules))]
-    pub fn start(alloc: Global, nodes: usize) -> Result<World, AllocError>
+    pub fn start(alloc: Global, nodes: usize) -> Result<Progress, AllocError>
         ensures start { IfOk result (λ world. world_of world ≡ start) }
         ensures nodes { IfOk result (IsFor nodes) }
     {
-        Ok(World {
+        Ok(Progress {
             taken: no_positions(alloc, nodes)?,
             pending: Vec::new(alloc),
             flagged: empty_lists(alloc, nodes)?,

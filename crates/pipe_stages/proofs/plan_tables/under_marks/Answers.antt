@@ -2,7 +2,7 @@ use Rattle.std.proofs.Common.{◌≡◌, ◌∙◌, sym, map, arith}
 use Rattle.std.proofs.lemmas.List.FromFn.{map-range_with_len_more}
 use Rattle.pipe_plan.specs.Node.{node_of}
 use Rattle.pipe_plan.specs.Under.{is_under}
-use Rattle.pipe_stages.proofs.plan.under_marks.Goals as goal
+use Rattle.pipe_stages.proofs.plan_tables.under_marks.Goals as goal
 
 pub loop-n-preserved : goal.loop-n-preserved
 loop-n-preserved c =
