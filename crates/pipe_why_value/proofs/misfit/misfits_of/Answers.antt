@@ -33,6 +33,7 @@ returns-clause-innermost c =
     (told_whole root p c.new-walk.result c.look_at.new.walk c.in_ok-look_at.ensures.looked c.new-walk.ensures.steps c.new-walk.ensures.first same))
 
 pub returns-clause-none : goal.returns-clause-none
-returns-clause-none c = λ job.
-    ((λ none. c.in_ok-look_at.ensures.job (sym c.misfits.ensures ∙ none) (c.whole_of.ensures ∙ ap whole_want job)),
-    (λ spelled. absurd (c.in_ok-is_good_job.ensures.no c.if-branch.false job spelled.0 spelled.1)))
+returns-clause-none c = λ job. (
+  (λ none. c.in_ok-look_at.ensures.job (sym c.misfits.ensures ∙ none) (c.whole_of.ensures ∙ ap whole_want job)),
+  (λ spelled. absurd (c.in_ok-is_good_job.ensures.no c.if-branch.false job spelled.0 spelled.1)),
+)
