@@ -3,8 +3,8 @@
 use crate::items::items_of;
 use crate::keys::{KeyTypes, key_of};
 use pipe_events::{Event, Side};
-use pipe_frame::List;
 use pipe_plan::Arena;
+use pipe_schema::List;
 use pipe_value::Item;
 use std::alloc::{AllocError, Global};
 

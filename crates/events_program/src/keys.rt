@@ -1,9 +1,10 @@
 //! Keys of marks, read by the types of a join's keys.
 
 use pipe_expr::expr_type;
-use pipe_frame::{AnyValue, Bytes, DataType, Field, List, Row, Text};
+use pipe_frame::Row;
 use pipe_plain::plan_schemas;
 use pipe_plan::{Arena, IR, swap_join_order};
+use pipe_schema::{AnyValue, Bytes, DataType, Field, List, Text};
 use pipe_value::{Item, Value};
 use std::alloc::{AllocError, Global};
 

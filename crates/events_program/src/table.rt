@@ -1,7 +1,9 @@
 //! The lines of rows.
 
-use pipe_frame::{DataFrame, Field, Row, Series, TryClone};
+use pipe_column::Series;
+use pipe_frame::{DataFrame, Row};
 use pipe_job::{push_head_line, push_rows};
+use pipe_schema::{Field, TryClone};
 use std::alloc::{AllocError, Global};
 
 /// Adds the cell of a row at a place.

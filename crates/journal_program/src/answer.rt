@@ -2,8 +2,8 @@
 
 use crate::written::event_line;
 use pipe_exec::{RunAnswer, run_plan};
-use pipe_frame::{NeverStop, OpenGate};
 use pipe_job::{read_job, row_line};
+use pipe_schema::{NeverStop, OpenGate};
 use std::alloc::{AllocError, Global};
 use std::thread::Threads;
 

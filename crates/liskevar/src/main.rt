@@ -3,7 +3,7 @@
 #![tactic(auto)]
 
 use pipe_cli::{Refusal, StreamWriter, SystemReader, run_words};
-use pipe_frame::{NeverStop, OpenGate, Text};
+use pipe_schema::{NeverStop, OpenGate, Text};
 use std::alloc::Global;
 use std::io::Write;
 use std::process::ExitCode;

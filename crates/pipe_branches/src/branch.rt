@@ -1,6 +1,6 @@
 //! The branches of a plan (polars-pipe's `Branch` and `SinkNode`, there private to its converter).
 
-use pipe_frame::List;
+use pipe_schema::List;
 
 /// Where the rows of a branch go.
 #[derive(Clone, Copy, Debug, PartialEq, Eq)]

@@ -8,7 +8,7 @@ ghost use Rattle.pipe_branches.specs.Texts.{texts as texts_of_plan};
 use crate::branch::Branch;
 use crate::plans::{cut_arena, explain_arena};
 use pipe_check::CheckedPlan;
-use pipe_frame::{List, Text};
+use pipe_schema::{List, Text};
 use std::alloc::{AllocError, Global};
 
 /// The branches of a checked plan: pipelines in the order in which they are run, each from a source through operators

@@ -8,7 +8,7 @@ ghost use Rattle.pipe_branches.specs.Climbing.{climbed, passed, name_all, add_na
 use crate::above::{Above, Step};
 use crate::branch::{Branch, SinkAt, SinkNode};
 use crate::naming::Naming;
-use pipe_frame::List;
+use pipe_schema::List;
 use std::alloc::{AllocError, Global};
 
 /// Puts a sink behind the operators of a branch.

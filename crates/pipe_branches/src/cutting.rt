@@ -11,8 +11,8 @@ use crate::branch::Branch;
 use crate::climbing::branch_from;
 use crate::naming::Naming;
 use crate::turn::{Turn, are_scans, turn_at_node, union_inputs};
-use pipe_frame::List;
 use pipe_plan::IR;
+use pipe_schema::List;
 use std::alloc::{AllocError, Global};
 use std::marker::Model;
 

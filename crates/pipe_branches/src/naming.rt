@@ -5,7 +5,7 @@ ghost use Rattle.pipe_branches.specs.Branches.{number_of};
 ghost use Rattle.pipe_branches.specs.Climbing.{Named, slot_of, is_sink_in, add_name};
 
 use crate::branch::SinkAt;
-use pipe_frame::List;
+use pipe_schema::List;
 use std::alloc::{AllocError, Global};
 use std::marker::Model;
 

@@ -9,8 +9,8 @@ ghost use Rattle.pipe_branches.specs.Texts.{texts as texts_of_plan};
 use crate::branch::Branch;
 use crate::cutting::cut_nodes;
 use crate::texts::texts_of_branches;
-use pipe_frame::{List, Text};
 use pipe_plan::Arena;
+use pipe_schema::{List, Text};
 use std::alloc::{AllocError, Global};
 
 /// The branches of a well-formed plan, in time linear in the arena and in what they hold.

@@ -8,8 +8,8 @@ ghost use Rattle.pipe_branches.specs.Texts.{arrow_word, operator_texts, between,
 
 use crate::branch::{Branch, SinkNode};
 use crate::words::{word_at, word_of_sink};
-use pipe_frame::{List, Text};
 use pipe_plan::IR;
+use pipe_schema::{List, Text};
 use std::alloc::{AllocError, Global};
 
 /// Puts a word behind an arrow.

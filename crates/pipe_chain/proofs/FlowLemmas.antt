@@ -3,8 +3,8 @@ use Rattle.std.proofs.Common.{◌≡◌, ℕ, List, [], ◌∷◌, ◌++◌, len
 use Rattle.std.specs.List.{flat_map}
 use Rattle.std.proofs.lemmas.List.Concat.{flat_map-append}
 use Rattle.std.proofs.lemmas.List.{append-nil}
-use Rattle.pipe_frame.specs.Rows.{Row, Same}
-use Rattle.pipe_frame.proofs.Weights.{total-append}
+use Rattle.pipe_schema.specs.Rows.{Row, Same}
+use Rattle.pipe_schema.proofs.Weights.{total-append}
 use Rattle.pipe_chain.specs.Keys.{SameKeys}
 use Rattle.pipe_chain.specs.Flow.{Work, Acts, both_acts, made, Flows, nothing, added, Grown, AllGrown, Few, AllFew}
 use Rattle.pipe_chain.proofs.Weighing.{weighs, rows-by, rows-refl, rows-sym, rows-trans, rows-append, rows-flat, keys-weigh, keys-by, keys-refl, keys-trans, keys-fewer, keys-within, asks-same, gains-same}

@@ -2,9 +2,9 @@
 use Rattle.std.proofs.Common.{ℕ, List, [], refl, arith, append-nil}
 use Rattle.std.specs.Prelude.{Result, Ok, Err, IfOk, IfErr}
 use Rattle.std.proofs.lemmas.Result.{IfOk-weaker}
-use Rattle.pipe_frame.specs.Rows.{Row}
+use Rattle.pipe_schema.specs.Rows.{Row}
 use Rattle.pipe_frame.specs.Frame.{Table}
-use Rattle.pipe_frame.specs.declared.field.Field.{Field}
+use Rattle.pipe_schema.specs.declared.field.Field.{Field}
 use Rattle.pipe_frame.specs.declared.chunk.DataChunk.{DataChunk}
 use Rattle.pipe_ops.specs.Pieces.{Pays, Gives}
 use Rattle.pipe_ops.specs.declared.operator.OperatorResult.{OperatorResult}

@@ -1,9 +1,9 @@
 -- Rows and keys by their weights: two lists have the same of them where every weight sums to the same over both.
 use Rattle.std.proofs.Common.{◌≡◌, ℕ, ◌+◌, ◌≤◌, List, [], ◌∷◌, ◌++◌, length, refl, sym, ◌∙◌, arith}
 use Rattle.std.specs.List.{flat_map}
-use Rattle.pipe_frame.specs.Rows.{Row, Same, Within}
-use Rattle.pipe_frame.specs.Weights.{total}
-use Rattle.pipe_frame.proofs.Weights.{total-append, total-flat_map, SameBag-from_rows, Same-from_bag, WithinBag-from_rows, Within-from_bag}
+use Rattle.pipe_schema.specs.Rows.{Row, Same, Within}
+use Rattle.pipe_schema.specs.Weights.{total}
+use Rattle.pipe_schema.proofs.Weights.{total-append, total-flat_map, SameBag-from_rows, Same-from_bag, WithinBag-from_rows, Within-from_bag}
 use Rattle.pipe_words.specs.Sums.{total as key_total}
 use Rattle.pipe_chain.specs.Keys.{SameKeys, WithinKeys}
 

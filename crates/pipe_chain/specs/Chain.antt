@@ -1,6 +1,6 @@
 -- Operators in a row, each with what all lanes share of it.
 use Rattle.std.specs.Prelude.{◌≡◌, List, [], ◌∷◌, map}
-use Rattle.pipe_frame.specs.declared.field.Field.{Field}
+use Rattle.pipe_schema.specs.declared.field.Field.{Field}
 use Rattle.pipe_chain.specs.Flow.{Work, Acts}
 use Rattle.pipe_chain.specs.declared.operator.Operator.{Ghosts as OperatorWords}
 

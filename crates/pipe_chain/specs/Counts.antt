@@ -1,7 +1,7 @@
 -- How many rows each operator and the sink were given, and when that is too many.
 use Rattle.std.specs.Prelude.{◌≡◌, ℕ, ◌+◌, ◌<◌, ◌≤◌, List, [], ◌∷◌, ◌++◌, length, ◌⊎◌}
 use Rattle.std.specs.List.{flat_map}
-use Rattle.pipe_frame.specs.Rows.{Row, Same}
+use Rattle.pipe_schema.specs.Rows.{Row, Same}
 use Rattle.pipe_chain.specs.Keys.{SameKeys}
 use Rattle.pipe_chain.specs.Flow.{Work, Acts, made, Flows, Grown, AllGrown, Few, AllFew}
 use Rattle.pipe_chain.specs.Executed.{Owed}

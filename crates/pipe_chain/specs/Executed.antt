@@ -2,7 +2,7 @@
 use Rattle.std.specs.Prelude.{◌≡◌, ℕ, ◌<◌, List, [], ◌++◌, length, true}
 use Rattle.std.specs.List.{flat_map}
 use Rattle.pipe_frame.specs.Frame.{Table}
-use Rattle.pipe_frame.specs.Rows.{Row, Same}
+use Rattle.pipe_schema.specs.Rows.{Row, Same}
 use Rattle.pipe_frame.specs.declared.chunk.DataChunk.{DataChunk}
 use Rattle.pipe_ops.specs.Pieces.{is_more}
 use Rattle.pipe_ops.specs.declared.operator.OperatorResult.{OperatorResult}

@@ -1,7 +1,7 @@
 -- Rows through operators that also mark keys of their joins' built sides.
 use Rattle.std.specs.Prelude.{ℕ, List, [], ◌∷◌, ◌++◌}
 use Rattle.std.specs.List.{flat_map}
-use Rattle.pipe_frame.specs.Rows.{Row, Same}
+use Rattle.pipe_schema.specs.Rows.{Row, Same}
 use Rattle.pipe_chain.specs.Keys.{SameKeys, WithinKeys}
 
 -- what an operator does: what a row becomes, which keys it marks for a row, and what it gives for a

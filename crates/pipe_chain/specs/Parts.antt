@@ -1,7 +1,7 @@
 -- A part of the way of some rows: what was counted and marked on it is no more than came in.
 use Rattle.std.specs.Prelude.{ℕ, ◌≤◌, List, [], ◌∷◌, length}
 use Rattle.std.specs.List.{flat_map}
-use Rattle.pipe_frame.specs.Rows.{Row}
+use Rattle.pipe_schema.specs.Rows.{Row}
 use Rattle.pipe_chain.specs.Keys.{WithinKeys}
 use Rattle.pipe_chain.specs.Flow.{Work, Acts, made, Few}
 

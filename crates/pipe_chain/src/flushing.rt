@@ -1,8 +1,8 @@
 //! Operators whose flush goes partition by partition.
 
 ghost use Rattle.std.specs.Prelude.{◌≡◌, ℕ, ◌<◌, List, true, false};
-ghost use Rattle.pipe_frame.specs.Rows.{Row};
-ghost use Rattle.pipe_frame.specs.declared.field.Field.{Field};
+ghost use Rattle.pipe_schema.specs.Rows.{Row};
+ghost use Rattle.pipe_schema.specs.declared.field.Field.{Field};
 
 use crate::operator::Operator;
 

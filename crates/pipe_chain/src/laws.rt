@@ -2,7 +2,7 @@
 
 ghost use Rattle.std.specs.Prelude.{◌≡◌, ℕ, List, ◌++◌};
 ghost use Rattle.std.specs.List.{flat_map};
-ghost use Rattle.pipe_frame.specs.Rows.{Row, Same};
+ghost use Rattle.pipe_schema.specs.Rows.{Row, Same};
 ghost use Rattle.pipe_chain.specs.Flow.{Work, Acts, Flows, added, AllFew};
 ghost use Rattle.pipe_chain.specs.Unmarking.{AllUnmarking, through};
 

@@ -3,9 +3,9 @@
 ghost use Rattle.std.specs.Prelude.{◌≡◌, ℕ, ◌≤◌, List, length, IfOk, IfErr, Bool, true, false};
 ghost use Rattle.std.specs.List.{flat_map};
 ghost use Rattle.pipe_frame.specs.Frame.{Table};
-ghost use Rattle.pipe_frame.specs.Rows.{Row, Same};
+ghost use Rattle.pipe_schema.specs.Rows.{Row, Same};
 ghost use Rattle.pipe_frame.specs.declared.chunk.DataChunk.{DataChunk};
-ghost use Rattle.pipe_frame.specs.declared.field.Field.{Field};
+ghost use Rattle.pipe_schema.specs.declared.field.Field.{Field};
 ghost use Rattle.pipe_ops.specs.declared.operator.OperatorResult.{OperatorResult};
 ghost use Rattle.pipe_ops.specs.Pieces.{IsPieceOf, AnswersUnder, Flushes, is_more};
 ghost use Rattle.pipe_chain.specs.Keys.{SameKeys};

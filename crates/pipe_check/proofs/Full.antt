@@ -2,9 +2,9 @@
 use Rattle.std.proofs.Common.{◌≡◌, ℕ, Bool, true, false, List, [], ◌∷◌, ◌++◌, Option, Some, None, map, cond, length, refl}
 use Rattle.std.specs.Prelude.{◌||◌, nat_le, option_map}
 use Rattle.pipe_frame.specs.Frame.{Table}
-use Rattle.pipe_frame.specs.Schema.{IsSchema, first_repeated, names_of}
-use Rattle.pipe_frame.specs.declared.error.FrameError.TheVariants as fault
-use Rattle.pipe_frame.specs.declared.field.Field.{Field}
+use Rattle.pipe_schema.specs.Schema.{IsSchema, first_repeated, names_of}
+use Rattle.pipe_schema.specs.declared.error.FrameError.TheVariants as fault
+use Rattle.pipe_schema.specs.declared.field.Field.{Field}
 use Rattle.pipe_expr.specs.Joins.{makes_pairs}
 use Rattle.pipe_expr.specs.declared.join_words.FunctionIR.{FunctionIR}
 use Rattle.pipe_expr.specs.declared.join_words.FunctionIR.TheVariants as function

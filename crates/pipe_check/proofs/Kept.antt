@@ -4,13 +4,13 @@ use Rattle.std.specs.Prelude.{◌||◌, ◌&&◌, nat_le, unwrap_or}
 use Rattle.std.specs.List.{list_any}
 use Rattle.std.proofs.Math.Bool.{or-true}
 use Rattle.std.proofs.lemmas.Bool.{leb-false, cases_lt}
-use Rattle.pipe_frame.specs.declared.field.Field.{Field}
+use Rattle.pipe_schema.specs.declared.field.Field.{Field}
 use Rattle.pipe_plan.specs.Plan.{Plan}
 use Rattle.pipe_plan.specs.Under.{inputs_of, node_at, is_under}
 use Rattle.pipe_plan.specs.Schemas.{node_schema, schemas_to, schema_of}
 use Rattle.pipe_plan.specs.Faults.{is_empty, repeats, is_void, has_input, is_read_below, is_bad_node, fault_at, fault_under}
 use Rattle.pipe_check.specs.Checking.{is_marked, is_bad_by, fault_by, fault_with, AreFull, is_read_under}
-use Rattle.pipe_fields.specs.Kept.{kept_schema}
+use Rattle.pipe_check.specs.Kept.{kept_schema}
 use Rattle.pipe_check.specs.Checked.{AreKept}
 use Rattle.pipe_check.proofs.Walks.{member, none-member, under-input, schema-own, schema-below, itself}
 use Rattle.pipe_check.proofs.Agree.{Agree, agree-members, schema-agree, fault-agree}

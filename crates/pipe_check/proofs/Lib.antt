@@ -1,3 +1,7 @@
+pub mod Places
+pub mod Names
+pub mod Index
+pub mod RightFields
 pub mod Unknown
 pub mod Pairs
 pub mod Walks

@@ -1,7 +1,7 @@
 -- The parts of a node's check, one after another.
 use Rattle.std.proofs.Common.{◌≡◌, ℕ, Bool, true, false, List, Option, Some, None, refl, ap, sym, ◌∙◌, inl, inr}
 use Rattle.pipe_frame.specs.Frame.{Table}
-use Rattle.pipe_frame.specs.declared.field.Field.{Field}
+use Rattle.pipe_schema.specs.declared.field.Field.{Field}
 use Rattle.pipe_plan.specs.Node.{Node}
 use Rattle.pipe_plan.specs.Faults.{or_else, told, told_name, unknown_in, duplicate_in, is_mistyped, is_bad_join, is_bad_sort}
 use Rattle.pipe_check.specs.Checked.{MemoryOr}

@@ -1,7 +1,7 @@
 -- One node of the check, by what its functions say of it.
 use Rattle.std.proofs.Common.{◌≡◌, ℕ, ◌+◌, ◌<◌, Bool, true, false, cond, List, [], ◌∷◌, ◌++◌, Option, Some, None, length, ap, sym, subst, ◌∙◌}
 use Rattle.pipe_frame.specs.Frame.{Table}
-use Rattle.pipe_frame.specs.declared.field.Field.{Field}
+use Rattle.pipe_schema.specs.declared.field.Field.{Field}
 use Rattle.pipe_plan.specs.Node.{Node}
 use Rattle.pipe_plan.specs.Plan.{Plan}
 use Rattle.pipe_plan.specs.Under.{inputs_of, node_at, is_under}
@@ -9,7 +9,7 @@ use Rattle.pipe_plan.specs.Schemas.{node_schema}
 use Rattle.pipe_plan.specs.Faults.{is_empty, plan_fault, fault_under}
 use Rattle.pipe_check.specs.Checked.{MemoryOr}
 use Rattle.pipe_check.specs.Checking.{AreFull, is_marked, is_bad_by, fault_by, is_read_under}
-use Rattle.pipe_fields.specs.Kept.{kept_schema}
+use Rattle.pipe_check.specs.Kept.{kept_schema}
 use Rattle.pipe_plan.specs.declared.error.PipeError.{PipeError}
 use Rattle.pipe_check.proofs.Kept.{AreChecked, inputs-full, fault-same-under, checked-more}
 use Rattle.pipe_check.proofs.FirstFault.{faults_from, faults-passed, faults-told, memory-same}

@@ -2,16 +2,16 @@
 use Rattle.std.proofs.Common.{◌≡◌, ℕ, ◌+◌, Bool, true, false, cond, List, [], ◌∷◌, ◌++◌, ◌<◌, Option, Some, None, map, drop, length, get_or, refl, ap, sym, ◌∙◌}
 use Rattle.std.proofs.lemmas.List.{drop_more}
 use Rattle.std.specs.List.{flat_map}
-use Rattle.pipe_frame.specs.Schema.{has_name, name_of, names_of, first_unknown, first_repeated}
-use Rattle.pipe_frame.specs.declared.field.Field.{Field}
+use Rattle.pipe_schema.specs.Schema.{has_name, name_of, names_of, first_unknown, first_repeated}
+use Rattle.pipe_schema.specs.declared.field.Field.{Field}
 use Rattle.pipe_expr.specs.Formula.{formula_of, named_formula_of}
 use Rattle.pipe_expr.specs.Types.{columns_in}
 use Rattle.pipe_expr.specs.Projections.{expr_name}
 use Rattle.pipe_expr.specs.declared.expr.Expr.{Expr}
 use Rattle.pipe_expr.specs.declared.expr.NamedExpr.{NamedExpr}
 use Rattle.pipe_plan.specs.Faults.{expr_columns}
-use Rattle.pipe_fields.specs.Named.{first_named}
-use Rattle.pipe_fields.proofs.Names.{name_there, name_missing, own_name, own_names, name_of_expr}
+use Rattle.pipe_check.specs.Named.{first_named}
+use Rattle.pipe_check.proofs.Names.{name_there, name_missing, own_name, own_names, name_of_expr}
 
 pub text_repeated : (xs : List (List ℕ)) (found : Option (List ℕ)) → found ≡ first_repeated (map own_name xs) → found ≡ first_repeated xs
 text_repeated xs found e = e ∙ ap first_repeated (own_names xs)

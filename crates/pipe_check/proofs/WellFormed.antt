@@ -5,7 +5,7 @@ use Rattle.std.specs.List.{range_with_len}
 use Rattle.std.proofs.lemmas.Bool.{ltb-true}
 use Rattle.pipe_plan.specs.Plan.{Plan}
 use Rattle.pipe_plan.specs.Under.{is_under}
-use Rattle.pipe_frame.specs.declared.field.Field.{Field}
+use Rattle.pipe_schema.specs.declared.field.Field.{Field}
 use Rattle.pipe_plan.specs.Schemas.{schema_of}
 use Rattle.pipe_check.specs.Checked.{AreKept}
 use Rattle.pipe_plan.specs.Faults.{first_fault, plan_fault, IsWellFormed}

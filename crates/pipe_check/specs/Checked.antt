@@ -1,6 +1,6 @@
 -- A plan that was checked, and why one is refused.
 use Rattle.std.specs.Prelude.{◌≡◌, ◌⊎◌, ℕ, ◌<◌, List, true, nat_le, if◌then◌else◌, Option, Some, None, length, slice_index_or}
-use Rattle.pipe_frame.specs.declared.field.Field.{Field}
+use Rattle.pipe_schema.specs.declared.field.Field.{Field}
 use Rattle.pipe_plan.specs.Plan.{Plan, plan_of}
 use Rattle.pipe_plan.specs.Under.{is_under}
 use Rattle.pipe_plan.specs.Schemas.{schema_of}

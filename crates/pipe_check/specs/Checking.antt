@@ -2,7 +2,7 @@
 use Rattle.std.specs.Prelude.{◌≡◌, ℕ, ◌∷◌, ◌==◌, zero, suc, List, [], Bool, false, ◌&&◌, ◌||◌, nat_le, Option, slice_index_or}
 use Rattle.std.specs.List.{list_any}
 use Rattle.pipe_frame.specs.Frame.{Table}
-use Rattle.pipe_frame.specs.declared.field.Field.{Field}
+use Rattle.pipe_schema.specs.declared.field.Field.{Field}
 use Rattle.pipe_plan.specs.Node.{Node}
 use Rattle.pipe_plan.specs.Node as node
 use Rattle.pipe_plan.specs.Under.{inputs_of, is_under}
@@ -10,7 +10,7 @@ use Rattle.pipe_plan.specs.Schemas.{frame_at, node_schema}
 use Rattle.pipe_plan.specs.Faults.{is_empty, repeats, is_void, or_else, told, told_name, unknown_in, duplicate_in, is_mistyped, is_bad_join, is_bad_sort}
 use Rattle.pipe_plan.specs.declared.error.PipeError.{PipeError}
 use Rattle.pipe_plan.specs.declared.error.PipeError.TheVariants as error
-use Rattle.pipe_fields.specs.Kept.{kept_schema}
+use Rattle.pipe_check.specs.Kept.{kept_schema}
 
 -- the schema that is kept for a node, none for one that isn't under the root
 abbrev pub Kept : Type 0

@@ -1,7 +1,7 @@
 -- What differs from the first of several.
 use Rattle.std.specs.Prelude.{ℕ, List, Bool, not}
 use Rattle.std.specs.Cmp.Lexicographic.{pointwise}
-use Rattle.pipe_frame.specs.declared.field.Field.{Field}
+use Rattle.pipe_schema.specs.declared.field.Field.{Field}
 use Rattle.pipe_expr.specs.Types.{type_of_column}
 use Rattle.pipe_plan.specs.Faults.{eq_field, eq_types}
 

@@ -7,10 +7,10 @@ ghost use Rattle.pipe_expr.specs.Joins.{coalesces};
 ghost use Rattle.pipe_plan.specs.Node.{node_of};
 ghost use Rattle.pipe_plan.specs.Faults.{is_column, repeats_name, are_plain, bad_counts, is_bad_join};
 
+use crate::joined::{is_coalescing, plain_names};
 use pipe_expr::{Expr, JoinType};
-use pipe_fields::{is_coalescing, plain_names};
-use pipe_frame::{Text, first_repeated};
 use pipe_plan::{IR, JoinOptions};
+use pipe_schema::{Text, first_repeated};
 use std::alloc::{AllocError, Global};
 
 /// Whether an expression is a plain column.

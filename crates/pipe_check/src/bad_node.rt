@@ -9,8 +9,9 @@ ghost use Rattle.pipe_check.specs.Checking.{is_marked, is_misread, is_bad_by, is
 
 use crate::inputs::inputs;
 use pipe_expr::{FunctionIR, NamedExpr};
-use pipe_frame::{DataFrame, List, Text};
+use pipe_frame::DataFrame;
 use pipe_plan::IR;
+use pipe_schema::{List, Text};
 use std::alloc::{AllocError, Global};
 
 /// Whether an input of a node isn't smaller than it, or was read before. Else the inputs are marked as read.

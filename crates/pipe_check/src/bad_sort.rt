@@ -6,8 +6,8 @@ ghost use Rattle.pipe_plan.specs.Faults.{is_empty, repeats_name, are_flags, is_n
 
 use crate::bad_join::is_name_repeated;
 use crate::bad_node::is_none_there;
-use pipe_frame::Text;
 use pipe_plan::{IR, PlanSlice, SortOptions};
+use pipe_schema::Text;
 use std::alloc::{AllocError, Global};
 
 /// Whether there is one flag, or one per key.

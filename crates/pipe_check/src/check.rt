@@ -9,8 +9,8 @@ ghost use Rattle.pipe_check.specs.Checking.{is_marked};
 
 use crate::node_check::checked_schema;
 use crate::under::{nodes_under, unmarked};
-use pipe_frame::{List, Schema};
 use pipe_plan::{Arena, PipeError};
+use pipe_schema::{List, Schema};
 use std::alloc::Global;
 
 /// The schemas of the nodes under the root, or the fault of the least of them that has one.

@@ -8,8 +8,8 @@ ghost use Rattle.pipe_plan.specs.Faults.{IsWellFormed};
 ghost use Rattle.pipe_check.specs.Checked.{MemoryOr, check_fault};
 
 use crate::check::checked_schemas;
-use pipe_frame::{List, Schema};
 use pipe_plan::{Arena, PipeError};
+use pipe_schema::{List, Schema};
 use std::alloc::Global;
 use std::marker::Model;
 

@@ -2,17 +2,20 @@
 
 ghost use Rattle.std.specs.Prelude.{◌≡◌, false, None, map, IfOk, IfErr, OnOk};
 ghost use Rattle.std.specs.Option.{option_copied};
-ghost use Rattle.pipe_frame.specs.Schema.{names_of, first_repeated};
+ghost use Rattle.pipe_schema.specs.Schema.{names_of, first_repeated};
 ghost use Rattle.pipe_plan.specs.Node.{node_of};
 ghost use Rattle.pipe_plan.specs.Faults.{is_empty, once_named, once_names, duplicate_in, told_name};
-ghost use Rattle.pipe_fields.specs.Kept.{kept_schema};
+ghost use Rattle.pipe_check.specs.Kept.{kept_schema};
 ghost use Rattle.pipe_check.specs.Checked.{MemoryOr};
 ghost use Rattle.pipe_check.specs.Checking.{made_schema};
 
+use crate::handed::handed_on;
+use crate::named::{NameIndex, Named};
+use crate::outputs::node_fields;
 use pipe_expr::FunctionIR;
-use pipe_fields::{NameIndex, Named, handed_on, node_fields};
-use pipe_frame::{DataFrame, Field, FrameError, List, Schema, Text, TryClone};
+use pipe_frame::DataFrame;
 use pipe_plan::{IR, PipeError};
+use pipe_schema::{Field, FrameError, List, Schema, Text, TryClone};
 use std::alloc::{AllocError, Global};
 
 /// The first name of some things that stands again further on.

@@ -3,7 +3,7 @@
 ghost use Rattle.std.specs.Prelude.{◌≡◌, ◌<◌, ℕ, true, false, None, Some, length, if◌then◌else◌, IfOk, IfErr, OnOk};
 ghost use Rattle.pipe_plan.specs.Node.{node_of};
 ghost use Rattle.pipe_plan.specs.Faults.{is_empty, unknown_in, is_mistyped, is_bad_join, is_bad_sort, told, told_name};
-ghost use Rattle.pipe_fields.specs.Kept.{kept_schema};
+ghost use Rattle.pipe_check.specs.Kept.{kept_schema};
 ghost use Rattle.pipe_check.specs.Checked.{MemoryOr};
 ghost use Rattle.pipe_check.specs.Checking.{IsFrameFull, AreInputsFull, AreRead, is_bad_by, fault_by, made_schema};
 
@@ -13,8 +13,9 @@ use crate::bad_sort::is_sort_bad;
 use crate::duplicate_name::output_schema;
 use crate::type_mismatch::is_node_mistyped;
 use crate::unknown_column::unknown_column;
-use pipe_frame::{DataFrame, Schema, TryClone};
+use pipe_frame::DataFrame;
 use pipe_plan::{IR, PipeError};
+use pipe_schema::{Schema, TryClone};
 use std::alloc::Global;
 
 /// The fault that a node reads a name that its input lacks.

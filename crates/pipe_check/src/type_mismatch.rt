@@ -7,13 +7,15 @@ ghost use Rattle.pipe_expr.specs.Formula.{formula_of, named_formula_of};
 ghost use Rattle.pipe_expr.specs.Types.{type_of};
 ghost use Rattle.pipe_plan.specs.Node.{node_of};
 ghost use Rattle.pipe_plan.specs.Faults.{has_no_type, is_named_untyped, eq_types, keys_differ, keys_mistyped, eq_field, inputs_differ, on_differ, is_mistyped_function, is_mistyped};
-ghost use Rattle.pipe_fields.specs.Kept.{kept_schema};
+ghost use Rattle.pipe_check.specs.Kept.{kept_schema};
 ghost use Rattle.pipe_check.specs.Differences.{is_other_schema, is_other_type};
 
+use crate::below::columns_of;
+use crate::columns::Columns;
+use crate::typing::{are_same_types, column_type, expr_type, is_same_type};
 use pipe_expr::{Expr, FunctionIR, NamedExpr};
-use pipe_fields::{Columns, are_same_types, column_type, columns_of, expr_type, is_same_type};
-use pipe_frame::{DataType, Field, Schema, Text};
 use pipe_plan::IR;
+use pipe_schema::{DataType, Field, Schema, Text};
 
 /// Whether an expression has no type.
 fn is_untyped(expr: &Expr, columns: &Columns) -> bool

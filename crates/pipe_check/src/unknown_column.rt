@@ -3,17 +3,19 @@
 ghost use Rattle.std.specs.Prelude.{◌≡◌, ◌∷◌, [], map};
 ghost use Rattle.std.specs.List.{flat_map};
 ghost use Rattle.std.specs.Option.{option_copied};
-ghost use Rattle.pipe_frame.specs.Schema.{first_unknown};
+ghost use Rattle.pipe_schema.specs.Schema.{first_unknown};
 ghost use Rattle.pipe_expr.specs.Formula.{formula_of, named_formula_of};
 ghost use Rattle.pipe_expr.specs.Types.{columns_in};
 ghost use Rattle.pipe_plan.specs.Node.{node_of};
 ghost use Rattle.pipe_plan.specs.Faults.{expr_columns, existing_of, function_names, unknown_scanned, unknown_in, or_else};
-ghost use Rattle.pipe_fields.specs.Kept.{kept_schema};
+ghost use Rattle.pipe_check.specs.Kept.{kept_schema};
 
+use crate::below::{columns_of, columns_of_frame};
+use crate::columns::Columns;
 use pipe_expr::{Expr, FunctionIR, NamedExpr, RenamePair};
-use pipe_fields::{Columns, columns_of, columns_of_frame};
-use pipe_frame::{DataFrame, List, Schema, Text};
+use pipe_frame::DataFrame;
 use pipe_plan::IR;
+use pipe_schema::{List, Schema, Text};
 
 /// A name, if no column has it.
 #[tactic(auto, using(crate::proofs::Unknown::unknown_rules))]

@@ -6,8 +6,8 @@ use Rattle.pipe_check.proofs.Walks.{under-self}
 use Rattle.pipe_check.proofs.WellFormed.{root_there}
 use Rattle.pipe_exec.specs.Evaluated.{HasRowsOf}
 use Rattle.pipe_frame.specs.Frame.{Table}
-use Rattle.pipe_frame.specs.Weights.{total}
-use Rattle.pipe_frame.proofs.Weights.{SameBag-map, SameBag-from_rows, SameBag-trans, SameLines-from_bag}
+use Rattle.pipe_schema.specs.Weights.{total}
+use Rattle.pipe_schema.proofs.Weights.{SameBag-map, SameBag-from_rows, SameBag-trans, SameLines-from_bag}
 use Rattle.pipe_job.specs.JobSpelling.{Task}
 use Rattle.pipe_job.specs.Line.{head_line, row_line, lines}
 use Rattle.pipe_job.specs.Reading.{ReadsJob}

@@ -12,9 +12,9 @@ use Rattle.pipe_exec.specs.Runs.{RunCauses}
 use Rattle.pipe_exec.specs.Sound.{CheckCauses}
 use Rattle.pipe_exec.proofs.Complete.{sound_refused}
 use Rattle.pipe_exec.proofs.Unstopped.{refused_unstopped}
-use Rattle.pipe_faults.specs.FaultLine.{fault_status}
+use Rattle.pipe_cli.specs.FaultLine.{fault_status}
 use Rattle.pipe_frame.specs.Frame.{Table}
-use Rattle.pipe_frame.proofs.Weights.{SameBag-map, SameBag-from_rows, SameLines-from_bag}
+use Rattle.pipe_schema.proofs.Weights.{SameBag-map, SameBag-from_rows, SameLines-from_bag}
 use Rattle.pipe_job.specs.JobSpelling.{Spells, Task}
 use Rattle.pipe_job.specs.Line.{head_line, row_line, lines}
 use Rattle.pipe_job.specs.Reading.{Reading, ReadsJob, ReadsNoJob, ReadsNothing}

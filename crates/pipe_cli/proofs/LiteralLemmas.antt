@@ -1,10 +1,10 @@
 -- The literals of a job that a value spells are known, and so are those of nodes that add none.
 use Rattle.std.proofs.Common.{◌≡◌, ℕ, List, [], ◌∷◌, Bool, true, false, not, ◌&&◌, ◌||◌, ◌==◌, inl, inr, ◌⊎◌, refl, sym, ap, ap₂, ◌∙◌}
 use Rattle.std.specs.List.{AllByRecursion, list_all, list_any}
-use Rattle.pipe_frame.specs.Cell.{fits_dtype}
-use Rattle.pipe_frame.specs.declared.any_value.AnyValue.{AnyValue}
-use Rattle.pipe_frame.specs.declared.any_value.AnyValue.TheVariants as cell
-use Rattle.pipe_frame.specs.declared.data_type.DataType.{DataType}
+use Rattle.pipe_schema.specs.Cell.{fits_dtype}
+use Rattle.pipe_schema.specs.declared.any_value.AnyValue.{AnyValue}
+use Rattle.pipe_schema.specs.declared.any_value.AnyValue.TheVariants as cell
+use Rattle.pipe_schema.specs.declared.data_type.DataType.{DataType}
 use Rattle.pipe_expr.specs.Formula.{Formula, Column, Literal, Add, Sub, Mul, Eq, NotEq, Lt, LtEq, Gt, GtEq, And, Or, Not, IsNull, IsNotNull, NamedFormula}
 use Rattle.pipe_plan.specs.Node.{Node}
 use Rattle.pipe_plan.specs.Node as node
@@ -13,7 +13,7 @@ use Rattle.pipe_job.specs.JobSpelling.{Task, TaskFits}
 use Rattle.pipe_job.specs.NodeSpelling.{NodeFits}
 use Rattle.pipe_job.specs.Spelling.{FitsType}
 use Rattle.pipe_job.specs.Version.{KnowsTypes, VersionFits, has_int128, named_has_int128, node_has_int128, table_has_int128}
-use Rattle.pipe_opt.specs.Literals.{AddsNoLiteral, literals_pass, named_literals_pass, node_literals_pass}
+use Rattle.pipe_rules.specs.Literals.{AddsNoLiteral, literals_pass, named_literals_pass, node_literals_pass}
 use Rattle.pipe_spell.specs.Literals.{formula_known, literal_known, named_known, node_known, task_known}
 use Rattle.pipe_cli.specs.Optimized.{with_nodes}
 

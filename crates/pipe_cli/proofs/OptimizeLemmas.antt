@@ -3,17 +3,17 @@ use Rattle.std.proofs.Common.{◌≡◌, ◌≤◌, ◌<◌, ◌*◌, ℕ, List,
 use Rattle.std.specs.Prelude.{IfOk, Ok, Result}
 use Rattle.std.proofs.lemmas.Option.{same_Some}
 use Rattle.pipe_exec.proofs.Complete.{sound_refused}
-use Rattle.pipe_faults.specs.FaultLine.{fault_status}
-use Rattle.pipe_frame.specs.Rows.{SameLines}
+use Rattle.pipe_cli.specs.FaultLine.{fault_status}
+use Rattle.pipe_schema.specs.Rows.{SameLines}
 use Rattle.pipe_job.specs.JobSpelling.{Task, TaskFits, task_spelling}
 use Rattle.pipe_job.specs.Line.{head_line, line_of, lines, row_line}
 use Rattle.pipe_job.specs.Reading.{ReadsJob}
-use Rattle.pipe_opt.specs.Grown.{AreWithin, over}
-use Rattle.pipe_opt.specs.Low.{AreLow, is_sort}
-use Rattle.pipe_opt.specs.Sizes.{IsTooLarge}
-use Rattle.pipe_opt.specs.Sorts.{Sorting, sorting_of}
+use Rattle.pipe_rules.specs.Grown.{AreWithin, over}
+use Rattle.pipe_rules.specs.Low.{AreLow, is_sort}
+use Rattle.pipe_rules.specs.Sizes.{IsTooLarge}
+use Rattle.pipe_rules.specs.Sorts.{Sorting, sorting_of}
 use Rattle.pipe_driver.specs.Within.{AllWithin}
-use Rattle.pipe_frame.proofs.Weights.{SameBag-map, SameBag-from_rows, SameLines-from_bag}
+use Rattle.pipe_schema.proofs.Weights.{SameBag-map, SameBag-from_rows, SameLines-from_bag}
 use Rattle.pipe_plan.specs.Config.{IsConfig}
 use Rattle.pipe_plan.specs.Faults.{IsWellFormed}
 use Rattle.pipe_plan.specs.Node.{Node}

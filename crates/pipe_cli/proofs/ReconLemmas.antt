@@ -2,7 +2,7 @@
 use Rattle.std.proofs.Common.{Result, Ok, Err, ◌≡◌, ◌≤◌, ◌<◌, ℕ, zero, suc, Bool, true, false, List, [], ◌∷◌, Option, Some, None, inl, inr, refl, ap, subst, sym, ◌∙◌, arith}
 use Rattle.std.proofs.lemmas.Option.{none-some, same_Some}
 use Rattle.serde_json.specs.Data.{Data}
-use Rattle.pipe_faults.specs.FaultLine.{fault_status}
+use Rattle.pipe_cli.specs.FaultLine.{fault_status}
 use Rattle.pipe_frame.specs.Frame.{Table}
 use Rattle.pipe_plan.specs.Faults.{or_else, told, told_name}
 use Rattle.pipe_plan.specs.declared.error.PipeError.{PipeError}
@@ -12,11 +12,11 @@ use Rattle.pipe_recon.specs.FullJoin.{IsWithin, height_at}
 use Rattle.pipe_recon.specs.Refusals.{has_no_key, is_bad_key, lacks_name, recon_fault, types_differ, types_fault}
 use Rattle.pipe_recon.specs.declared.recon.Recon.{Recon}
 use Rattle.pipe_recon.specs.declared.recon_spec.ReconSpec.{ReconSpec}
-use Rattle.pipe_recon_text.specs.ReconLines.{recon_lines}
-use Rattle.pipe_recon_text.specs.ReconReading.{ReadsNoReconJob, ReadsReconJob}
-use Rattle.pipe_recon_text.specs.ReconSpelling.{Spells}
-use Rattle.pipe_recon_text.specs.declared.recon_job.ReconJob.{ReconJob}
-use Rattle.pipe_recon_text.proofs.OneReconJob.{one_recon_job}
+use Rattle.pipe_recon.specs.ReconLines.{recon_lines}
+use Rattle.pipe_recon.specs.ReconReading.{ReadsNoReconJob, ReadsReconJob}
+use Rattle.pipe_recon.specs.ReconSpelling.{Spells}
+use Rattle.pipe_recon.specs.declared.recon_job.ReconJob.{ReconJob}
+use Rattle.pipe_recon.proofs.OneReconJob.{one_recon_job}
 use Rattle.pipe_cli.specs.Commands.ReconcileCommand.{reconcile}
 use Rattle.pipe_cli.specs.Contract.{Answered, Because, Causes, EndsWith, Fails, IsKind, IsLawful, Unread}
 use Rattle.pipe_cli.specs.Recons.{IsRefusedRecon, IsSoundRecon, IsWithinRecon, recon_kind, recon_of}

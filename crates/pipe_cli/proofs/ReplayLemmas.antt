@@ -6,7 +6,7 @@ use Rattle.std.proofs.lemmas.Option.{same_Some}
 use Rattle.serde_json.specs.Data.{Data}
 use Rattle.pipe_check.specs.Checked.{check_fault}
 use Rattle.pipe_exec.proofs.Unstopped.{checked_unstopped}
-use Rattle.pipe_faults.specs.FaultLine.{fault_status}
+use Rattle.pipe_cli.specs.FaultLine.{fault_status}
 use Rattle.pipe_plan.specs.Faults.{or_else, told}
 use Rattle.pipe_plan.specs.Plan.{Plan}
 use Rattle.pipe_plan.specs.declared.error.PipeError.{PipeError}
@@ -14,11 +14,11 @@ use Rattle.pipe_plan.specs.declared.error.PipeError.TheVariants as error
 use Rattle.pipe_view.specs.Kept.{Kept, view_plan, view_rows}
 use Rattle.pipe_view.specs.Refusals.{first_over, view_fault}
 use Rattle.pipe_view.specs.Sides.{is_view_kind}
-use Rattle.pipe_view_text.specs.EditSpelling.{EditFits}
-use Rattle.pipe_view_text.specs.ReplayEnds.{AreReplayLines, IsBadLimit, IsEditFault, IsRefusedReplay, IsSoundReplay, IsViewFault}
-use Rattle.pipe_view_text.specs.ReplaySpelling.{ReadsNoReplay, ReadsReplay, ReplayTask, Spells}
-use Rattle.pipe_view_text.proofs.OneEnd.{one_refusal, sound_alone}
-use Rattle.pipe_view_text.proofs.OneReplay.{one_replay}
+use Rattle.pipe_view.specs.EditSpelling.{EditFits}
+use Rattle.pipe_view.specs.ReplayEnds.{AreReplayLines, IsBadLimit, IsEditFault, IsRefusedReplay, IsSoundReplay, IsViewFault}
+use Rattle.pipe_view.specs.ReplaySpelling.{ReadsNoReplay, ReadsReplay, ReplayTask, Spells}
+use Rattle.pipe_view.proofs.OneEnd.{one_refusal, sound_alone}
+use Rattle.pipe_view.proofs.OneReplay.{one_replay}
 use Rattle.pipe_cli.specs.Commands.ReplayEditsCommand.{replay_edits}
 use Rattle.pipe_cli.specs.Contract.{Answered, Because, Causes, IsKind, IsLawful, Unread}
 use Rattle.pipe_cli.specs.Refused.{Tells}

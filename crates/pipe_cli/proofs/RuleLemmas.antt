@@ -5,8 +5,8 @@ use Rattle.std.specs.Prelude.{IfErr, IfSome, IsSomeAnd}
 use Rattle.std.specs.Result.{IsErrAnd}
 use Rattle.std.proofs.lemmas.Bool.{eqb-true, eq-eqb}
 use Rattle.pipe_exec.specs.Evaluated.{stop_of}
-use Rattle.pipe_faults.specs.FaultLine.{fault_status}
-use Rattle.pipe_frame.specs.Counts.{Counts}
+use Rattle.pipe_cli.specs.FaultLine.{fault_status}
+use Rattle.pipe_schema.specs.Counts.{Counts}
 use Rattle.pipe_outside.specs.Outside.{InputSeen, OutputSeen, WriteFails, Writes, WritesFront}
 use Rattle.pipe_plan.specs.declared.error.PipeError.{PipeError}
 use Rattle.pipe_plan.specs.declared.error.PipeError.TheVariants as error
@@ -90,7 +90,7 @@ unread_told c refusal.Stopped bytes u = absurd u
 unread_told c refusal.WriteFault bytes u = absurd u
 unread_told c refusal.Memory bytes u = tt
 
--- the same where the refusal is passed on
+-- what the rule says where the refusal is passed on
 pub because_passed : {T : Type 0} (c : Contract) (r : Result T Refusal) (e : Refusal) (bytes : List ℕ) (input : c.kind.Input) → c.kind.Reads bytes input → Because c e input → IsErrAnd r (λ f. f ≡ e) → IfErr r (λ f. Causes c f bytes)
 because_passed c (Ok x) e bytes input read b k = absurd k
 because_passed c (Err f) e bytes input read b k = rw k (because_told c e bytes input read b)

@@ -1,7 +1,7 @@
 -- Which statuses may come, by what the bytes of the input that is asked for are, and what each says of them.
 use Rattle.std.proofs.Common.{◌≡◌, ◌≤◌, ℕ, true, false, List, [], ◌∷◌, length, Option, Some, None, inl, inr, refl, sym, ap, subst, ◌∙◌, arith}
 use Rattle.std.specs.Prelude.{IfSome, IsSome, IsSomeAnd}
-use Rattle.pipe_faults.specs.FaultLine.{fault_status}
+use Rattle.pipe_cli.specs.FaultLine.{fault_status}
 use Rattle.pipe_outside.specs.Outside.{InputSeen, OutputSeen, ReadFails, WriteFails}
 use Rattle.pipe_plan.specs.declared.error.PipeError.{PipeError}
 use Rattle.pipe_plan.specs.declared.error.PipeError.TheVariants as error
@@ -189,7 +189,7 @@ short_read (Named name) input now h = follows (input.named name) (λ b. ReadOn b
 wrote_good : (c : Contract) (told : Option (List ℕ)) (out now : OutputSeen) → WroteTold c told out now → IfSome told (Good c)
 wrote_good c told out now h = follows told (WroteOn c out now) (Good c) (λ b p. answered_good c b p.text p.answered) h
 
--- ---- the same of what words ask for
+-- ---- the statuses of what words ask for
 
 -- words that ask for something aren't refused
 known : (asked : Option Request) (r : Refusal) (F : Request → Type 0) → of_words r asked → is_asked asked F → r ≡ refusal.BadWords → ⊥

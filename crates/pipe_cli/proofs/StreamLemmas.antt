@@ -2,7 +2,7 @@
 use Rattle.std.proofs.Common.{◌≡◌, ◌≤◌, ℕ, List, [], length, Option, Some, None, Result, Ok, Err, inl, inr, refl, subst, arith}
 use Rattle.std.proofs.Math.Seq.{take-length}
 use Rattle.std.specs.Prelude.{IfSome, OnErr, OnOk}
-use Rattle.pipe_frame.specs.Counts.{Rises}
+use Rattle.pipe_schema.specs.Counts.{Rises}
 use Rattle.pipe_outside.specs.Outside.{AtEnd, CountedAbove, HasRead, InputSeen, OutputSeen, WriteFails, Writes, WritesFront}
 use Rattle.pipe_outside.specs.Whole.{IsAll, ReadAtMost}
 use Rattle.pipe_cli.specs.Outcome.{Noted}

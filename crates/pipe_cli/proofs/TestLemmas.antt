@@ -1,7 +1,7 @@
 -- Self-tests: how one ends, and why the contracts of commands that read nothing are sound.
 use Rattle.std.proofs.Common.{◌≡◌, ℕ, List, [], ◌∷◌, inl, inr, refl, subst, arith}
 use Rattle.pipe_driver.specs.Within.{AllWithin, HasTooMany}
-use Rattle.pipe_faults.specs.FaultLine.{fault_line, fault_status}
+use Rattle.pipe_cli.specs.FaultLine.{fault_line, fault_status}
 use Rattle.pipe_plan.specs.declared.error.PipeError.{PipeError}
 use Rattle.pipe_plan.specs.declared.error.PipeError.TheVariants as error
 use Rattle.pipe_plan.specs.Plan.{Plan}

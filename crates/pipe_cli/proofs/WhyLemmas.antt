@@ -3,16 +3,16 @@ use Rattle.std.proofs.Common.{◌≡◌, ◌≤◌, ℕ, Bool, true, false, List
 use Rattle.std.specs.Prelude.{IfErr, IfSome, IsErrOf, IsSomeAnd, OnErr, OnOk}
 use Rattle.std.specs.Str.{bytes_eq}
 use Rattle.std.proofs.lemmas.Slice.Eq.{bytes_eq-Decides}
-use Rattle.pipe_frame.specs.Counts.{Counts}
+use Rattle.pipe_schema.specs.Counts.{Counts}
 use Rattle.pipe_outside.specs.Outside.{InputSeen, OutputSeen, ReadFails, WriteFails, WritesFront, Writes}
 use Rattle.serde_json.specs.Data.{Data}
 use Rattle.pipe_exec.specs.Sound.{CheckCauses}
-use Rattle.pipe_faults.specs.FaultLine.{fault_status}
+use Rattle.pipe_cli.specs.FaultLine.{fault_status}
 use Rattle.pipe_job.specs.JobSpelling.{Spells, Task}
 use Rattle.pipe_job.specs.Reading.{Reading, ReadsJob}
 use Rattle.pipe_plan.specs.declared.error.PipeError.{PipeError}
 use Rattle.pipe_why.specs.Heads.{fault_head}
-use Rattle.pipe_why_wants.specs.Wanted.{SpellsJob}
+use Rattle.pipe_why_text.specs.Wanted.{SpellsJob}
 use Rattle.pipe_why_value.specs.Places.{kind_of}
 use Rattle.pipe_why_value.specs.Telling.{TellsNoJob}
 use Rattle.pipe_why_value.specs.declared.input_kind.InputKind.TheVariants as kind

@@ -1,6 +1,6 @@
 -- What a command promises, as one record, and what that says of the bytes of its input, by one rule for all commands.
 use Rattle.std.specs.Prelude.{ℕ, ◌≡◌, ◌≤◌, ◌⊎◌, List, length, Bool, true, Option, IfSome}
-use Rattle.pipe_faults.specs.FaultLine.{fault_line, fault_status}
+use Rattle.pipe_cli.specs.FaultLine.{fault_line, fault_status}
 use Rattle.pipe_plan.specs.declared.error.PipeError.{PipeError}
 use Rattle.pipe_plan.specs.declared.error.PipeError.TheVariants as error
 use Rattle.pipe_cli.specs.Sources.{limit}

@@ -3,8 +3,8 @@ use Rattle.std.specs.Prelude.{ℕ, ◌≡◌, ◌⊎◌, List, [], ◌∷◌, �
 use Rattle.std.specs.List.{flat_map}
 use Rattle.pipe_branches.specs.Texts.{texts}
 use Rattle.pipe_driver.specs.Within.{AllWithin}
-use Rattle.pipe_faults.specs.FaultLine.{fault_line, fault_status}
-use Rattle.pipe_frame.specs.Rows.{SameLines}
+use Rattle.pipe_cli.specs.FaultLine.{fault_line, fault_status}
+use Rattle.pipe_schema.specs.Rows.{SameLines}
 use Rattle.pipe_exec.specs.Sound.{IsRefused, IsSound}
 use Rattle.pipe_plan.specs.Node.{Sort}
 use Rattle.pipe_plan.specs.PlanRows.{rows_of}

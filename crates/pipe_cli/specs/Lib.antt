@@ -30,3 +30,5 @@ pub mod Streams
 pub mod Whys
 -- the text of an answer
 pub mod Answers
+-- what an error is told as
+pub mod FaultLine

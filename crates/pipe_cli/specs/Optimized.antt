@@ -1,15 +1,15 @@
 -- What `optimize` makes of a job, and what a run on its text gives.
 use Rattle.std.specs.Prelude.{ℕ, ◌≡◌, ◌≤◌, ◌*◌, List, ◌∷◌, length, true}
 use Rattle.pipe_driver.specs.Within.{AllWithin}
-use Rattle.pipe_frame.specs.Rows.{Same, SameLines}
+use Rattle.pipe_schema.specs.Rows.{Same, SameLines}
 use Rattle.pipe_job.specs.JobSpelling.{Task, TaskFits, task_spelling}
 use Rattle.pipe_job.specs.Line.{line_of, lines}
 use Rattle.pipe_job.specs.Reading.{ReadsJob}
-use Rattle.pipe_opt.specs.Grown.{AreUnder, AreWithin, over}
-use Rattle.pipe_opt.specs.Literals.{AddsNoLiteral}
-use Rattle.pipe_opt.specs.Low.{AreLow, is_sort}
-use Rattle.pipe_opt.specs.Sizes.{count_under}
-use Rattle.pipe_opt.specs.Sorts.{sorting_of}
+use Rattle.pipe_rules.specs.Grown.{AreUnder, AreWithin, over}
+use Rattle.pipe_rules.specs.Literals.{AddsNoLiteral}
+use Rattle.pipe_rules.specs.Low.{AreLow, is_sort}
+use Rattle.pipe_rules.specs.Sizes.{count_under}
+use Rattle.pipe_rules.specs.Sorts.{sorting_of}
 use Rattle.pipe_optimize.specs.Needed.{IsTrimmed}
 use Rattle.pipe_plan.specs.Faults.{IsWellFormed}
 use Rattle.pipe_plan.specs.Node.{Node, Sort}

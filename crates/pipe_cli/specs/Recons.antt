@@ -6,8 +6,8 @@ use Rattle.pipe_recon.specs.Ends.{IsRefused, IsSound}
 use Rattle.pipe_recon.specs.FullJoin.{IsWithin}
 use Rattle.pipe_recon.specs.Reconciliation.{reconciliation}
 use Rattle.pipe_recon.specs.declared.recon.Recon.{Recon}
-use Rattle.pipe_recon_text.specs.ReconReading.{ReadsNoReconJob, ReadsReconJob}
-use Rattle.pipe_recon_text.specs.declared.recon_job.ReconJob.{ReconJob}
+use Rattle.pipe_recon.specs.ReconReading.{ReadsNoReconJob, ReadsReconJob}
+use Rattle.pipe_recon.specs.declared.recon_job.ReconJob.{ReconJob}
 use Rattle.pipe_cli.specs.Contract.{Kind}
 
 -- bytes spell two tables, a key and numbers by the JSON value that is read of them

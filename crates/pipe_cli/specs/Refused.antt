@@ -1,6 +1,6 @@
 -- What a refusal says of an error, of reading and of writing.
 use Rattle.std.specs.Prelude.{ℕ, ◌≡◌, List, Option}
-use Rattle.pipe_faults.specs.FaultLine.{fault_line, fault_status}
+use Rattle.pipe_cli.specs.FaultLine.{fault_line, fault_status}
 use Rattle.pipe_plan.specs.declared.error.PipeError.{PipeError}
 use Rattle.pipe_plan.specs.declared.error.PipeError.TheVariants as error
 use Rattle.pipe_outside.specs.Outside.{InputSeen, OutputSeen, ReadFails, WriteFails}

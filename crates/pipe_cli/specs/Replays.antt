@@ -1,6 +1,6 @@
 -- Views and their edits, a kind of inputs.
 use Rattle.pipe_job.specs.Reading.{ReadsNothing}
-use Rattle.pipe_view_text.specs.ReplaySpelling.{ReadsNoReplay, ReadsReplay, ReplayTask}
+use Rattle.pipe_view.specs.ReplaySpelling.{ReadsNoReplay, ReadsReplay, ReplayTask}
 use Rattle.pipe_cli.specs.Contract.{Kind}
 
 -- bytes spell two tables, their join, a limit and edits by the JSON value that is read of them

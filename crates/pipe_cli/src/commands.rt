@@ -2,7 +2,7 @@
 //! which has its body, and one in the crate's specs, which has its contract.
 
 ghost use Rattle.std.specs.Prelude.{◌≡◌, ◌≤◌, ◌∷◌, [], length, true, false, option_map, IfOk, IfErr, IfSome, IsErrOf, OnOk};
-ghost use Rattle.pipe_frame.specs.Counts.{Counts, Rises};
+ghost use Rattle.pipe_schema.specs.Counts.{Counts, Rises};
 ghost use Rattle.pipe_selftest.specs.Words.{rows_in, start_in};
 ghost use Rattle.pipe_cli.specs.Answers.{text_of};
 ghost use Rattle.pipe_cli.specs.Commands.{HasGoodRows, contract_of, parts_request, request, request_of, source_of, test_request};
@@ -39,8 +39,8 @@ use crate::answer::Answer;
 use crate::heights::are_heights;
 use crate::status::Refusal;
 use crate::streams::{bytes_at, bytes_left};
-use pipe_frame::{Gate, StopCheck, Text};
 use pipe_outside::JobReader;
+use pipe_schema::{Gate, StopCheck, Text};
 use pipe_selftest::{rows_in, start_in};
 use std::alloc::Global;
 use std::thread::Threads;

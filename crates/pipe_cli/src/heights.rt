@@ -4,7 +4,7 @@ ghost use Rattle.std.specs.Prelude.{◌≡◌, IfOk, IfSome, Some, None, is_some
 ghost use Rattle.std.specs.Option.{option_copied};
 ghost use Rattle.pipe_cli.specs.Heights.{heights_in, heights_told};
 
-use pipe_frame::Text;
+use pipe_schema::Text;
 use pipe_selftest::start_in;
 use std::alloc::{AllocError, Global};
 

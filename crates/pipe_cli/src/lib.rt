@@ -7,6 +7,7 @@
 
 mod answer;
 mod commands;
+mod fault_lines;
 mod heights;
 mod jobs;
 mod laws;
@@ -21,6 +22,7 @@ mod why;
 mod words;
 
 pub use commands::{Command, command_of};
+pub use fault_lines::fault_line;
 pub use laws::commands_are_lawful;
 pub use pipe_job::{Job, JobError, head_line, job_of, read_job, row_line};
 pub use pipe_outside::{

@@ -1,7 +1,7 @@
 //! The top call: the words are read, what they ask for is done, and where it is refused, why is noted.
 
 ghost use Rattle.std.specs.Prelude.{◌≡◌, ◌≢◌, ◌↔◌, ◌≤◌, ◌∷◌, [], true, false, IfErr, IsErrOf, IsSome, OnOk, None};
-ghost use Rattle.pipe_frame.specs.Counts.{Counts, Rises};
+ghost use Rattle.pipe_schema.specs.Counts.{Counts, Rises};
 ghost use Rattle.pipe_outside.specs.Outside.{ReadFails, WriteFails};
 ghost use Rattle.pipe_cli.specs.Commands.{HasGoodRows, contract_of, request, request_of, source_of};
 ghost use Rattle.pipe_cli.specs.Contract.{NoInput, Nothing, OfInput, RefusedAs, ShortGood, Sound, TooWide, Wide};
@@ -13,8 +13,8 @@ ghost use Rattle.pipe_cli.specs.Status.{IsFixed, OneOf, line_of, status_line, st
 use crate::commands::{Command, answer_of, command_of, input_of};
 use crate::status::Refusal;
 use crate::streams::tell;
-use pipe_frame::{Gate, StopCheck, Text};
 use pipe_outside::{JobReader, RowWriter, write_whole};
+use pipe_schema::{Gate, StopCheck, Text};
 use std::alloc::Global;
 use std::thread::Threads;
 

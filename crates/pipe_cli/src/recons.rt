@@ -1,13 +1,13 @@
 //! Reconciliations: how one is read.
 
 ghost use Rattle.std.specs.Prelude.{IfOk, IfErr};
-ghost use Rattle.pipe_recon_text.specs.ReconReading.{ReadsReconJob};
+ghost use Rattle.pipe_recon.specs.ReconReading.{ReadsReconJob};
 ghost use Rattle.pipe_cli.specs.Contract.{Unread};
 ghost use Rattle.pipe_cli.specs.Recons.{recon_kind};
 
 use crate::status::Refusal;
 use pipe_job::JobError;
-use pipe_recon_text::{ReconJob, read_recon_job};
+use pipe_recon::{ReconJob, read_recon_job};
 use std::alloc::Global;
 
 /// What the bytes spell: two tables, a key and the numbers of a run.

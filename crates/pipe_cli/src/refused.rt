@@ -3,8 +3,8 @@
 ghost use Rattle.std.specs.Prelude.{◌≡◌, true, false};
 ghost use Rattle.pipe_cli.specs.Refused.{Tells};
 
+use crate::fault_lines::fault_line;
 use crate::status::Refusal;
-use pipe_faults::fault_line;
 use pipe_plan::PipeError;
 use std::alloc::Global;
 

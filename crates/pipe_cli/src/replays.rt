@@ -1,13 +1,13 @@
 //! Views and their edits: how one is read.
 
 ghost use Rattle.std.specs.Prelude.{IfOk, IfErr};
-ghost use Rattle.pipe_view_text.specs.ReplaySpelling.{ReadsReplay, replay_task};
+ghost use Rattle.pipe_view.specs.ReplaySpelling.{ReadsReplay, replay_task};
 ghost use Rattle.pipe_cli.specs.Contract.{Unread};
 ghost use Rattle.pipe_cli.specs.Replays.{replay_kind};
 
 use crate::status::Refusal;
 use pipe_job::JobError;
-use pipe_view_text::{Replay, read_replay};
+use pipe_view::{Replay, read_replay};
 use std::alloc::Global;
 
 /// What the bytes spell: two tables, their join, a limit and edits of the tables.

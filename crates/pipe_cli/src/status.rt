@@ -3,7 +3,7 @@
 ghost use Rattle.std.specs.Prelude.{◌≡◌};
 ghost use Rattle.pipe_cli.specs.Status.{line_of, status_of};
 
-use pipe_frame::Bytes;
+use pipe_schema::Bytes;
 use std::alloc::AllocError;
 
 /// Why there are no rows.

@@ -1,7 +1,7 @@
 //! `stream`: the job is read and run, and its rows are written block by block while two workers render them.
 
 ghost use Rattle.std.specs.Prelude.{◌≡◌, ◌≤◌, ◌<◌, ◌∷◌, [], true, length, IfErr, IsErrOf, OnErr, OnOk};
-ghost use Rattle.pipe_frame.specs.Counts.{Counts, Rises};
+ghost use Rattle.pipe_schema.specs.Counts.{Counts, Rises};
 ghost use Rattle.pipe_outside.specs.Outside.{WriteFails};
 ghost use Rattle.pipe_cli.specs.Commands.StreamCommand.{stream};
 ghost use Rattle.pipe_cli.specs.Contract.{OfInput};
@@ -15,9 +15,10 @@ use crate::commands::frame_of;
 use crate::jobs::job_in;
 use crate::status::Refusal;
 use crate::streams::{bytes_left, tell};
-use pipe_frame::{DataFrame, Gate, StopCheck};
+use pipe_frame::DataFrame;
 use pipe_job::head_line;
 use pipe_outside::{JobReader, RowWriter};
+use pipe_schema::{Gate, StopCheck};
 use pipe_stream::{RowLines, StreamError, stream_frame};
 use std::alloc::Global;
 use std::sync::Wait;

@@ -8,8 +8,8 @@ ghost use Rattle.pipe_cli.specs.Sources.{HasAll, IsTakenInPart, IsWhole, Opened,
 ghost use Rattle.pipe_cli.specs.Status.{OneOf, status_of};
 
 use crate::status::Refusal;
-use pipe_frame::Text;
 use pipe_outside::{JobReader, RowWriter, WholeError, read_whole, write_whole};
+use pipe_schema::Text;
 use std::alloc::Global;
 
 /// All bytes that are left.

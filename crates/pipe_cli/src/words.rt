@@ -1,7 +1,7 @@
 //! The call that `main` makes: `stream`, `why`, or what `run_program` does.
 
 ghost use Rattle.std.specs.Prelude.{◌≡◌, true, false};
-ghost use Rattle.pipe_frame.specs.Counts.{Counts, Rises};
+ghost use Rattle.pipe_schema.specs.Counts.{Counts, Rises};
 ghost use Rattle.pipe_cli.specs.Outcome.{AsksNoInput, asks_run};
 ghost use Rattle.pipe_cli.specs.Status.{yes_of};
 ghost use Rattle.std.specs.Option.{option_copied};
@@ -11,8 +11,8 @@ ghost use Rattle.pipe_cli.specs.Whys.{WhyEnds, asks_why, name_in};
 use crate::program::{note, run_program};
 use crate::stream::stream_left;
 use crate::why::{asks_why, name_in, tell_why};
-use pipe_frame::{Gate, StopCheck, Text};
 use pipe_outside::{JobReader, RowWriter};
+use pipe_schema::{Gate, StopCheck, Text};
 use std::alloc::Global;
 use std::sync::Wait;
 use std::thread::Threads;

@@ -5,3 +5,12 @@ pub mod Operators
 pub mod Sources
 pub mod Places
 pub mod Joined
+pub mod CountSteps
+pub mod Sums
+pub mod NodeRows
+pub mod SameFields
+pub mod SourceLemmas
+pub mod ChainSteps
+pub mod BranchStarts
+pub mod SpecFacts
+pub mod JoinNodes

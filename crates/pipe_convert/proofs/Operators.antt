@@ -2,11 +2,11 @@
 use Rattle.std.proofs.Common.{◌≡◌, ℕ, true, false, ◌||◌, List, [], ◌∷◌, Some, None, is_some, ap, sym, ◌∙◌}
 use Rattle.std.specs.Prelude.{option_map}
 use Rattle.std.specs.declared.sync.Arc.{Arc}
-use Rattle.pipe_frame.specs.Schema.{IsSchema, names_of, names_fault}
+use Rattle.pipe_schema.specs.Schema.{IsSchema, names_of, names_fault}
 use Rattle.pipe_frame.specs.Frame.{select_fault, unknown_fault, else_fault}
-use Rattle.pipe_frame.specs.declared.error.FrameError.TheVariants as wrong
-use Rattle.pipe_frame.specs.declared.data_type.DataType.TheVariants as dtype
-use Rattle.pipe_frame.specs.declared.field.Field.{Field}
+use Rattle.pipe_schema.specs.declared.error.FrameError.TheVariants as wrong
+use Rattle.pipe_schema.specs.declared.data_type.DataType.TheVariants as dtype
+use Rattle.pipe_schema.specs.declared.field.Field.{Field}
 use Rattle.pipe_expr.specs.Formula.{Formula, NamedFormula}
 use Rattle.pipe_expr.specs.Types.{type_of}
 use Rattle.pipe_expr.specs.Typing.{IsTyped}

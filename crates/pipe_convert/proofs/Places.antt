@@ -1,7 +1,7 @@
 -- The place of a name, or the first where it has none, is below the width of a schema; and keys, one more each time.
 use Rattle.std.proofs.Common.{◌≡◌, ℕ, ◌<◌, List, [], ◌∷◌, length, Option, Some, None, unwrap_or, refl, arith}
-use Rattle.pipe_frame.specs.Schema.{IsSchema, place_of}
-use Rattle.pipe_frame.specs.declared.field.Field.{Field}
+use Rattle.pipe_schema.specs.Schema.{IsSchema, place_of}
+use Rattle.pipe_schema.specs.declared.field.Field.{Field}
 use Rattle.pipe_ops.proofs.NamedFields.{field-placed}
 
 some_field : (schema : List Field) → IsSchema schema → 0 < length schema

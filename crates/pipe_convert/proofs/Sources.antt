@@ -2,11 +2,12 @@
 use Rattle.std.proofs.Common.{◌≡◌, ℕ, ◌<◌, List, [], Option, Some, None, length, refl, ap, sym, ◌∙◌}
 use Rattle.std.specs.Prelude.{option_map}
 use Rattle.std.proofs.lemmas.Bool.{leb-false}
-use Rattle.pipe_frame.specs.Frame.{Table, select_fault, selected, column_rows}
-use Rattle.pipe_frame.specs.Rows.{Row}
-use Rattle.pipe_frame.specs.Schema.{IsSchema, names_of, names_fault}
-use Rattle.pipe_frame.specs.Series.{Cells}
-use Rattle.pipe_frame.specs.declared.error.FrameError.TheVariants as wrong
+use Rattle.pipe_column.specs.Columns.{column_rows}
+use Rattle.pipe_frame.specs.Frame.{Table, select_fault, selected}
+use Rattle.pipe_schema.specs.Rows.{Row}
+use Rattle.pipe_schema.specs.Schema.{IsSchema, names_of, names_fault}
+use Rattle.pipe_column.specs.Series.{Cells}
+use Rattle.pipe_schema.specs.declared.error.FrameError.TheVariants as wrong
 use Rattle.pipe_rows.specs.SortOrder.{sorted}
 use Rattle.pipe_plan.specs.Node as node
 use Rattle.pipe_plan.specs.Plan.{plan_of}

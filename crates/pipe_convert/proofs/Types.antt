@@ -2,10 +2,10 @@
 use Rattle.std.proofs.Common.{◌≡◌, ℕ, Bool, true, false, not, List, [], ◌∷◌, Option, Some, None, is_some, refl, ap, sym}
 use Rattle.std.specs.Prelude.{is_none}
 use Rattle.std.specs.List.{list_any}
-use Rattle.pipe_frame.specs.Cell.{eq_dtype}
-use Rattle.pipe_frame.specs.Schema.{names_of}
-use Rattle.pipe_frame.specs.declared.data_type.DataType.{DataType}
-use Rattle.pipe_frame.specs.declared.field.Field.{Field}
+use Rattle.pipe_schema.specs.Cell.{eq_dtype}
+use Rattle.pipe_schema.specs.Schema.{names_of}
+use Rattle.pipe_schema.specs.declared.data_type.DataType.{DataType}
+use Rattle.pipe_schema.specs.declared.field.Field.{Field}
 use Rattle.pipe_expr.specs.Formula.{NamedFormula}
 use Rattle.pipe_expr.specs.Types.{type_of}
 use Rattle.pipe_expr.specs.Projections.{fields_named}

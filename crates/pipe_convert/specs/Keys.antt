@@ -1,7 +1,7 @@
 -- The keys of a join's side.
 use Rattle.std.specs.Prelude.{List}
 use Rattle.std.specs.List.{AllByRecursion}
-use Rattle.pipe_frame.specs.declared.field.Field.{Field}
+use Rattle.pipe_schema.specs.declared.field.Field.{Field}
 use Rattle.pipe_expr.specs.Formula.{Formula}
 use Rattle.pipe_expr.specs.Typing.{IsTyped}
 

@@ -8,8 +8,8 @@ ghost use Rattle.pipe_convert.specs.Converted.{IsNode};
 use crate::row_by_row::{Filter, RowByRow};
 use pipe_check::CheckedPlan;
 use pipe_expr::{Expr, NamedExpr, PhysicalExpr, to_physical};
-use pipe_frame::Text;
 use pipe_ops::FilterOperator;
+use pipe_schema::Text;
 use std::alloc::{AllocError, Global};
 use std::sync::Arc;
 

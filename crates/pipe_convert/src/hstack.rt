@@ -9,8 +9,8 @@ use crate::physical::physical_exprs;
 use crate::row_by_row::{Hstack, RowByRow};
 use pipe_check::CheckedPlan;
 use pipe_expr::{NamedExpr, PhysicalExpr};
-use pipe_frame::TryClone;
 use pipe_ops::HstackOperator;
+use pipe_schema::TryClone;
 use std::alloc::{AllocError, Global};
 
 /// The operator of an extension by expressions.

@@ -11,11 +11,10 @@ ghost use Rattle.pipe_table.specs.Spec.{IsSpec, IsMadeFor, settings_of, formula_
 ghost use Rattle.pipe_convert.specs.Converted.{IsNode, schema_in};
 ghost use Rattle.pipe_convert.specs.Keys.{AreKeys};
 
-use pipe_check::CheckedPlan;
+use pipe_check::{CheckedPlan, is_coalescing};
 use pipe_expr::{Expr, NamedExpr, PhysicalExpr, to_physical};
-use pipe_fields::is_coalescing;
-use pipe_frame::{List, Schema, Text, TryClone};
 use pipe_plan::{JoinOptions, swap_join_order};
+use pipe_schema::{List, Schema, Text, TryClone};
 use pipe_table::JoinSpec;
 use std::alloc::{AllocError, Global};
 

@@ -7,7 +7,8 @@ ghost use Rattle.pipe_plan.specs.Schemas.{frame_at};
 ghost use Rattle.pipe_convert.specs.Converted.{IsNode, IsScanOf, IsSourceOf, scanned_table};
 
 use pipe_check::CheckedPlan;
-use pipe_frame::{DataFrame, FrameError, List, Text, TryClone};
+use pipe_frame::DataFrame;
+use pipe_schema::{FrameError, List, Text, TryClone};
 use pipe_source::DataFrameSource;
 use std::alloc::AllocError;
 

@@ -6,8 +6,8 @@ ghost use Rattle.pipe_convert.specs.Converted.{IsNode};
 
 use crate::row_by_row::RowByRow;
 use pipe_check::CheckedPlan;
-use pipe_frame::{List, Text, TryClone};
 use pipe_ops::SimpleProjectionOperator;
+use pipe_schema::{List, Text, TryClone};
 use std::alloc::AllocError;
 
 /// The operator of a projection by names.

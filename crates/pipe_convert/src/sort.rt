@@ -1,16 +1,16 @@
 //! The sort of a node.
 
 ghost use Rattle.std.specs.Prelude.{◌≡◌, ◌<◌, List, length, IfOk};
-ghost use Rattle.pipe_frame.specs.Rows.{Row};
+ghost use Rattle.pipe_schema.specs.Rows.{Row};
 ghost use Rattle.pipe_plan.specs.Node as node;
 ghost use Rattle.pipe_plan.specs.PlanRows.{flag_at, sort_keys, slice_rows};
 ghost use Rattle.pipe_sort.specs.SortKeys.{AreWithin, by_key, by_keys, kept_by};
 ghost use Rattle.pipe_convert.specs.Converted.{IsNode, IsSinkOf, key_of};
 
 use pipe_check::CheckedPlan;
-use pipe_frame::{List, Schema, Text, TryClone};
 use pipe_plan::{PlanSlice, SortOptions};
 use pipe_rows::SortField;
+use pipe_schema::{List, Schema, Text, TryClone};
 use pipe_sort::{SortKey, SortSink, SortSlice};
 use std::alloc::{AllocError, Global};
 

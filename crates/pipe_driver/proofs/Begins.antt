@@ -1,10 +1,10 @@
 -- The next branch begins; and where none is left, no sink is open.
 use Rattle.std.proofs.Common.{◌≡◌, ℕ, zero, suc, ◌<◌, List, [], ◌∷◌, arith}
-use Rattle.pipe_frame.proofs.Weights.{total-append}
-use Rattle.pipe_legs.specs.Meaning.{Meaning}
-use Rattle.pipe_legs.specs.Legs.{Way}
-use Rattle.pipe_legs.specs.Ways.{way_brings, brought, own_brings}
-use Rattle.pipe_legs.proofs.Tests.{all-map}
+use Rattle.pipe_schema.proofs.Weights.{total-append}
+use Rattle.pipe_driver.specs.Meaning.{Meaning}
+use Rattle.pipe_driver.specs.Legs.{Way}
+use Rattle.pipe_driver.specs.Ways.{way_brings, brought, own_brings}
+use Rattle.pipe_driver.proofs.Tests.{all-map}
 use Rattle.pipe_driver.specs.State.{World, Counts, IsParked, IsBetween, IsReady, nothing, pending}
 use Rattle.pipe_driver.proofs.Sums.{split4}
 use Rattle.pipe_driver.proofs.Settled.{none_parked}

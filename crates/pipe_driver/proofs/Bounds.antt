@@ -1,14 +1,14 @@
 -- What came to a place is among what has to come there.
 use Rattle.std.proofs.Common.{◌≡◌, ◌≢◌, ℕ, zero, suc, ◌+◌, ◌<◌, ◌≤◌, Bool, true, false, ◌==◌, List, [], ◌∷◌, ◌++◌, length, refl, sym, ap, ◌∙◌, arith, ◌⊎◌, inl, inr}
 use Rattle.std.specs.List.{flat_map}
-use Rattle.pipe_frame.specs.Rows.{Row}
-use Rattle.pipe_frame.specs.Weights.{total}
-use Rattle.pipe_frame.proofs.Weights.{total-append}
-use Rattle.pipe_legs.specs.Legs.{Way}
-use Rattle.pipe_legs.specs.Meaning.{Meaning, Place, OutOf, rows_where, comes, from, due}
-use Rattle.pipe_legs.specs.Ways.{one, occurs, brought, own_brings, IsSound}
-use Rattle.pipe_legs.proofs.Tests.{by_test, eq-is, eq-true, eq-false, some-left}
-use Rattle.pipe_legs.proofs.Totals.{comes_add, comes_same}
+use Rattle.pipe_schema.specs.Rows.{Row}
+use Rattle.pipe_schema.specs.Weights.{total}
+use Rattle.pipe_schema.proofs.Weights.{total-append}
+use Rattle.pipe_driver.specs.Legs.{Way}
+use Rattle.pipe_driver.specs.Meaning.{Meaning, Place, OutOf, rows_where, comes, from, due}
+use Rattle.pipe_driver.specs.Ways.{one, occurs, brought, own_brings, IsSound}
+use Rattle.pipe_driver.proofs.Tests.{by_test, eq-is, eq-true, eq-false, some-left}
+use Rattle.pipe_driver.proofs.Totals.{comes_add, comes_same}
 use Rattle.pipe_driver.specs.State.{World, Counts, IsOpen, IsLeft, AreAlike, kept, pending, gained_brings}
 use Rattle.pipe_driver.specs.Within.{GaveOwn, GiveOwn, IsWithin, RowsStayWithin, JoinsGiveOwn}
 use Rattle.pipe_driver.proofs.Sums.{split4, alike_from}

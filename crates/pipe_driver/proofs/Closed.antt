@@ -1,13 +1,13 @@
 -- A sink is closed, or stays open.
 use Rattle.std.proofs.Common.{◌≡◌, ℕ, ◌<◌, List, [], ◌∷◌, ◌++◌, refl, sym, ap, subst, ◌∙◌, arith, ◌==◌, Bool, true}
 use Rattle.std.specs.List.{AllByRecursion}
-use Rattle.pipe_frame.specs.Rows.{Row}
-use Rattle.pipe_frame.specs.Weights.{total}
-use Rattle.pipe_frame.proofs.Weights.{total-append}
-use Rattle.pipe_legs.specs.Meaning.{Meaning, Place, Into, from, due}
-use Rattle.pipe_legs.specs.Legs.{Leg, Way}
-use Rattle.pipe_legs.specs.Ways.{one, way_to, feeds, way_through, passes, starts, way_starts, begun, way_brings, brought, own_brings, IsSound}
-use Rattle.pipe_legs.proofs.Tests.{by_test, eq-is, eq-true, eq-false, eq-not, all-append, all-map}
+use Rattle.pipe_schema.specs.Rows.{Row}
+use Rattle.pipe_schema.specs.Weights.{total}
+use Rattle.pipe_schema.proofs.Weights.{total-append}
+use Rattle.pipe_driver.specs.Meaning.{Meaning, Place, Into, from, due}
+use Rattle.pipe_driver.specs.Legs.{Leg, Way}
+use Rattle.pipe_driver.specs.Ways.{one, way_to, feeds, way_through, passes, starts, way_starts, begun, way_brings, brought, own_brings, IsSound}
+use Rattle.pipe_driver.proofs.Tests.{by_test, eq-is, eq-true, eq-false, eq-not, all-append, all-map}
 use Rattle.pipe_driver.specs.State.{World, Counts, IsOpen, pending, gained_brings, Slot, IsBuilt, IsLeft, IsParked, IsBetween, IsReady, IsFed, HasClosed, TakesOut, BeginsElsewhere, nothing, none_due, is_sink}
 use Rattle.pipe_driver.proofs.Sums.{split4, brought_append}
 

@@ -1,14 +1,14 @@
 -- A leg is counted at each node that it went through, the last one closes a join, and at last at its sink.
 use Rattle.std.proofs.Common.{◌≡◌, ℕ, ◌+◌, ◌<◌, ◌≤◌, List, [], ◌∷◌, ◌++◌, refl, sym, ap, subst, ◌∙◌, arith, ◌==◌, Bool, true, false, inl, inr, cond}
 use Rattle.std.specs.List.{AllByRecursion}
-use Rattle.pipe_frame.specs.Rows.{Row}
-use Rattle.pipe_frame.specs.Weights.{total}
-use Rattle.pipe_frame.proofs.Weights.{SameBag, total-append}
-use Rattle.pipe_legs.specs.Meaning.{Meaning, Place, OutOf, Into, from, due}
-use Rattle.pipe_legs.specs.Legs.{Way}
-use Rattle.pipe_legs.specs.Ways.{one, occurs, feeds, passes, brought, own_brings, AreLegs, IsWay, IsSound}
-use Rattle.pipe_legs.proofs.Tests.{by_test, eq-is, eq-true, eq-false, eq-not, some-left, all-map}
-use Rattle.pipe_legs.proofs.Totals.{comes_add, comes_none, comes_same}
+use Rattle.pipe_schema.specs.Rows.{Row}
+use Rattle.pipe_schema.specs.Weights.{total}
+use Rattle.pipe_schema.proofs.Weights.{SameBag, total-append}
+use Rattle.pipe_driver.specs.Meaning.{Meaning, Place, OutOf, Into, from, due}
+use Rattle.pipe_driver.specs.Legs.{Way}
+use Rattle.pipe_driver.specs.Ways.{one, occurs, feeds, passes, brought, own_brings, AreLegs, IsWay, IsSound}
+use Rattle.pipe_driver.proofs.Tests.{by_test, eq-is, eq-true, eq-false, eq-not, some-left, all-map}
+use Rattle.pipe_driver.proofs.Totals.{comes_add, comes_none, comes_same}
 use Rattle.pipe_driver.specs.State.{World, Counts, IsOpen, pending, gained_brings, spread, Slot, Waits, spent, spent_at, IsBuilt, IsParked, IsFed, IsPassing, AreAlike, HasSettled, IsLowered, is_sink}
 use Rattle.pipe_driver.proofs.Sums.{split4, brought_into_none, from_into_none, out_none, brought_out_none, pending_fewer, pending_apart, pending_last, pending_nil, pending_more, within_ops, within_ways}
 

@@ -6,15 +6,15 @@ use Rattle.std.specs.Prelude.{OnOk, Result, Ok, Err}
 use Rattle.std.specs.Vec.{vec_len}
 use Rattle.std.proofs.lemmas.List.{take-append-drop, take_all, append-nil}
 use Rattle.std.proofs.Math.Seq.{drop-cons}
-use Rattle.pipe_frame.specs.Rows.{Row}
-use Rattle.pipe_frame.proofs.Weights.{SameBag, total-append}
+use Rattle.pipe_schema.specs.Rows.{Row}
+use Rattle.pipe_schema.proofs.Weights.{SameBag, total-append}
 use Rattle.pipe_branches.specs.declared.branch.SinkAt.{SinkAt}
 use Rattle.pipe_branches.specs.declared.branch.SinkAt.TheVariants as at
-use Rattle.pipe_legs.specs.Meaning.{Meaning}
-use Rattle.pipe_legs.specs.Legs as plan
-use Rattle.pipe_legs.specs.Legs.{Way, sink_node}
-use Rattle.pipe_legs.specs.Ways.{one, legs_to, way_to, feeds, MayGoOn, IsSound}
-use Rattle.pipe_legs.proofs.Tests.{by_test, eq-is, eq-true, eq-not, all-append}
+use Rattle.pipe_driver.specs.Meaning.{Meaning}
+use Rattle.pipe_driver.specs.Legs as plan
+use Rattle.pipe_driver.specs.Legs.{Way, sink_node}
+use Rattle.pipe_driver.specs.Ways.{one, legs_to, way_to, feeds, MayGoOn, IsSound}
+use Rattle.pipe_driver.proofs.Tests.{by_test, eq-is, eq-true, eq-not, all-append}
 use Rattle.pipe_driver.specs.declared.pipe_line.Leg.{Leg}
 use Rattle.pipe_driver.specs.declared.pipe_line.PipeLine.{PipeLine}
 use Rattle.pipe_driver.specs.declared.run.Run.{Run}

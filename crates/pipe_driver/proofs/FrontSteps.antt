@@ -2,10 +2,10 @@
 use Rattle.std.proofs.Common.{◌≡◌, ℕ, zero, suc, ◌+◌, ◌<◌, ◌≤◌, List, [], ◌∷◌, length, ◌++◌, refl, sym, ap, subst, ◌∙◌, arith, ◌==◌, inl, inr, Option, Some, None, take, get_or, map, append_assoc}
 use Rattle.std.proofs.lemmas.List.{append-nil}
 use Rattle.pipe_frame.specs.Frame.{Table}
-use Rattle.pipe_frame.proofs.Weights.{SameBag}
-use Rattle.pipe_legs.specs.Legs.{Way}
-use Rattle.pipe_legs.specs.Ways.{one, occurs, feeds}
-use Rattle.pipe_legs.proofs.Tests.{by_test, eq-is, eq-true, some-left}
+use Rattle.pipe_schema.proofs.Weights.{SameBag}
+use Rattle.pipe_driver.specs.Legs.{Way}
+use Rattle.pipe_driver.specs.Ways.{one, occurs, feeds}
+use Rattle.pipe_driver.proofs.Tests.{by_test, eq-is, eq-true, some-left}
 use Rattle.pipe_driver.specs.declared.pipe_line.PipeLine.{PipeLine}
 use Rattle.pipe_driver.specs.declared.run.Run.{Run}
 use Rattle.pipe_driver.specs.declared.run.Fed.{Fed}

@@ -1,13 +1,13 @@
 -- A leg's rows go along its chain, and what is left of its way waits.
 use Rattle.std.proofs.Common.{◌≡◌, ℕ, ◌+◌, ◌<◌, List, [], ◌∷◌, ◌++◌, refl, sym, ap, subst, ◌∙◌, arith, true}
 use Rattle.std.specs.List.{AllByRecursion}
-use Rattle.pipe_frame.specs.Rows.{Row}
-use Rattle.pipe_frame.specs.Weights.{total}
-use Rattle.pipe_frame.proofs.Weights.{total-append}
-use Rattle.pipe_legs.specs.Meaning.{Meaning, Place, comes, from, due}
-use Rattle.pipe_legs.specs.Legs.{Leg, Way}
-use Rattle.pipe_legs.specs.Ways.{occurs, legs_to, way_to, feeds, legs_through, way_through, passes, starts, way_starts, begun, leg_brings, legs_bring, way_brings, brought, own_brings, AreLegs, MayGoOn, IsSound}
-use Rattle.pipe_legs.proofs.Tests.{eq-not, all-append, all-map}
+use Rattle.pipe_schema.specs.Rows.{Row}
+use Rattle.pipe_schema.specs.Weights.{total}
+use Rattle.pipe_schema.proofs.Weights.{total-append}
+use Rattle.pipe_driver.specs.Meaning.{Meaning, Place, comes, from, due}
+use Rattle.pipe_driver.specs.Legs.{Leg, Way}
+use Rattle.pipe_driver.specs.Ways.{occurs, legs_to, way_to, feeds, legs_through, way_through, passes, starts, way_starts, begun, leg_brings, legs_bring, way_brings, brought, own_brings, AreLegs, MayGoOn, IsSound}
+use Rattle.pipe_driver.proofs.Tests.{eq-not, all-append, all-map}
 use Rattle.pipe_driver.specs.State.{World, Counts, pending, gained_brings, spread, Slot, IsBuilt, IsParked, IsReady, IsPassing, HasPassed, HasTail, IsTail, nothing, is_sink}
 use Rattle.pipe_driver.proofs.Sums.{split4, brought_append, pending_more, alike_from}
 use Rattle.pipe_driver.proofs.Settled.{settled}

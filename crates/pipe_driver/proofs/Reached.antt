@@ -2,9 +2,9 @@
 use Rattle.std.proofs.Common.{◌≡◌, ℕ, ◌+◌, ◌<◌, ◌≤◌, Bool, true, false, not, ◌||◌, eqb, List, [], ◌∷◌, ◌++◌, length, refl, sym, ap, ◌∙◌, arith, inl, inr}
 use Rattle.std.specs.List.{flat_map, list_all}
 use Rattle.std.proofs.lemmas.Bool.{and_parts}
-use Rattle.pipe_frame.specs.Rows.{Row}
-use Rattle.pipe_frame.specs.Weights.{total}
-use Rattle.pipe_frame.proofs.Weights.{total-append}
+use Rattle.pipe_schema.specs.Rows.{Row}
+use Rattle.pipe_schema.specs.Weights.{total}
+use Rattle.pipe_schema.proofs.Weights.{total-append}
 use Rattle.pipe_plan.specs.Faults.{IsWellFormed}
 use Rattle.pipe_plan.specs.Node.{Node}
 use Rattle.pipe_plan.specs.Node as node
@@ -17,11 +17,11 @@ use Rattle.pipe_branches.specs.Branches.{is_scan, is_scan_at}
 use Rattle.pipe_branches.proofs.Down.{walk-at, walk-below}
 use Rattle.pipe_branches.proofs.Readers.{there-under}
 use Rattle.pipe_branches.proofs.Sound.{member}
-use Rattle.pipe_legs.specs.Meaning.{Meaning, OutOf, due, is_part, is_source_over, meaning_of}
-use Rattle.pipe_legs.specs.Shape.{kind_of, union_kind}
-use Rattle.pipe_legs.specs.Ways.{own_brings}
-use Rattle.pipe_legs.proofs.Plans.{part_reader, reading, there}
-use Rattle.pipe_legs.proofs.Tests.{by_test, and-cases, and-both, eq-is, not-both, or-case}
+use Rattle.pipe_driver.specs.Meaning.{Meaning, OutOf, due, is_part, is_source_over, meaning_of}
+use Rattle.pipe_driver.specs.Shape.{kind_of, union_kind}
+use Rattle.pipe_driver.specs.Ways.{own_brings}
+use Rattle.pipe_driver.proofs.PlanParts.{part_reader, reading, there}
+use Rattle.pipe_driver.proofs.Tests.{by_test, and-cases, and-both, eq-is, not-both, or-case}
 use Rattle.pipe_driver.specs.State.{World, Counts, pending, gained_brings, IsBetween}
 use Rattle.pipe_driver.specs.Within.{RowsAreThere, RunNodesTellAll, RunNodesAreLow}
 use Rattle.pipe_driver.proofs.Sums.{split4, pending_nil}

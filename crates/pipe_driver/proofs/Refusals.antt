@@ -1,11 +1,11 @@
 -- A node of which more rows came out than a limit has more than that.
 use Rattle.std.proofs.Common.{◌≡◌, ℕ, ◌+◌, ◌<◌, ◌≤◌, true, not, List, [], ◌∷◌, length, refl, sym, ap, ◌∙◌, arith, inl, inr}
-use Rattle.pipe_frame.specs.Rows.{Row}
-use Rattle.pipe_frame.specs.Weights.{total}
-use Rattle.pipe_legs.specs.Legs.{Way}
-use Rattle.pipe_legs.specs.Meaning.{Meaning, OutOf, is_part}
-use Rattle.pipe_legs.specs.Ways.{occurs, passes}
-use Rattle.pipe_legs.proofs.Tests.{and-cases, some-left}
+use Rattle.pipe_schema.specs.Rows.{Row}
+use Rattle.pipe_schema.specs.Weights.{total}
+use Rattle.pipe_driver.specs.Legs.{Way}
+use Rattle.pipe_driver.specs.Meaning.{Meaning, OutOf, is_part}
+use Rattle.pipe_driver.specs.Ways.{occurs, passes}
+use Rattle.pipe_driver.proofs.Tests.{and-cases, some-left}
 use Rattle.pipe_plan.specs.Under.{is_under}
 use Rattle.pipe_driver.specs.State.{World, Counts, Slot, Waits, Has, Spent, IsBuilt, IsPassing, nothing, one_due}
 use Rattle.pipe_driver.specs.Within.{ManyAreWide, WideAreUnder}

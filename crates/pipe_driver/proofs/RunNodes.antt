@@ -1,7 +1,7 @@
 -- The nodes that legs begin at and go through are run.
 use Rattle.std.proofs.Common.{◌≡◌, ℕ, zero, suc, ◌+◌, ◌<◌, Bool, true, false, not, cond, ◌||◌, ◌==◌, eqb, inl, inr, List, [], ◌∷◌, ◌++◌, length, Option, Some, None, refl, sym, ap, ◌∙◌, arith}
 use Rattle.std.specs.List.{flat_map, list_all}
-use Rattle.pipe_frame.specs.Weights.{total}
+use Rattle.pipe_schema.specs.Weights.{total}
 use Rattle.pipe_plan.specs.Faults.{IsWellFormed}
 use Rattle.pipe_plan.specs.Node.{Node}
 use Rattle.pipe_plan.specs.Node as node
@@ -13,15 +13,15 @@ use Rattle.pipe_branches.proofs.Covers.{self-member, side-member}
 use Rattle.pipe_branches.proofs.Readers.{input-under, one-reader, there-under}
 use Rattle.pipe_branches.proofs.Sound.{member, root-there, under-self}
 use Rattle.pipe_events.specs.PlanStages.{stage_at}
-use Rattle.pipe_legs.specs.Chains.{chain_of, ends_in, goes_through, reader, reads, through_first}
-use Rattle.pipe_legs.specs.Legs.{ways_of}
-use Rattle.pipe_legs.specs.Meaning.{is_part, is_source_over, meaning_of, tree_of}
-use Rattle.pipe_legs.specs.Shape.{Kind, Begins, Each, Unites, Joins, Sorts, kind_at, kind_of, union_kind, is_joining, is_sorting, sources_by, sources_of}
-use Rattle.pipe_legs.specs.Ways.{one, occurs, starts_of}
-use Rattle.pipe_legs.proofs.Chains.{chain_from, chain_none, found_is}
-use Rattle.pipe_legs.proofs.Plans.{is_tree, part_reader, reading, reads_below, there}
-use Rattle.pipe_legs.proofs.Tests.{and-both, and-cases, by_test, eq-is, not-both, occurs-append, occurs-total, or-first, or-right, some-left}
-use Rattle.pipe_legs.proofs.Whole.{at_sources}
+use Rattle.pipe_driver.specs.Chains.{chain_of, ends_in, goes_through, reader, reads, through_first}
+use Rattle.pipe_driver.specs.Legs.{ways_of}
+use Rattle.pipe_driver.specs.Meaning.{is_part, is_source_over, meaning_of, tree_of}
+use Rattle.pipe_driver.specs.Shape.{Kind, Begins, Each, Unites, Joins, Sorts, kind_at, kind_of, union_kind, is_joining, is_sorting, sources_by, sources_of}
+use Rattle.pipe_driver.specs.Ways.{one, occurs, starts_of}
+use Rattle.pipe_driver.proofs.Chains.{chain_from, chain_none, found_is}
+use Rattle.pipe_driver.proofs.PlanParts.{is_tree, part_reader, reading, reads_below, there}
+use Rattle.pipe_driver.proofs.Tests.{and-both, and-cases, by_test, eq-is, not-both, occurs-append, occurs-total, or-first, or-right, some-left}
+use Rattle.pipe_driver.proofs.Runnable.{at_sources}
 use Rattle.pipe_driver.specs.Within.{ChainsAreRun, LegsBeginAtRunNodes}
 use Rattle.pipe_driver.proofs.Reached.{Reads, read_by, run_low, scan_of}
 

@@ -1,9 +1,9 @@
 -- Where a way can go on, the sides of the joins that it goes through have been built.
 use Rattle.std.proofs.Common.{◌≡◌, ℕ, zero, suc, ◌<◌, List, [], ◌∷◌, refl, ◌∙◌, arith, true}
 use Rattle.std.specs.List.{AllByRecursion}
-use Rattle.pipe_legs.specs.Meaning.{Meaning}
-use Rattle.pipe_legs.specs.Legs.{Way}
-use Rattle.pipe_legs.specs.Ways.{way_to, feeds, way_through, IsSound}
+use Rattle.pipe_driver.specs.Meaning.{Meaning}
+use Rattle.pipe_driver.specs.Legs.{Way}
+use Rattle.pipe_driver.specs.Ways.{way_to, feeds, way_through, IsSound}
 use Rattle.pipe_driver.specs.State.{World, Counts, IsBuilt, IsParked, IsReady, nothing}
 use Rattle.pipe_driver.proofs.Sums.{no_more, IsAbove, above}
 

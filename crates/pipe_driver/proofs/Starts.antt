@@ -1,16 +1,16 @@
 -- Before the first branch runs, all is still to come.
 use Rattle.std.proofs.Common.{◌≡◌, ℕ, zero, suc, ◌<◌, true, ◌||◌, ◌==◌, List, [], ◌∷◌, refl, sym, ap, ◌∙◌, arith, inl, inr}
 use Rattle.std.specs.List.{flat_map, AllByRecursion}
-use Rattle.pipe_frame.specs.Rows.{Row}
-use Rattle.pipe_frame.specs.Weights.{total}
-use Rattle.pipe_frame.proofs.Weights.{total-append, SameBag-from_rows}
+use Rattle.pipe_schema.specs.Rows.{Row}
+use Rattle.pipe_schema.specs.Weights.{total}
+use Rattle.pipe_schema.proofs.Weights.{total-append, SameBag-from_rows}
 use Rattle.pipe_branches.specs.declared.branch.SinkAt.{SinkAt}
 use Rattle.pipe_branches.specs.declared.branch.SinkAt.TheVariants as at
-use Rattle.pipe_legs.specs.Meaning.{Meaning, Place, OutOf, Into, from, is_place, due}
-use Rattle.pipe_legs.specs.Legs.{Leg, Way}
-use Rattle.pipe_legs.specs.Ways.{one, occurs, legs_to, way_to, feeds, brought, own_brings, IsSinkOf, AreLegs, IsWay}
-use Rattle.pipe_legs.proofs.Tests.{by_test, eq-is, eq-true, or-first, or-right, some-left}
-use Rattle.pipe_legs.proofs.Totals.{comes_none}
+use Rattle.pipe_driver.specs.Meaning.{Meaning, Place, OutOf, Into, from, is_place, due}
+use Rattle.pipe_driver.specs.Legs.{Leg, Way}
+use Rattle.pipe_driver.specs.Ways.{one, occurs, legs_to, way_to, feeds, brought, own_brings, IsSinkOf, AreLegs, IsWay}
+use Rattle.pipe_driver.proofs.Tests.{by_test, eq-is, eq-true, or-first, or-right, some-left}
+use Rattle.pipe_driver.proofs.Totals.{comes_none}
 use Rattle.pipe_driver.specs.State.{Counts, IsOpen, kept, pending, gained_brings}
 use Rattle.pipe_driver.specs.Steps.{BranchesStart}
 use Rattle.pipe_driver.proofs.Sums.{split4, pending_nil}

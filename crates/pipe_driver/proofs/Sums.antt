@@ -1,14 +1,14 @@
 -- Sums over ways, and over what joins bring.
 use Rattle.std.proofs.Common.{◌≡◌, ◌≢◌, ℕ, zero, suc, ◌+◌, ◌<◌, ◌≤◌, List, [], ◌∷◌, ◌++◌, refl, sym, ap, ◌∙◌, arith, ◌==◌, true, false, inl, inr}
 use Rattle.std.specs.List.{flat_map, AllByRecursion}
-use Rattle.pipe_frame.specs.Rows.{Row}
-use Rattle.pipe_frame.specs.Weights.{total}
-use Rattle.pipe_frame.proofs.Weights.{SameBag, total-append}
-use Rattle.pipe_legs.specs.Meaning.{Meaning, Place, OutOf, Into, rows_where, comes, from}
-use Rattle.pipe_legs.specs.Legs.{Leg, Way}
-use Rattle.pipe_legs.specs.Ways.{one, occurs, legs_to, feeds, legs_through, way_through, passes, leg_brings, legs_bring, way_brings, brought, AreLegs, IsSound}
-use Rattle.pipe_legs.proofs.Tests.{by_test, eq-is, eq-true, eq-not, some-left, flat-total}
-use Rattle.pipe_legs.proofs.Totals.{comes_add, comes_none, comes_same}
+use Rattle.pipe_schema.specs.Rows.{Row}
+use Rattle.pipe_schema.specs.Weights.{total}
+use Rattle.pipe_schema.proofs.Weights.{SameBag, total-append}
+use Rattle.pipe_driver.specs.Meaning.{Meaning, Place, OutOf, Into, rows_where, comes, from}
+use Rattle.pipe_driver.specs.Legs.{Leg, Way}
+use Rattle.pipe_driver.specs.Ways.{one, occurs, legs_to, feeds, legs_through, way_through, passes, leg_brings, legs_bring, way_brings, brought, AreLegs, IsSound}
+use Rattle.pipe_driver.proofs.Tests.{by_test, eq-is, eq-true, eq-not, some-left, flat-total}
+use Rattle.pipe_driver.proofs.Totals.{comes_add, comes_none, comes_same}
 use Rattle.pipe_driver.specs.State.{kept, pending, AreAlike}
 
 pub no_more : (n : ℕ) → (0 < n → ⊥) → n ≡ 0

@@ -1,8 +1,8 @@
 -- The front part of the branches that one call runs.
 use Rattle.std.specs.Prelude.{◌≡◌, ℕ, suc, ◌<◌, ◌≤◌, ◌⊎◌, List, [], ◌∷◌, ◌++◌, Option, Some, None, take, drop, map}
 use Rattle.pipe_frame.specs.Frame.{Table}
-use Rattle.pipe_legs.specs.Legs.{Way}
-use Rattle.pipe_legs.specs.Ways.{occurs, feeds}
+use Rattle.pipe_driver.specs.Legs.{Way}
+use Rattle.pipe_driver.specs.Ways.{occurs, feeds}
 use Rattle.pipe_driver.specs.declared.pipe_line.PipeLine.{PipeLine}
 use Rattle.pipe_driver.specs.declared.run.Run.{Run}
 use Rattle.pipe_driver.specs.Words.{RunnerWords}

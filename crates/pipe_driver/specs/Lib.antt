@@ -1,3 +1,19 @@
+-- what a plan is to whoever cuts and runs it
+pub mod Shape
+-- chains, sources and joins of a plan
+pub mod Chains
+-- what a plan means to whoever runs its branches
+pub mod Meaning
+-- branches leg by leg
+pub mod Legs
+-- what is counted and expected of branches
+pub mod Ways
+-- the laws
+pub mod LegLaws
+-- the numbers of sinks
+pub mod Numbers
+-- branches that stand one behind the other
+pub mod Blocks
 -- what is known of a run between its steps
 pub mod State
 -- the steps of a run
@@ -20,3 +36,13 @@ pub mod Plans
 pub mod Within
 -- what a runner tells where it refuses to go on
 pub mod Refusals
+-- a plan as its events see it, and as its legs do
+pub mod Boards
+-- what a journal tells beside a run, leg by leg
+pub mod Recorded
+-- what the steps of a run write
+pub mod Written
+-- the laws
+pub mod JournalLaws
+pub mod Along
+pub mod ChainLaws

@@ -1,9 +1,9 @@
 -- Pipelines and tables as what is known of a run sees them.
 use Rattle.std.specs.Prelude.{◌≡◌, ℕ, ◌<◌, List, [], ◌∷◌, length, map, Option, Some, None}
-use Rattle.pipe_frame.specs.Weights.{total}
-use Rattle.pipe_legs.specs.Meaning.{Meaning}
-use Rattle.pipe_legs.specs.Legs as plan
-use Rattle.pipe_legs.specs.Legs.{Way, sink_node}
+use Rattle.pipe_schema.specs.Weights.{total}
+use Rattle.pipe_driver.specs.Meaning.{Meaning}
+use Rattle.pipe_driver.specs.Legs as plan
+use Rattle.pipe_driver.specs.Legs.{Way, sink_node}
 use Rattle.pipe_driver.specs.declared.pipe_line.Leg.{Leg}
 use Rattle.pipe_driver.specs.declared.pipe_line.PipeLine.{PipeLine}
 use Rattle.pipe_driver.specs.declared.run.Run.{Run}

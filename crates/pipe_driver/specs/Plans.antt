@@ -3,10 +3,10 @@ use Rattle.std.specs.Prelude.{◌≡◌, ℕ, List, [], length}
 use Rattle.std.specs.List.{AllByRecursion}
 use Rattle.pipe_plan.specs.Plan.{Plan}
 use Rattle.pipe_plan.specs.Faults.{IsWellFormed}
-use Rattle.pipe_legs.specs.Meaning.{meaning_of}
-use Rattle.pipe_legs.specs.Legs.{ways_of}
-use Rattle.pipe_legs.specs.Ways.{feeds, passes}
-use Rattle.pipe_legs.specs.Numbers.{named_sinks, sink_number}
+use Rattle.pipe_driver.specs.Meaning.{meaning_of}
+use Rattle.pipe_driver.specs.Legs.{ways_of}
+use Rattle.pipe_driver.specs.Ways.{feeds, passes}
+use Rattle.pipe_driver.specs.Numbers.{named_sinks, sink_number}
 use Rattle.pipe_driver.specs.declared.pipe_line.PipeLine.{PipeLine}
 use Rattle.pipe_driver.specs.declared.run.Run.{Run}
 use Rattle.pipe_driver.specs.Words.{RunnerWords}

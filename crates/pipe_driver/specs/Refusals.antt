@@ -1,9 +1,9 @@
 -- What a runner of legs tells of a plan, where it refuses to go on.
 use Rattle.std.specs.Prelude.{◌≡◌, ℕ, ◌⊎◌, List, [], ◌∷◌, true}
-use Rattle.pipe_frame.proofs.Weights.{SameBag}
+use Rattle.pipe_schema.proofs.Weights.{SameBag}
 use Rattle.pipe_branches.specs.declared.branch.SinkAt.{SinkAt}
-use Rattle.pipe_legs.specs.Meaning.{Meaning, OutOf}
-use Rattle.pipe_legs.specs.Legs.{Leg}
+use Rattle.pipe_driver.specs.Meaning.{Meaning, OutOf}
+use Rattle.pipe_driver.specs.Legs.{Leg}
 use Rattle.pipe_driver.specs.State.{World, HasPassed, HasSettled}
 use Rattle.pipe_driver.specs.Runner.{AreBuilt, Fits}
 use Rattle.pipe_driver.specs.Within.{GoThroughRun, GivesMany, IsWide}

@@ -1,13 +1,13 @@
 -- What a runner of legs does, whatever plan it is of.
 use Rattle.std.specs.Prelude.{◌≡◌, ℕ, ◌<◌, List, [], ◌∷◌, true}
-use Rattle.pipe_frame.proofs.Weights.{SameBag}
+use Rattle.pipe_schema.proofs.Weights.{SameBag}
 use Rattle.pipe_ops.specs.declared.sink.FinalizedSink.{FinalizedSink}
 use Rattle.pipe_ops.specs.declared.sink.FinalizedSink.TheVariants.{Finished, Operator, Source}
 use Rattle.pipe_branches.specs.declared.branch.SinkAt.{SinkAt}
 use Rattle.pipe_branches.specs.declared.branch.SinkAt.TheVariants as at
-use Rattle.pipe_legs.specs.Meaning.{Meaning, OutOf, Into}
-use Rattle.pipe_legs.specs.Legs.{Leg, sink_node}
-use Rattle.pipe_legs.specs.Ways.{occurs, IsSinkOf}
+use Rattle.pipe_driver.specs.Meaning.{Meaning, OutOf, Into}
+use Rattle.pipe_driver.specs.Legs.{Leg, sink_node}
+use Rattle.pipe_driver.specs.Ways.{occurs, IsSinkOf}
 use Rattle.pipe_driver.specs.Words.{RunnerWords}
 use Rattle.pipe_driver.specs.State.{World, Waits, IsBuilt, HasPassed, HasSettled, HasClosed}
 

@@ -2,11 +2,11 @@
 -- what has to be there.
 use Rattle.std.specs.Prelude.{◌≡◌, ℕ, zero, suc, ◌+◌, ◌≤◌, ◌<◌, List, [], ◌∷◌, ◌++◌, Bool, true, false, ◌==◌, if◌then◌else◌}
 use Rattle.std.specs.List.{flat_map, AllByRecursion}
-use Rattle.pipe_frame.specs.Rows.{Row}
-use Rattle.pipe_frame.proofs.Weights.{SameBag}
-use Rattle.pipe_legs.specs.Meaning.{Meaning, Place, OutOf, Into, from, due}
-use Rattle.pipe_legs.specs.Legs.{Leg, Way}
-use Rattle.pipe_legs.specs.Ways.{one, occurs, feeds, passes, begun, brought, own_brings, AreLegs, IsWay, Behind, AreOrdered}
+use Rattle.pipe_schema.specs.Rows.{Row}
+use Rattle.pipe_schema.proofs.Weights.{SameBag}
+use Rattle.pipe_driver.specs.Meaning.{Meaning, Place, OutOf, Into, from, due}
+use Rattle.pipe_driver.specs.Legs.{Leg, Way}
+use Rattle.pipe_driver.specs.Ways.{one, occurs, feeds, passes, begun, brought, own_brings, AreLegs, IsWay, Behind, AreOrdered}
 
 -- the table of a join: its built side hasn't run; it has these rows; or the join is settled
 pub data Slot : Type 0 where

@@ -1,12 +1,12 @@
 -- The steps of a run, as statements: what is known before one is known after it.
 use Rattle.std.specs.Prelude.{◌≡◌, ℕ, ◌<◌, List, [], ◌∷◌, true}
 use Rattle.std.specs.List.{AllByRecursion}
-use Rattle.pipe_frame.proofs.Weights.{SameBag}
+use Rattle.pipe_schema.proofs.Weights.{SameBag}
 use Rattle.pipe_plan.specs.Plan.{Plan}
 use Rattle.pipe_plan.specs.Faults.{IsWellFormed}
-use Rattle.pipe_legs.specs.Meaning.{Meaning, OutOf, meaning_of}
-use Rattle.pipe_legs.specs.Legs.{Leg, Way, ways_of}
-use Rattle.pipe_legs.specs.Ways.{way_through, CanRun, IsSound}
+use Rattle.pipe_driver.specs.Meaning.{Meaning, OutOf, meaning_of}
+use Rattle.pipe_driver.specs.Legs.{Leg, Way, ways_of}
+use Rattle.pipe_driver.specs.Ways.{way_through, CanRun, IsSound}
 use Rattle.pipe_driver.specs.State.{World, Counts, IsBuilt, IsBetween, IsReady, IsPassing, IsFed, HasTail, HasPassed, HasSettled, IsLowered, HasClosed, TakesOut, BeginsElsewhere, IsStart}
 
 -- counts with other counts of legs that go through nodes, or that feed sinks

@@ -1,16 +1,16 @@
 -- What came to a place is among what has to come there.
 use Rattle.std.specs.Prelude.{◌≡◌, ℕ, ◌<◌, ◌≤◌, List, [], ◌∷◌, ◌++◌, Bool, true, false, length}
 use Rattle.std.specs.List.{flat_map}
-use Rattle.pipe_frame.specs.Rows.{Row}
-use Rattle.pipe_frame.specs.Weights.{total}
-use Rattle.pipe_frame.proofs.Weights.{SameBag}
+use Rattle.pipe_schema.specs.Rows.{Row}
+use Rattle.pipe_schema.specs.Weights.{total}
+use Rattle.pipe_schema.proofs.Weights.{SameBag}
 use Rattle.pipe_plan.specs.Plan.{Plan}
 use Rattle.pipe_plan.specs.PlanRows.{rows_of}
 use Rattle.pipe_plan.specs.Under.{is_under}
 use Rattle.pipe_plan.specs.Faults.{IsWellFormed}
-use Rattle.pipe_legs.specs.Meaning.{Meaning, Place, OutOf, due, meaning_of}
-use Rattle.pipe_legs.specs.Legs.{Way, ways_of}
-use Rattle.pipe_legs.specs.Ways.{occurs, starts_of, IsSound}
+use Rattle.pipe_driver.specs.Meaning.{Meaning, Place, OutOf, due, meaning_of}
+use Rattle.pipe_driver.specs.Legs.{Way, ways_of}
+use Rattle.pipe_driver.specs.Ways.{occurs, starts_of, IsSound}
 use Rattle.pipe_driver.specs.State.{World, Counts, Spent, IsOpen, IsLeft, IsBetween, IsPassing}
 use Rattle.pipe_driver.specs.declared.error.RunError.{RunError}
 use Rattle.pipe_driver.specs.declared.error.RunError.TheVariants as error

@@ -1,8 +1,8 @@
 -- What is known of what runs legs: the tables of joins, and the sinks that legs feed.
 use Rattle.std.specs.Prelude.{ℕ, List}
 use Rattle.pipe_branches.specs.declared.branch.SinkAt.{SinkAt}
-use Rattle.pipe_legs.specs.Meaning.{Meaning}
-use Rattle.pipe_legs.specs.Legs.{Leg}
+use Rattle.pipe_driver.specs.Meaning.{Meaning}
+use Rattle.pipe_driver.specs.Legs.{Leg}
 use Rattle.pipe_driver.specs.State.{World}
 
 pub record RunnerWords (R S P : Type 0) : Type 1 where

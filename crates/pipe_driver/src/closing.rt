@@ -1,7 +1,7 @@
 //! Where a call ends: the sinks that it fed are closed, and the newest answer is its answer.
 
 ghost use Rattle.std.specs.Prelude.{◌≡◌, ℕ, ◌<◌, true, false};
-ghost use Rattle.pipe_legs.specs.Ways.{occurs};
+ghost use Rattle.pipe_driver.specs.Ways.{occurs};
 ghost use Rattle.pipe_driver.specs.Tables.{number_at};
 ghost use Rattle.pipe_driver.specs.Fronts.{newer_of};
 

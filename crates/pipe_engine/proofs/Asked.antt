@@ -1,8 +1,8 @@
 -- What a stop check was asked, call after call.
 use Rattle.std.proofs.Common.{◌≡◌, ℕ, ◌+◌, ◌≤◌, inl, inr, Option, Some, None, Bool, true, false, if◌then◌else◌, refl, ap, sym, ◌∙◌, subst, arith}
 use Rattle.std.specs.Prelude.{Result, Ok, Err, IsErrAnd, OnOk}
-use Rattle.pipe_frame.specs.Counts.{last_count, counted, Counts, Rises}
-use Rattle.pipe_frame.specs.declared.stop.StopCheck.{Ghosts as StopWords}
+use Rattle.pipe_schema.specs.Counts.{last_count, counted, Counts, Rises}
+use Rattle.pipe_schema.specs.declared.stop.StopCheck.{Ghosts as StopWords}
 use Rattle.pipe_run.specs.Halts.{stop_of as halt_stops}
 use Rattle.pipe_run.specs.declared.halt.Halt.{Halt}
 use Rattle.pipe_run.specs.declared.halt.Halt.TheVariants.{Stopped, Refused}

@@ -1,8 +1,8 @@
 -- An engine to which no leg has come fits a plan of which nothing has run.
 use Rattle.std.proofs.Common.{◌≡◌, ℕ, suc, ◌+◌, ◌≤◌, List, [], ◌++◌, length, Option, None, refl, sym, ap, subst, ◌∙◌, arith}
-use Rattle.pipe_frame.proofs.Weights.{SameBag-refl, SameBag-from_equal}
-use Rattle.pipe_legs.specs.Meaning.{Meaning}
-use Rattle.pipe_legs.specs.Legs.{sink_node}
+use Rattle.pipe_schema.proofs.Weights.{SameBag-refl, SameBag-from_equal}
+use Rattle.pipe_driver.specs.Meaning.{Meaning}
+use Rattle.pipe_driver.specs.Legs.{sink_node}
 use Rattle.pipe_driver.specs.Plans.{at_start}
 use Rattle.pipe_driver.specs.Tables.{number_at}
 use Rattle.pipe_passage.specs.LaneSeats.{sum_of, IsRest, HasSeats}
@@ -19,11 +19,9 @@ pub fits_at_start : {H : Type 0} (hash_of : H → List ℕ → ℕ) (e : Engine 
     → length e.given.items ≡ e.nodes → ((k : ℕ) → number_at e.given.items k ≡ 0) → ((k : ℕ) → slot_at e.slots.slots.items k ≡ Empty) → ((k : ℕ) → sink_at e.sinks.items k ≡ None) → MayStart e x m → Fits hash_of e x m at_start
 fits_at_start {H = H} hash_of e x m idle nodes seated workers places given zeros empty none may = record {
   sound = may.sound;
-  hasher = may.hasher;
   parts = may.parts;
   some = may.some;
   few = may.few;
-  specs = may.specs;
   ordered = may.ordered;
   nodes = nodes ∙ may.ordered;
   seated = seated ∙ may.ordered;

@@ -2,8 +2,8 @@
 use Rattle.std.proofs.Common.{◌≡◌, ℕ, ◌<◌, List, [], ◌∷◌, length, refl, sym, ap, subst, ◌∙◌, arith, inl, Option, Some, None}
 use Rattle.std.specs.Prelude.{Result, Ok, Err, IfErr, IsErrAnd}
 use Rattle.std.specs.List.{AllByRecursion}
-use Rattle.pipe_frame.specs.Rows.{Row}
-use Rattle.pipe_frame.specs.declared.field.Field.{Field}
+use Rattle.pipe_schema.specs.Rows.{Row}
+use Rattle.pipe_schema.specs.declared.field.Field.{Field}
 use Rattle.pipe_ops.specs.Batches.{Left}
 use Rattle.pipe_words.specs.Flags.{SeatMarks}
 use Rattle.pipe_driver.specs.Runner.{MayRunLeg}
@@ -13,7 +13,7 @@ use Rattle.pipe_driver.specs.declared.error.RunError.TheVariants as error
 use Rattle.pipe_driver.specs.Tables.{number_at}
 use Rattle.pipe_source.specs.Supplies.{left_of}
 use Rattle.pipe_source.specs.declared.phys_source.PhysSource.{PhysSource}
-use Rattle.pipe_batches.specs.Rounds.{left_rows, schema_left, IsHaltOver, IsLeftOf}
+use Rattle.pipe_run.specs.Rounds.{left_rows, schema_left, IsHaltOver, IsLeftOf}
 use Rattle.pipe_run.specs.Dealt.{nodes_in, counts_in}
 use Rattle.pipe_run.specs.Stages.{operators_of}
 use Rattle.pipe_run.specs.declared.halt.Halt.{Halt}
@@ -28,8 +28,8 @@ use Rattle.pipe_passage.specs.LaneSeats.{IsRest}
 use Rattle.pipe_passage.specs.Passages.{phys_words, acts_now, IsPassing, HasOpened}
 use Rattle.pipe_passage.specs.Stopped.{AllOnce, BreaksOff, HoldSeats}
 use Rattle.pipe_passage.specs.declared.passage.Passage.{Passage}
-use Rattle.pipe_sinks.specs.SinkWords.{sink_words}
-use Rattle.pipe_sinks.specs.declared.phys_sink.PhysSink.{PhysSink}
+use Rattle.pipe_slots.specs.SinkWords.{sink_words}
+use Rattle.pipe_slots.specs.declared.phys_sink.PhysSink.{PhysSink}
 use Rattle.pipe_slots.specs.SlotTables.{slot_at, seats_at}
 use Rattle.pipe_engine.specs.Asked.{error_of, refusal_of}
 use Rattle.pipe_engine.specs.Carried.{first_node, schema_given}

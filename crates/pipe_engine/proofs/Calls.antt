@@ -2,15 +2,15 @@
 use Rattle.std.proofs.Common.{◌≡◌, ℕ, zero, suc, ◌+◌, ◌<◌, ◌≤◌, Bool, true, false, ◌==◌, List, [], ◌∷◌, length, get_or, ◌++◌, Option, Some, None, refl, sym, ap, subst, ◌∙◌, arith, length-append}
 use Rattle.std.specs.Prelude.{All}
 use Rattle.std.specs.List.{flat_map, AllByRecursion}
-use Rattle.pipe_frame.specs.Rows.{Same}
-use Rattle.pipe_frame.specs.declared.field.Field.{Field}
+use Rattle.pipe_schema.specs.Rows.{Same}
+use Rattle.pipe_schema.specs.declared.field.Field.{Field}
 use Rattle.pipe_expr.specs.declared.join_words.JoinType.{JoinType}
 use Rattle.pipe_expr.specs.declared.join_words.JoinType.TheVariants as how
 use Rattle.pipe_branches.specs.declared.branch.SinkAt.{SinkAt}
-use Rattle.pipe_legs.specs.Legs.{sink_node}
-use Rattle.pipe_legs.specs.Meaning.{Meaning}
-use Rattle.pipe_legs.specs.Ways.{one, occurs, IsSound}
-use Rattle.pipe_legs.proofs.Tests.{by_test, eq-true, not-both}
+use Rattle.pipe_driver.specs.Legs.{sink_node}
+use Rattle.pipe_driver.specs.Meaning.{Meaning}
+use Rattle.pipe_driver.specs.Ways.{one, occurs, IsSound}
+use Rattle.pipe_driver.proofs.Tests.{by_test, eq-true, not-both}
 use Rattle.pipe_driver.specs.State.{World}
 use Rattle.pipe_words.specs.Flags.{SeatMarks}
 use Rattle.pipe_chain.specs.Chain.{AllServe}
@@ -33,10 +33,10 @@ use Rattle.pipe_slots.specs.declared.slot.Slot.TheVariants.{Empty, Keys, Rows, F
 use Rattle.pipe_passage.specs.LaneSeats.{AllRest}
 use Rattle.pipe_passage.specs.Passages.{phys_words, acts_now, IsPassing, HasFewParts}
 use Rattle.pipe_passage.proofs.Opened.{rest-length}
-use Rattle.pipe_sinks.specs.Sinks.{SinkSetting, OrderedBy, SortedBy, BuiltBy, CrossedBy, setting_in, sink_rows, sink_schema}
-use Rattle.pipe_sinks.specs.SinkWords.{sink_words}
-use Rattle.pipe_sinks.specs.declared.phys_sink.PhysSink.{PhysSink}
-use Rattle.pipe_sinks.specs.declared.phys_sink.PhysSink.TheVariants.{Ordered, Sort, Build, Cross}
+use Rattle.pipe_slots.specs.Sinks.{SinkSetting, OrderedBy, SortedBy, BuiltBy, CrossedBy, setting_in, sink_rows, sink_schema}
+use Rattle.pipe_slots.specs.SinkWords.{sink_words}
+use Rattle.pipe_slots.specs.declared.phys_sink.PhysSink.{PhysSink}
+use Rattle.pipe_slots.specs.declared.phys_sink.PhysSink.TheVariants.{Ordered, Sort, Build, Cross}
 use Rattle.pipe_table.specs.Spec.{built_schema}
 use Rattle.pipe_engine.specs.Carried.{schema_given, first_node, ReadsNothing}
 use Rattle.pipe_engine.specs.Engine.{StageFits, StagesFit, Fits, IsBefore, behind, nodes_before, works_of_leg}

@@ -2,14 +2,14 @@
 use Rattle.std.proofs.Common.{◌≡◌, ℕ, zero, suc, ◌+◌, ◌<◌, ◌≤◌, List, [], ◌∷◌, ◌++◌, length, map, get_or, refl, sym, ap, subst, ◌∙◌, arith, Option, None}
 use Rattle.std.specs.Prelude.{All}
 use Rattle.std.specs.List.{flat_map, AllByRecursion}
-use Rattle.pipe_frame.specs.Rows.{Row}
-use Rattle.pipe_frame.specs.Weights.{total}
-use Rattle.pipe_frame.specs.declared.field.Field.{Field}
-use Rattle.pipe_frame.proofs.Weights.{total-append}
+use Rattle.pipe_schema.specs.Rows.{Row}
+use Rattle.pipe_schema.specs.Weights.{total}
+use Rattle.pipe_schema.specs.declared.field.Field.{Field}
+use Rattle.pipe_schema.proofs.Weights.{total-append}
 use Rattle.pipe_words.specs.Flags.{SeatMarks}
 use Rattle.pipe_ops.specs.Batches.{Left}
 use Rattle.pipe_ops.specs.declared.sink.Sink.{Ghosts as SinkWords}
-use Rattle.pipe_batches.specs.Rounds.{left_rows, schema_left}
+use Rattle.pipe_run.specs.Rounds.{left_rows, schema_left}
 use Rattle.pipe_chain.specs.Chain.{works_of, AllServe, EachSame}
 use Rattle.pipe_chain.specs.Counts.{AllWithin}
 use Rattle.pipe_chain.specs.Flow.{Work, Acts, Grown, AllGrown, both_acts, added}
@@ -25,12 +25,12 @@ use Rattle.pipe_slots.specs.declared.phys_operator.PhysOperator.{PhysOperator}
 use Rattle.pipe_slots.specs.declared.slot.Slot.{Slot}
 use Rattle.pipe_passage.specs.Passages.{phys_words, acts_now, IsPassing, GivesSchemas, schemas_of}
 use Rattle.pipe_passage.specs.LaneSeats.{sum_of, AllRest}
-use Rattle.pipe_takings.specs.Notes.{HasNothing}
+use Rattle.pipe_run.specs.Notes.{HasNothing}
 use Rattle.pipe_passage.proofs.Opened.{rest-length}
 use Rattle.pipe_engine.specs.Carried.{Carried}
-use Rattle.pipe_sinks.specs.Sinks.{SinkSetting, setting_in, sink_rows}
-use Rattle.pipe_sinks.specs.SinkWords.{sink_words}
-use Rattle.pipe_sinks.specs.declared.phys_sink.PhysSink.{PhysSink}
+use Rattle.pipe_slots.specs.Sinks.{SinkSetting, setting_in, sink_rows}
+use Rattle.pipe_slots.specs.SinkWords.{sink_words}
+use Rattle.pipe_slots.specs.declared.phys_sink.PhysSink.{PhysSink}
 
 abbrev Lanes : Type 0 → Type 0
 Lanes H = List (Lane (PhysOperator H) (PhysSink H))

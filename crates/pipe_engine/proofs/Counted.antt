@@ -1,23 +1,23 @@
 -- Rows that are counted at their nodes, leg after leg.
 use Rattle.std.proofs.Common.{◌≡◌, ℕ, ◌+◌, ◌<◌, ◌≤◌, Bool, true, false, cond, ◌==◌, List, [], ◌∷◌, ◌++◌, length, get_or, Option, Some, None, refl, sym, ap, subst, ◌∙◌, arith}
 use Rattle.std.specs.List.{flat_map}
-use Rattle.pipe_frame.specs.Rows.{Row}
-use Rattle.pipe_frame.proofs.Weights.{SameBag, SameBag-refl, SameBag-append, SameBag-flat_map}
+use Rattle.pipe_schema.specs.Rows.{Row}
+use Rattle.pipe_schema.proofs.Weights.{SameBag, SameBag-refl, SameBag-append, SameBag-flat_map}
 use Rattle.pipe_chain.specs.Counts.{AllWithin, counts_of, plus}
 use Rattle.pipe_chain.specs.Flow.{Work, Acts, made}
-use Rattle.pipe_legs.specs.Meaning.{Meaning, Place, OutOf}
+use Rattle.pipe_driver.specs.Meaning.{Meaning, Place, OutOf}
 use Rattle.pipe_driver.specs.State.{World, spent_at}
 use Rattle.pipe_driver.specs.Tables.{number_at}
 use Rattle.pipe_passage.proofs.Stopped.{nil-told, some-told}
-use Rattle.pipe_legs.proofs.Tests.{by_test, eq-is, eq-true, eq-false, eq-not}
+use Rattle.pipe_driver.proofs.Tests.{by_test, eq-is, eq-true, eq-false, eq-not}
 use Rattle.pipe_run.specs.Dealt.{nodes_in, counts_in}
 use Rattle.pipe_run.specs.Lanes.{lane_nodes}
 use Rattle.pipe_run.specs.Stages.{nodes_of}
 use Rattle.pipe_run.specs.declared.lane.Lane.{Lane}
 use Rattle.pipe_run.specs.declared.stage.Basin.{Basin}
 use Rattle.pipe_run.specs.declared.stage.Stage.{Stage}
-use Rattle.pipe_along.specs.Along.{counted_at}
-use Rattle.pipe_along.proofs.Flowing.{same_many, both_many}
+use Rattle.pipe_driver.specs.Along.{counted_at}
+use Rattle.pipe_driver.proofs.Flowing.{same_many, both_many}
 use Rattle.pipe_engine.specs.Carried.{first_node}
 use Rattle.pipe_engine.specs.Engine.{AreCounted, Fits, IsAdded, given_in}
 use Rattle.pipe_engine.specs.Passed.{with_more}

@@ -1,7 +1,7 @@
 -- What the driver knows of the leg that runs.
 use Rattle.std.proofs.Common.{◌≡◌, ℕ, zero, suc, ◌<◌, ◌≤◌, List, [], ◌∷◌, drop, length, Option, None, inl, inr, subst, arith}
 use Rattle.pipe_frame.specs.Frame.{Table}
-use Rattle.pipe_legs.proofs.Tests.{some-left}
+use Rattle.pipe_driver.proofs.Tests.{some-left}
 use Rattle.pipe_driver.proofs.Fronts.{some_later}
 use Rattle.pipe_driver.specs.Lines.{Task, counts_as}
 use Rattle.pipe_driver.specs.Runs.{Between, IsAnswer, KeepsRoot}

@@ -1,16 +1,16 @@
 -- Where pipelines stand for the branches of a plan, the first can begin.
 use Rattle.std.proofs.Common.{◌≡◌, ◌<◌, Bool, List, cond, length, refl, sym, ap, subst, arith, Result, Ok, Err, IfOk}
 use Rattle.std.specs.List.{AllByRecursion}
-use Rattle.pipe_frame.specs.Rows.{Row}
+use Rattle.pipe_schema.specs.Rows.{Row}
 use Rattle.pipe_plan.specs.PlanRows.{rows_of}
-use Rattle.pipe_legs.specs.Shape.{below_sink}
-use Rattle.pipe_legs.specs.Meaning.{tree_of}
-use Rattle.pipe_legs.specs.Legs.{Way, ways_of}
-use Rattle.pipe_legs.specs.Ways.{IsSound}
-use Rattle.pipe_legs.proofs.Tests.{eq-true}
-use Rattle.pipe_legs.proofs.Sounds.{are_sound}
-use Rattle.pipe_legs.proofs.Whole.{can_run}
-use Rattle.pipe_legs.proofs.Numbered.{told_apart}
+use Rattle.pipe_driver.specs.Shape.{below_sink}
+use Rattle.pipe_driver.specs.Meaning.{tree_of}
+use Rattle.pipe_driver.specs.Legs.{Way, ways_of}
+use Rattle.pipe_driver.specs.Ways.{IsSound}
+use Rattle.pipe_driver.proofs.Tests.{eq-true}
+use Rattle.pipe_driver.proofs.Sounds.{are_sound}
+use Rattle.pipe_driver.proofs.Runnable.{can_run}
+use Rattle.pipe_driver.proofs.Numbered.{told_apart}
 use Rattle.pipe_driver.specs.declared.pipe_line.PipeLine.{PipeLine}
 use Rattle.pipe_driver.specs.declared.run.Run.{Run}
 use Rattle.pipe_driver.specs.Words.{RunnerWords}

@@ -1,8 +1,8 @@
 -- A leg is counted at its sink.
 use Rattle.std.proofs.Common.{◌≡◌, ℕ, zero, suc, ◌+◌, ◌<◌, ◌==◌, ◌⊎◌, inl, inr, List, [], ◌∷◌, length, refl, sym, ap, ◌∙◌, arith}
 use Rattle.pipe_branches.specs.declared.branch.SinkAt.{SinkAt}
-use Rattle.pipe_legs.specs.Ways.{one, feeds, IsSound}
-use Rattle.pipe_legs.proofs.Tests.{by_test, eq-is, eq-true, eq-not}
+use Rattle.pipe_driver.specs.Ways.{one, feeds, IsSound}
+use Rattle.pipe_driver.proofs.Tests.{by_test, eq-is, eq-true, eq-not}
 use Rattle.pipe_driver.specs.declared.pipe_line.PipeLine.{PipeLine}
 use Rattle.pipe_driver.specs.declared.run.Run.{Run}
 use Rattle.pipe_driver.specs.declared.run.Passing.{Passing}

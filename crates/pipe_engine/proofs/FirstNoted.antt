@@ -3,14 +3,14 @@ use Rattle.std.proofs.Common.{◌≡◌, ℕ, List, [], refl, sym, ap, subst}
 use Rattle.pipe_events.specs.Stages.{IsStages}
 use Rattle.pipe_events.specs.Worlds.{Event}
 use Rattle.pipe_events.specs.PlanStages.{Setting, stages_of}
-use Rattle.pipe_legs.specs.Legs.{Way, ways_of}
+use Rattle.pipe_driver.specs.Legs.{Way, ways_of}
 use Rattle.pipe_driver.specs.State.{IsStart, nothing}
 use Rattle.pipe_driver.specs.Lines.{ways_as, counts_as}
 use Rattle.pipe_driver.specs.Plans.{Ask, task_of, at_start, StandFor}
 use Rattle.pipe_driver.specs.Runs.{parked_ways}
-use Rattle.pipe_recording.specs.Boards.{board_of}
-use Rattle.pipe_recording.specs.Recorded.{IsNoted}
-use Rattle.pipe_recording.proofs.Plans.{journals_start}
+use Rattle.pipe_driver.specs.Boards.{board_of}
+use Rattle.pipe_driver.specs.Recorded.{IsNoted}
+use Rattle.pipe_driver.proofs.PlanBoards.{journals_start}
 use Rattle.pipe_engine.specs.Journals.{staging_of}
 use Rattle.pipe_engine.specs.Drives.{Line, LineRun}
 use Rattle.pipe_engine.specs.Engine.{engine_words}

@@ -2,9 +2,9 @@
 use Rattle.std.proofs.Common.{◌≡◌, ℕ, zero, suc, ◌+◌, ◌<◌, ◌≤◌, Bool, true, false, cond, ◌||◌, eqb, List, [], ◌∷◌, ◌++◌, length, Option, Some, None, refl, sym, ap, subst, ◌∙◌, arith, inl, inr}
 use Rattle.std.specs.Prelude.{filter}
 use Rattle.std.specs.List.{flat_map, list_any}
-use Rattle.pipe_frame.specs.Rows.{Row}
-use Rattle.pipe_frame.specs.Weights.{total}
-use Rattle.pipe_frame.proofs.Weights.{SameBag, SameBag-refl, SameBag-sym, SameBag-trans, SameBag-from_equal, SameBag-from_rows, total-append}
+use Rattle.pipe_schema.specs.Rows.{Row}
+use Rattle.pipe_schema.specs.Weights.{total}
+use Rattle.pipe_schema.proofs.Weights.{SameBag, SameBag-refl, SameBag-sym, SameBag-trans, SameBag-from_equal, SameBag-from_rows, total-append}
 use Rattle.pipe_rows.specs.Encoded.{Encoded}
 use Rattle.pipe_expr.specs.Joins.{Join}
 use Rattle.pipe_expr.specs.Shares.{own_by, built_share, matched_built, has_probed_match, met_by}
@@ -17,7 +17,7 @@ use Rattle.pipe_table.specs.declared.spec.JoinSpec.{JoinSpec}
 use Rattle.pipe_words.specs.Flags.{is_marked}
 use Rattle.pipe_words.specs.Sums.{times, one_at}
 use Rattle.pipe_words.proofs.SumLemmas.{total-append as keys-append}
-use Rattle.pipe_legs.proofs.Tests.{by_test, eq-is, or-case, some-left, not-both}
+use Rattle.pipe_driver.proofs.Tests.{by_test, eq-is, or-case, some-left, not-both}
 use Rattle.pipe_chain.specs.Flow.{Acts}
 use Rattle.pipe_chain.specs.Keys.{WithinKeys}
 use Rattle.pipe_chain.specs.Unmarking.{no_row}
@@ -35,7 +35,7 @@ use Rattle.pipe_slots.specs.declared.slot.Slot.TheVariants as slot
 use Rattle.pipe_passage.specs.Stopped.{WonOnce, IsOnce}
 use Rattle.pipe_engine.specs.Engine.{rows_in, IsWellBuilt}
 use Rattle.pipe_engine.specs.Stands.{Settings}
-use Rattle.pipe_along.proofs.Shares.{own_alike}
+use Rattle.pipe_driver.proofs.Shares.{own_alike}
 
 -- ---- rows that ask for keys whose flags stand
 

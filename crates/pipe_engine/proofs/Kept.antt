@@ -8,12 +8,12 @@ use Rattle.pipe_ops.specs.declared.sink.FinalizedSink.{FinalizedSink}
 use Rattle.pipe_ops.specs.declared.sink.FinalizedSink.TheVariants.{Finished, Operator, Source}
 use Rattle.pipe_source.specs.declared.phys_source.PhysSource.{PhysSource}
 use Rattle.pipe_branches.specs.declared.branch.SinkAt.{SinkAt}
-use Rattle.pipe_legs.specs.Meaning.{Meaning}
+use Rattle.pipe_driver.specs.Meaning.{Meaning}
 use Rattle.pipe_driver.specs.State.{World}
 use Rattle.pipe_driver.specs.Runner.{Finalizes}
 use Rattle.pipe_driver.specs.declared.error.RunError.{RunError}
-use Rattle.pipe_sinks.specs.declared.phys_sink.PhysSink.{PhysSink}
-use Rattle.pipe_sinks.specs.declared.phys_sink.PhysSink.TheVariants.{Ordered, Sort, Build, Cross}
+use Rattle.pipe_slots.specs.declared.phys_sink.PhysSink.{PhysSink}
+use Rattle.pipe_slots.specs.declared.phys_sink.PhysSink.TheVariants.{Ordered, Sort, Build, Cross}
 use Rattle.pipe_engine.specs.Engine.{brings_of, Fits}
 use Rattle.pipe_engine.specs.Finished.{MayFinishSink, EndedAs}
 use Rattle.pipe_engine.specs.Stands.{Settings}
@@ -25,11 +25,9 @@ with_journal e journal = record e { journal = journal }
 pub journal_fits : {H : Type 0} (hash_of : H → List ℕ → ℕ) (x : Settings H) (m : Meaning) (w : World) (e : Engine H) (journal : Vec Event) → Fits hash_of e x m w → Fits hash_of (with_journal e journal) x m w
 journal_fits hash_of x m w e journal fits = record {
   sound = fits.sound;
-  hasher = fits.hasher;
   parts = fits.parts;
   some = fits.some;
   few = fits.few;
-  specs = fits.specs;
   ordered = fits.ordered;
   nodes = fits.nodes;
   seated = fits.seated;

@@ -5,15 +5,15 @@ use Rattle.std.specs.List.{flat_map, AllByRecursion}
 use Rattle.std.specs.Global.{Vec}
 use Rattle.pipe_events.specs.declared.event.Event.{Event}
 use Rattle.pipe_frame.specs.Frame.{Table}
-use Rattle.pipe_frame.specs.Rows.{Row, Same}
-use Rattle.pipe_frame.specs.Weights.{total}
-use Rattle.pipe_frame.specs.declared.field.Field.{Field}
-use Rattle.pipe_frame.proofs.Weights.{SameBag, SameBag-refl, SameBag-sym, SameBag-trans, SameBag-append, SameBag-from_equal, SameBag-from_rows, Same-from_bag, total-append}
+use Rattle.pipe_schema.specs.Rows.{Row, Same}
+use Rattle.pipe_schema.specs.Weights.{total}
+use Rattle.pipe_schema.specs.declared.field.Field.{Field}
+use Rattle.pipe_schema.proofs.Weights.{SameBag, SameBag-refl, SameBag-sym, SameBag-trans, SameBag-append, SameBag-from_equal, SameBag-from_rows, Same-from_bag, total-append}
 use Rattle.pipe_branches.specs.declared.branch.SinkAt.{SinkAt}
-use Rattle.pipe_legs.specs.Meaning.{Meaning, Place, OutOf, Into}
-use Rattle.pipe_legs.specs.Legs.{Leg, sink_node}
-use Rattle.pipe_legs.specs.Ways.{one, occurs, IsSound}
-use Rattle.pipe_legs.proofs.Tests.{by_test, eq-is, eq-true, eq-false, eq-not, not-both}
+use Rattle.pipe_driver.specs.Meaning.{Meaning, Place, OutOf, Into}
+use Rattle.pipe_driver.specs.Legs.{Leg, sink_node}
+use Rattle.pipe_driver.specs.Ways.{one, occurs, IsSound}
+use Rattle.pipe_driver.proofs.Tests.{by_test, eq-is, eq-true, eq-false, eq-not, not-both}
 use Rattle.pipe_driver.specs.State.{World, HasPassed, AreAlike}
 use Rattle.pipe_driver.specs.Runner.{Becomes, AreBuilt, RunsLeg}
 use Rattle.pipe_driver.proofs.Sums.{alike_from}
@@ -31,7 +31,7 @@ use Rattle.pipe_run.specs.declared.stage.Stage.{Stage}
 use Rattle.pipe_slots.specs.declared.phys_operator.PhysOperator.{PhysOperator}
 use Rattle.pipe_source.specs.Supplies.{left_of}
 use Rattle.pipe_source.specs.declared.phys_source.PhysSource.{PhysSource}
-use Rattle.pipe_batches.specs.Rounds.{left_rows}
+use Rattle.pipe_run.specs.Rounds.{left_rows}
 use Rattle.pipe_passage.specs.Passages.{phys_words, acts_now, GivesSchemas, HasOpened}
 use Rattle.pipe_words.specs.Flags.{SeatMarks}
 use Rattle.pipe_passage.specs.LaneSeats.{sum_of, IsRest, HasSeats, SameActs, AllSameActs}
@@ -40,20 +40,20 @@ use Rattle.pipe_passage.specs.declared.passage.Passage.{Passage}
 use Rattle.pipe_slots.specs.declared.slot.Slot.{Slot}
 use Rattle.pipe_slots.specs.declared.slot.Slot.TheVariants as slot
 use Rattle.pipe_slots.specs.declared.slots.Slots.{Slots}
-use Rattle.pipe_along.specs.Along.{AllMakeOf, more_of, come_to, counted_at}
+use Rattle.pipe_driver.specs.Along.{AllMakeOf, more_of, come_to, counted_at}
 use Rattle.pipe_engine.specs.Carried.{Carried}
 use Rattle.pipe_engine.specs.Engine.{Brings, SlotFits, StagesFit, Fits, IsBefore, rows_of_sink, sink_at, rows_for, nodes_before, behind}
-use Rattle.pipe_along.specs.Laws.{Arrived}
+use Rattle.pipe_driver.specs.ChainLaws.{Arrived}
 use Rattle.pipe_engine.specs.Passed.{with_more}
-use Rattle.pipe_sinks.specs.Sinks.{SinkSetting, setting_in, sink_rows}
-use Rattle.pipe_sinks.specs.SinkWords.{sink_words}
+use Rattle.pipe_slots.specs.Sinks.{SinkSetting, setting_in, sink_rows}
+use Rattle.pipe_slots.specs.SinkWords.{sink_words}
 use Rattle.pipe_engine.specs.Stands.{Settings, AreStagesOf, StandsFor}
 use Rattle.pipe_engine.specs.Taken.{own_seats, is_place, IsTaken}
 use Rattle.pipe_engine.specs.declared.engine.Engine.{Engine}
 use Rattle.pipe_engine.specs.declared.engine.OpenLeg.{OpenLeg}
 use Rattle.pipe_engine.specs.declared.part.Part.{Part}
-use Rattle.pipe_sinks.specs.declared.phys_sink.PhysSink.{PhysSink}
-use Rattle.pipe_along.proofs.Flowing.{arrived, more_none, not_on}
+use Rattle.pipe_slots.specs.declared.phys_sink.PhysSink.{PhysSink}
+use Rattle.pipe_driver.proofs.Flowing.{arrived, more_none, not_on}
 use Rattle.pipe_engine.proofs.Counted.{counts_alike, run_counted}
 use Rattle.pipe_engine.proofs.Opening.{nodes_are, ends_in, gives_are, place_off, not_placed, stages_open, all_enough}
 use Rattle.pipe_engine.specs.Wholes.{HasFrame, IsKeptFrame}
@@ -202,11 +202,9 @@ run_fits {H = H} hash_of x old source part p seats lanes slots index journal fro
         new = new_w;
         fit = record {
           sound = sound;
-          hasher = fits.hasher;
           parts = fits.parts;
           some = fits.some;
           few = fits.few;
-          specs = fits.specs;
           ordered = fits.ordered;
           nodes = taken.count ∙ fits.nodes;
           seated = taken.seats_count ∙ fits.seated;

@@ -21,7 +21,6 @@ pub mod LegEnds
 pub mod Finishes
 pub mod SinkSends
 pub mod Driven
-pub mod SpecFound
 pub mod SourceSends
 pub mod Asked
 pub mod Paces
@@ -42,3 +41,4 @@ pub mod Spared
 pub mod Refusing
 pub mod Breaking
 pub mod Tellings
+pub mod Lending

@@ -5,8 +5,8 @@ use Rattle.pipe_ops.specs.declared.context.PExecutionContext.{PExecutionContext}
 use Rattle.pipe_plan.specs.Faults.{IsWellFormed}
 use Rattle.pipe_plan.specs.Plan.{Plan}
 use Rattle.pipe_plan.specs.PlanRows.{rows_of}
-use Rattle.pipe_legs.specs.Legs.{Way}
-use Rattle.pipe_legs.specs.Meaning.{meaning_of}
+use Rattle.pipe_driver.specs.Legs.{Way}
+use Rattle.pipe_driver.specs.Meaning.{meaning_of}
 use Rattle.pipe_driver.specs.Lines.{ways_as, counts_as}
 use Rattle.pipe_driver.specs.Runs.{Between}
 use Rattle.pipe_driver.specs.State.{IsBetween}

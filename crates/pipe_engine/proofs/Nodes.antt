@@ -4,16 +4,16 @@ use Rattle.std.specs.Prelude.{All}
 use Rattle.std.specs.List.{flat_map, AllByRecursion}
 use Rattle.std.specs.Global.{Vec}
 use Rattle.pipe_events.specs.declared.event.Event.{Event}
-use Rattle.pipe_frame.specs.Rows.{Row, Same}
-use Rattle.pipe_frame.specs.Weights.{total}
-use Rattle.pipe_frame.specs.declared.field.Field.{Field}
-use Rattle.pipe_frame.proofs.Weights.{SameBag, SameBag-refl, SameBag-sym, SameBag-trans, SameBag-append, SameBag-from_equal, SameBag-from_rows, total-append}
+use Rattle.pipe_schema.specs.Rows.{Row, Same}
+use Rattle.pipe_schema.specs.Weights.{total}
+use Rattle.pipe_schema.specs.declared.field.Field.{Field}
+use Rattle.pipe_schema.proofs.Weights.{SameBag, SameBag-refl, SameBag-sym, SameBag-trans, SameBag-append, SameBag-from_equal, SameBag-from_rows, total-append}
 use Rattle.pipe_branches.specs.declared.branch.SinkAt.{SinkAt}
 use Rattle.pipe_words.specs.Flags.{SeatMarks}
-use Rattle.pipe_legs.specs.Meaning.{Meaning, Place, OutOf, Into}
-use Rattle.pipe_legs.specs.Legs.{sink_node}
-use Rattle.pipe_legs.specs.Ways.{one, occurs, IsSound}
-use Rattle.pipe_legs.proofs.Tests.{by_test, eq-is, eq-true, eq-false, eq-not, not-both}
+use Rattle.pipe_driver.specs.Meaning.{Meaning, Place, OutOf, Into}
+use Rattle.pipe_driver.specs.Legs.{sink_node}
+use Rattle.pipe_driver.specs.Ways.{one, occurs, IsSound}
+use Rattle.pipe_driver.proofs.Tests.{by_test, eq-is, eq-true, eq-false, eq-not, not-both}
 use Rattle.pipe_driver.specs.State.{World, Waits, Has, HasSettled, spent, spent_at}
 use Rattle.pipe_driver.specs.State as state
 use Rattle.pipe_driver.specs.Runner.{Becomes, AreBuilt, Leaves, Settles}
@@ -38,20 +38,20 @@ use Rattle.pipe_passage.specs.LaneSeats.{sum_of, IsRest, HasSeats}
 use Rattle.pipe_passage.specs.Passages.{phys_words, acts_now, GivesSchemas, IsPassing, HasLeft, noted}
 use Rattle.pipe_passage.specs.Passages as passages
 use Rattle.pipe_passage.specs.declared.passage.Passage.{Passage}
-use Rattle.pipe_along.specs.Along.{AllMakeOf, more_of, come_to}
+use Rattle.pipe_driver.specs.Along.{AllMakeOf, more_of, come_to}
 use Rattle.pipe_driver.specs.Tables.{number_at}
 use Rattle.pipe_engine.specs.Carried.{IsBack, Carried, ReadsNothing, first_node}
 use Rattle.pipe_engine.specs.Engine.{IsBare, IsTabled, SlotFits, IsRowStage, StageFits, StagesFit, LegFits, LegFitsOrNone, Fits, AreCounted, IsAdded, IsBefore, rows_of_leg, rows_of_sink, sink_at, rows_for, nodes_before, behind, join_work}
 use Rattle.pipe_engine.specs.Passed.{with_more}
-use Rattle.pipe_sinks.specs.Sinks.{SinkSetting, setting_in, sink_rows}
-use Rattle.pipe_takings.specs.declared.note.Note.{Note}
-use Rattle.pipe_sinks.specs.SinkWords.{sink_words}
+use Rattle.pipe_slots.specs.Sinks.{SinkSetting, setting_in, sink_rows}
+use Rattle.pipe_run.specs.declared.note.Note.{Note}
+use Rattle.pipe_slots.specs.SinkWords.{sink_words}
 use Rattle.pipe_engine.specs.Stands.{Settings}
 use Rattle.pipe_engine.specs.declared.engine.Engine.{Engine}
 use Rattle.pipe_engine.specs.declared.engine.OpenLeg.{OpenLeg}
-use Rattle.pipe_sinks.specs.declared.phys_sink.PhysSink.{PhysSink}
+use Rattle.pipe_slots.specs.declared.phys_sink.PhysSink.{PhysSink}
 use Rattle.pipe_engine.proofs.Carrying.{carry, map_length}
-use Rattle.pipe_along.proofs.Flowing.{arrived, more_none, not_on, first_apart}
+use Rattle.pipe_driver.proofs.Flowing.{arrived, more_none, not_on, first_apart}
 use Rattle.pipe_engine.proofs.Counted.{leave_counted, settle_counted}
 use Rattle.pipe_engine.proofs.Legs.{with_given, with_leg, probed_off, into_sink, beside_sink}
 use Rattle.pipe_engine.proofs.Owning.{kind_owns}
@@ -177,11 +177,9 @@ leave_fits {H = H} hash_of x old leg p s seats slots given node opened added lef
     let here : one (node == node) ≡ 1 = ap one (eq-true node node refl) in (
       record {
         sound = sound;
-        hasher = fits.hasher;
         parts = fits.parts;
         some = fits.some;
         few = fits.few;
-        specs = fits.specs;
         ordered = fits.ordered;
         nodes = back.count ∙ fits.nodes;
         seated = back.seats_count ∙ fits.seated;
@@ -411,11 +409,9 @@ settle_fits {H = H} hash_of x old leg p slots counts node nothing from parts not
         new = new_w;
         fit = record {
           sound = sound;
-          hasher = fits.hasher;
           parts = fits.parts;
           some = fits.some;
           few = fits.few;
-          specs = fits.specs;
           ordered = fits.ordered;
           nodes = spends.count ∙ fits.nodes;
           seated = ap length seats_are ∙ fits.seated;

@@ -5,10 +5,10 @@ use Rattle.pipe_events.specs.Worlds.{Event}
 use Rattle.pipe_branches.specs.declared.branch.SinkAt.{SinkAt}
 use Rattle.pipe_branches.specs.declared.branch.SinkAt.TheVariants as at
 use Rattle.std.specs.List.{AllByRecursion}
-use Rattle.pipe_legs.specs.Legs.{Way, sink_node}
-use Rattle.pipe_legs.specs.Meaning.{Meaning}
-use Rattle.pipe_legs.specs.Ways.{MayGoOn, IsSinkOf, IsSound}
-use Rattle.pipe_legs.proofs.Tests.{all-append}
+use Rattle.pipe_driver.specs.Legs.{Way, sink_node}
+use Rattle.pipe_driver.specs.Meaning.{Meaning}
+use Rattle.pipe_driver.specs.Ways.{MayGoOn, IsSinkOf, IsSound}
+use Rattle.pipe_driver.proofs.Tests.{all-append}
 use Rattle.pipe_driver.specs.declared.pipe_line.Leg.{Leg}
 use Rattle.pipe_driver.specs.declared.run.Fed.{Fed}
 use Rattle.pipe_driver.specs.declared.sink_counts.SinkCounts.{SinkCounts}
@@ -20,15 +20,15 @@ use Rattle.pipe_driver.specs.Runs.{node_of, IsRest, Parks, Unparks, parked_ways,
 use Rattle.pipe_driver.proofs.Begins.{over}
 use Rattle.pipe_driver.proofs.Drives.{run_with, ways_append, Lowered, chosen, other}
 use Rattle.pipe_driver.proofs.LegPasses.{leg_there}
-use Rattle.pipe_recording.specs.Boards.{IsBoard, held_at}
-use Rattle.pipe_recording.specs.Laws.{IsWhole}
-use Rattle.pipe_recording.specs.Recorded.{IsNoted}
-use Rattle.pipe_recording.specs.Written.{IsLegOf, IsEndOf, closing}
-use Rattle.pipe_recording.proofs.Closes.{closes}
-use Rattle.pipe_recording.proofs.Ends.{end_noted}
-use Rattle.pipe_recording.proofs.Legs.{leg_noted}
-use Rattle.pipe_recording.proofs.Sinks.{begin_noted, feed_noted, leave_noted, open_noted, way_noted}
-use Rattle.pipe_recording.proofs.Whole.{whole}
+use Rattle.pipe_driver.specs.Boards.{IsBoard, held_at}
+use Rattle.pipe_driver.specs.JournalLaws.{IsWhole}
+use Rattle.pipe_driver.specs.Recorded.{IsNoted}
+use Rattle.pipe_driver.specs.Written.{IsLegOf, IsEndOf, closing}
+use Rattle.pipe_driver.proofs.Closes.{closes}
+use Rattle.pipe_driver.proofs.Ends.{end_noted}
+use Rattle.pipe_driver.proofs.Legs.{leg_noted}
+use Rattle.pipe_driver.proofs.Sinks.{begin_noted, feed_noted, leave_noted, open_noted, way_noted}
+use Rattle.pipe_driver.proofs.AllRun.{whole}
 use Rattle.pipe_source.specs.declared.phys_source.PhysSource.{PhysSource}
 use Rattle.pipe_engine.specs.Drives.{Line, LineRun}
 use Rattle.pipe_engine.specs.Noted.{Staging, board_in, AreTold, IsTold, IsSupplied, IsListed, NotedBetween, NotedBefore, NotedFed}

@@ -1,11 +1,11 @@
 -- The stages of a leg that stands for one of the plan, before a row goes through them.
 use Rattle.std.proofs.Common.{◌≡◌, ◌≢◌, ℕ, ◌+◌, ◌<◌, Bool, true, false, cond, ◌==◌, ◌||◌, List, [], ◌∷◌, map, refl, sym, ap, subst, ◌∙◌, arith}
-use Rattle.pipe_frame.specs.Rows.{Row}
-use Rattle.pipe_frame.specs.declared.field.Field.{Field}
+use Rattle.pipe_schema.specs.Rows.{Row}
+use Rattle.pipe_schema.specs.declared.field.Field.{Field}
 use Rattle.pipe_branches.specs.declared.branch.SinkAt.{SinkAt}
-use Rattle.pipe_legs.specs.Meaning.{Meaning}
-use Rattle.pipe_legs.specs.Ways.{one, occurs}
-use Rattle.pipe_legs.proofs.Tests.{by_test, eq-is, eq-true, eq-false, eq-not, not-both}
+use Rattle.pipe_driver.specs.Meaning.{Meaning}
+use Rattle.pipe_driver.specs.Ways.{one, occurs}
+use Rattle.pipe_driver.proofs.Tests.{by_test, eq-is, eq-true, eq-false, eq-not, not-both}
 use Rattle.pipe_driver.specs.State.{World, Waits, Has, IsBuilt, AreAlike}
 use Rattle.pipe_driver.specs.State as state
 use Rattle.pipe_driver.specs.Runner.{AreBuilt}
@@ -30,10 +30,10 @@ use Rattle.pipe_slots.specs.declared.phys_operator.PhysOperator.TheVariants as o
 use Rattle.pipe_slots.specs.declared.slot.Slot.{Slot}
 use Rattle.pipe_slots.specs.declared.slot.Slot.TheVariants as slot
 use Rattle.pipe_engine.specs.Engine.{IsBare, IsTabled, SlotFits, IsRowStage, IsJoinStage, StageFits, StagesFit, join_work}
-use Rattle.pipe_sinks.specs.Sinks.{sink_schema}
+use Rattle.pipe_slots.specs.Sinks.{sink_schema}
 use Rattle.pipe_engine.specs.Stands.{Settings, IsRowOf, IsPlaceOf, IsOperatorOf, IsSinkOf, AreStagesOf}
-use Rattle.pipe_sinks.specs.declared.phys_sink.PhysSink.{PhysSink}
-use Rattle.pipe_along.proofs.Flowing.{first_apart}
+use Rattle.pipe_slots.specs.declared.phys_sink.PhysSink.{PhysSink}
+use Rattle.pipe_driver.proofs.Flowing.{first_apart}
 
 -- ---- an operator
 

@@ -2,14 +2,14 @@
 use Rattle.std.proofs.Common.{◌≡◌, ℕ, ◌+◌, ◌<◌, List, [], ◌∷◌, length, map, refl, sym, ap, subst, ◌∙◌, arith, Option, None}
 use Rattle.std.specs.List.{AllByRecursion}
 use Rattle.std.specs.Prelude.{◌^◌}
-use Rattle.pipe_frame.specs.declared.field.Field.{Field}
-use Rattle.pipe_legs.specs.Legs.{sink_node}
-use Rattle.pipe_legs.specs.Meaning.{Meaning}
-use Rattle.pipe_legs.specs.Ways.{occurs}
+use Rattle.pipe_schema.specs.declared.field.Field.{Field}
+use Rattle.pipe_driver.specs.Legs.{sink_node}
+use Rattle.pipe_driver.specs.Meaning.{Meaning}
+use Rattle.pipe_driver.specs.Ways.{occurs}
 use Rattle.pipe_ops.specs.Batches.{Left}
 use Rattle.pipe_source.specs.Supplies.{left_of}
 use Rattle.pipe_source.specs.declared.phys_source.PhysSource.{PhysSource}
-use Rattle.pipe_batches.specs.Rounds.{left_rows, schema_left, IsLeftOf}
+use Rattle.pipe_run.specs.Rounds.{left_rows, schema_left, IsLeftOf}
 use Rattle.pipe_driver.specs.Runner.{MayRunLeg}
 use Rattle.pipe_driver.proofs.Sums.{alike_from}
 use Rattle.pipe_words.specs.Flags.{SeatMarks}
@@ -22,8 +22,8 @@ use Rattle.pipe_slots.specs.declared.slot.Slot.{Slot}
 use Rattle.pipe_slots.specs.declared.slots.Slots.{Slots}
 use Rattle.pipe_passage.specs.LaneSeats.{ArePlanned, AllRest, HasSeats, sum_of}
 use Rattle.pipe_passage.specs.Passages.{IsPassing, HasOpened}
-use Rattle.pipe_sinks.specs.SinkWords.{sink_words}
-use Rattle.pipe_sinks.specs.declared.phys_sink.PhysSink.{PhysSink}
+use Rattle.pipe_slots.specs.SinkWords.{sink_words}
+use Rattle.pipe_slots.specs.declared.phys_sink.PhysSink.{PhysSink}
 use Rattle.pipe_engine.specs.Carried.{schema_given}
 use Rattle.pipe_engine.specs.Engine.{SlotFits, engine_words, nodes_before}
 use Rattle.pipe_engine.specs.Stands.{Settings}

@@ -2,8 +2,8 @@
 use Rattle.std.proofs.Common.{◌≡◌, ℕ, ◌+◌, ◌<◌, Bool, true, false, List, [], ◌∷◌, ◌++◌, length, map, Option, refl, sym, ap, subst, ◌∙◌, arith, append-nil}
 use Rattle.std.specs.Prelude.{All}
 use Rattle.std.specs.List.{flat_map, range_with_len}
-use Rattle.pipe_frame.specs.Rows.{Row, Same}
-use Rattle.pipe_frame.proofs.Weights.{SameBag, SameBag-refl, SameBag-sym, SameBag-trans, SameBag-append, SameBag-from_equal, SameBag-from_rows, Same-from_bag}
+use Rattle.pipe_schema.specs.Rows.{Row, Same}
+use Rattle.pipe_schema.proofs.Weights.{SameBag, SameBag-refl, SameBag-sym, SameBag-trans, SameBag-append, SameBag-from_equal, SameBag-from_rows, Same-from_bag}
 use Rattle.pipe_expr.specs.Joins.{Join}
 use Rattle.pipe_expr.specs.Shares.{own_by, built_share}
 use Rattle.pipe_expr.specs.declared.join_words.JoinType.{JoinType}
@@ -36,7 +36,7 @@ use Rattle.pipe_slots.specs.declared.slot.Slot.TheVariants as slot
 use Rattle.pipe_passage.specs.LaneSeats.{sum_of, IsRest, AreRest}
 use Rattle.pipe_engine.specs.Engine.{rows_in, IsWellBuilt}
 use Rattle.pipe_engine.specs.Stands.{Settings}
-use Rattle.pipe_along.proofs.Shares.{own_alike}
+use Rattle.pipe_driver.proofs.Shares.{own_alike}
 
 no_rows : (keys : List ℕ) → flat_map no_row keys ≡ []
 no_rows [] = refl

@@ -1,13 +1,13 @@
 -- How many rows are taken to a question of the stop check, one call after another.
 use Rattle.std.proofs.Common.{◌≡◌, ℕ, ◌+◌, ◌-◌, ◌*◌, ◌≤◌, inl, inr, List, [], ◌∷◌, length, length-append, ap, subst, sym, arith}
 use Rattle.std.specs.List.{AllByRecursion}
-use Rattle.pipe_frame.specs.Counts.{Counts}
+use Rattle.pipe_schema.specs.Counts.{Counts}
 use Rattle.pipe_ops.specs.Batches.{Left, batch, after_batch}
 use Rattle.pipe_ops.specs.declared.source.Morsel.{Morsel}
 use Rattle.pipe_run.specs.Dealt.{rows_of_all}
-use Rattle.pipe_takings.specs.Rounds.{Gives}
-use Rattle.pipe_batches.specs.Rounds.{left_rows, IsFew}
-use Rattle.pipe_batches.proofs.Batches.{batch-rows}
+use Rattle.pipe_run.specs.NotedRounds.{Gives}
+use Rattle.pipe_run.specs.Rounds.{left_rows, IsFew}
+use Rattle.pipe_run.proofs.BatchSteps.{batch-rows}
 use Rattle.pipe_engine.specs.Asked.{RisesBy}
 use Rattle.pipe_engine.specs.Paced.{TakesPaced}
 

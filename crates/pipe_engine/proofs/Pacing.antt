@@ -2,7 +2,7 @@
 use Rattle.std.proofs.Common.{◌≡◌, ℕ, ◌+◌, ◌-◌, ◌*◌, ◌≤◌, inl, inr, cond, Bool, true, false, List, [], ◌∷◌, ◌++◌, map, length, ap, subst, sym, ◌∙◌, append_assoc, append-nil, arith}
 use Rattle.std.specs.Prelude.{◌==◌}
 use Rattle.std.specs.List.{AllByRecursion}
-use Rattle.pipe_frame.specs.Counts.{Counts, counted}
+use Rattle.pipe_schema.specs.Counts.{Counts, counted}
 use Rattle.pipe_ops.specs.declared.context.PExecutionContext.{PExecutionContext}
 use Rattle.pipe_ops.specs.Batches.{Left}
 use Rattle.pipe_ops.specs.declared.source.Morsel.{Morsel}
@@ -11,14 +11,14 @@ use Rattle.pipe_events.specs.Worlds as worlds
 use Rattle.pipe_events.specs.declared.event.Event.{Event}
 use Rattle.pipe_branches.specs.declared.branch.SinkAt.{SinkAt}
 use Rattle.pipe_branches.specs.declared.branch.SinkAt.TheVariants as at
-use Rattle.pipe_recording.specs.Written.{closing}
-use Rattle.pipe_takings.specs.declared.note.Note.{Note}
-use Rattle.pipe_takings.specs.Notes.{events_of, ending_of, entries_of_parts, notes_from}
-use Rattle.pipe_takings.specs.Noted.{IsNotedSince}
-use Rattle.pipe_takings.specs.Rounds.{Gives, AreNotedBehind}
-use Rattle.pipe_takings.specs.Paced.{IsSized, takes_in, AreFew, KeepsPace, NotesKeepPace}
-use Rattle.pipe_takings.proofs.Few.{flushes_few, takes_both, takes_few}
-use Rattle.pipe_takings.proofs.Rounds.{all_both}
+use Rattle.pipe_driver.specs.Written.{closing}
+use Rattle.pipe_run.specs.declared.note.Note.{Note}
+use Rattle.pipe_run.specs.Notes.{events_of, ending_of, entries_of_parts, notes_from}
+use Rattle.pipe_run.specs.Noted.{IsNotedSince}
+use Rattle.pipe_run.specs.NotedRounds.{Gives, AreNotedBehind}
+use Rattle.pipe_run.specs.Paced.{IsSized, takes_in, AreFew, KeepsPace, NotesKeepPace}
+use Rattle.pipe_run.proofs.Few.{flushes_few, takes_both, takes_few}
+use Rattle.pipe_run.proofs.NotedRounds.{all_both}
 use Rattle.pipe_engine.specs.Asked.{RisesBy}
 use Rattle.pipe_engine.specs.Journals.{WritesClose}
 use Rattle.pipe_engine.specs.Paced.{HasKeptPace}

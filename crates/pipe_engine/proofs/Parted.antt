@@ -1,12 +1,12 @@
 -- Rows that went a part of their way, as if they had gone all of it.
 use Rattle.std.proofs.Common.{◌≡◌, ℕ, suc, ◌+◌, ◌<◌, ◌≤◌, Bool, true, false, cond, ◌==◌, ◌⊎◌, inl, inr, List, [], ◌∷◌, ◌++◌, length, refl, sym, ap, subst, ◌∙◌, arith}
 use Rattle.std.specs.List.{flat_map}
-use Rattle.pipe_frame.specs.Rows.{Row, Same}
-use Rattle.pipe_frame.specs.Weights.{total}
-use Rattle.pipe_frame.proofs.Weights.{total-append}
-use Rattle.pipe_legs.specs.Meaning.{Meaning}
-use Rattle.pipe_legs.specs.Ways.{one, occurs}
-use Rattle.pipe_legs.proofs.Tests.{by_test, eq-is, eq-true}
+use Rattle.pipe_schema.specs.Rows.{Row, Same}
+use Rattle.pipe_schema.specs.Weights.{total}
+use Rattle.pipe_schema.proofs.Weights.{total-append}
+use Rattle.pipe_driver.specs.Meaning.{Meaning}
+use Rattle.pipe_driver.specs.Ways.{one, occurs}
+use Rattle.pipe_driver.proofs.Tests.{by_test, eq-is, eq-true}
 use Rattle.pipe_driver.specs.State.{AreAlike}
 use Rattle.pipe_driver.specs.Within.{GoThroughRun}
 use Rattle.pipe_chain.specs.Counts.{plus, counts_of, Over}
@@ -14,7 +14,7 @@ use Rattle.pipe_chain.specs.Flow.{Work, Acts, both_acts, added, made, Flows, Gro
 use Rattle.pipe_chain.specs.Keys.{SameKeys, WithinKeys}
 use Rattle.pipe_chain.specs.Parts.{Parts}
 use Rattle.pipe_chain.proofs.Weighing.{rows-refl, keys-refl, keys-weigh, keys-fewer, keys-within}
-use Rattle.pipe_along.specs.Along.{counted_at}
+use Rattle.pipe_driver.specs.Along.{counted_at}
 
 -- ---- acts of all rows, where the same keys were won
 

@@ -2,15 +2,15 @@
 use Rattle.std.proofs.Common.{◌≡◌, ◌≢◌, ℕ, ◌+◌, ◌<◌, ◌≤◌, Bool, true, false, cond, ◌==◌, List, [], ◌∷◌, ◌++◌, length, map, Option, Some, None, refl, sym, ap, subst, ◌∙◌, arith, inl, inr}
 use Rattle.std.specs.List.{flat_map}
 use Rattle.std.specs.Global.{Vec}
-use Rattle.pipe_frame.specs.Rows.{Row}
-use Rattle.pipe_frame.specs.declared.field.Field.{Field}
-use Rattle.pipe_frame.proofs.Weights.{SameBag, SameBag-refl, SameBag-append, SameBag-from_equal, Same-from_bag}
+use Rattle.pipe_schema.specs.Rows.{Row}
+use Rattle.pipe_schema.specs.declared.field.Field.{Field}
+use Rattle.pipe_schema.proofs.Weights.{SameBag, SameBag-refl, SameBag-append, SameBag-from_equal, Same-from_bag}
 use Rattle.pipe_branches.specs.declared.branch.SinkAt.{SinkAt}
 use Rattle.pipe_words.specs.Flags.{SeatMarks}
-use Rattle.pipe_legs.specs.Meaning.{Meaning, OutOf}
-use Rattle.pipe_legs.specs.Legs.{Leg, sink_node}
-use Rattle.pipe_legs.specs.Ways.{one, occurs}
-use Rattle.pipe_legs.proofs.Tests.{by_test, eq-is, eq-not, some-left}
+use Rattle.pipe_driver.specs.Meaning.{Meaning, OutOf}
+use Rattle.pipe_driver.specs.Legs.{Leg, sink_node}
+use Rattle.pipe_driver.specs.Ways.{one, occurs}
+use Rattle.pipe_driver.proofs.Tests.{by_test, eq-is, eq-not, some-left}
 use Rattle.pipe_driver.specs.State.{World, HasPassed, HasSettled, spent, spent_at}
 use Rattle.pipe_driver.specs.Runner.{AreBuilt}
 use Rattle.pipe_driver.specs.Refusals.{ComesToMany, IsOrSettles}
@@ -19,7 +19,7 @@ use Rattle.pipe_driver.specs.Within.{GivesNoMore, GivesMany}
 use Rattle.pipe_driver.proofs.Sums.{alike_from}
 use Rattle.pipe_source.specs.Supplies.{left_of}
 use Rattle.pipe_source.specs.declared.phys_source.PhysSource.{PhysSource}
-use Rattle.pipe_batches.specs.Rounds.{left_rows}
+use Rattle.pipe_run.specs.Rounds.{left_rows}
 use Rattle.pipe_chain.specs.Chain.{works_of}
 use Rattle.pipe_chain.specs.Counts.{counts_of, plus}
 use Rattle.pipe_chain.specs.Flow.{Work, Acts, Flows, added}
@@ -40,10 +40,10 @@ use Rattle.pipe_passage.specs.Passages.{phys_words, acts_now, IsPassing, HasOpen
 use Rattle.pipe_passage.specs.Stopped.{AllOnce, HasBroken}
 use Rattle.pipe_passage.specs.declared.passage.Passage.{Passage}
 use Rattle.pipe_passage.proofs.Opened.{rest-length}
-use Rattle.pipe_along.specs.Along.{AllMakeOf, more_of, come_to, counted_at}
-use Rattle.pipe_along.proofs.Flowing.{arrived, both_many, more_none}
-use Rattle.pipe_sinks.specs.SinkWords.{sink_words}
-use Rattle.pipe_sinks.specs.declared.phys_sink.PhysSink.{PhysSink}
+use Rattle.pipe_driver.specs.Along.{AllMakeOf, more_of, come_to, counted_at}
+use Rattle.pipe_driver.proofs.Flowing.{arrived, both_many, more_none}
+use Rattle.pipe_slots.specs.SinkWords.{sink_words}
+use Rattle.pipe_slots.specs.declared.phys_sink.PhysSink.{PhysSink}
 use Rattle.pipe_engine.specs.Carried.{first_node}
 use Rattle.pipe_engine.specs.Engine.{Brings, AreCounted, SlotFits, StagesFit, Fits, IsBefore, behind, nodes_before}
 use Rattle.pipe_engine.specs.Passed.{with_more}

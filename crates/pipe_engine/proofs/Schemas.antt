@@ -2,8 +2,8 @@
 use Rattle.std.proofs.Common.{◌≡◌, ℕ, List, Option, Some, None, ap, refl, subst, sym, ◌∙◌}
 use Rattle.std.specs.Prelude.{Result, Ok, Err, IfOk}
 use Rattle.pipe_frame.specs.Frame.{Table}
-use Rattle.pipe_frame.specs.Rows.{Row}
-use Rattle.pipe_frame.specs.declared.field.Field.{Field}
+use Rattle.pipe_schema.specs.Rows.{Row}
+use Rattle.pipe_schema.specs.declared.field.Field.{Field}
 use Rattle.pipe_ops.specs.declared.sink.FinalizedSink.{FinalizedSink}
 use Rattle.pipe_ops.specs.declared.sink.FinalizedSink.TheVariants.{Finished, Operator, Source}
 use Rattle.pipe_sort.specs.SortKeys.{Sorting}
@@ -11,11 +11,11 @@ use Rattle.pipe_source.specs.Ordered.{Ordered, held_in}
 use Rattle.pipe_source.specs.declared.phys_source.PhysSource.{PhysSource}
 use Rattle.pipe_branches.specs.declared.branch.SinkAt.{SinkAt}
 use Rattle.pipe_branches.specs.declared.branch.SinkAt.TheVariants as at
-use Rattle.pipe_legs.specs.Meaning.{Meaning}
+use Rattle.pipe_driver.specs.Meaning.{Meaning}
 use Rattle.pipe_driver.specs.Fronts.{newer_of}
-use Rattle.pipe_sinks.specs.Sinks.{OrderedBy, SinkSetting}
-use Rattle.pipe_sinks.specs.declared.phys_sink.PhysSink.{PhysSink}
-use Rattle.pipe_sinks.specs.declared.phys_sink.PhysSink.TheVariants as phys
+use Rattle.pipe_slots.specs.Sinks.{OrderedBy, SinkSetting}
+use Rattle.pipe_slots.specs.declared.phys_sink.PhysSink.{PhysSink}
+use Rattle.pipe_slots.specs.declared.phys_sink.PhysSink.TheVariants as phys
 use Rattle.pipe_engine.specs.Drives.{IsRootAnswer}
 use Rattle.pipe_engine.specs.Engine.{IsWholeAt, whole_rows}
 use Rattle.pipe_engine.specs.Finished.{EndsAsRoot, HasBoth, IsAnswer, IsFilledAt, IsOfSchema, IsSorted, MayFinishSink}

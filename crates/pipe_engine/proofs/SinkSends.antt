@@ -7,7 +7,7 @@ use Rattle.std.proofs.option.Option.TheSendSync as option
 use Rattle.pipe_index.specs.declared.hashes_keys.HashesKeys.{Ghosts}
 use Rattle.pipe_passage.proofs.Sent.{shared-send, shared-sync}
 use Rattle.pipe_probe.proofs.cross.CrossJoin.TheSendSync as cross
-use Rattle.pipe_sinks.specs.contracts.phys_sink.PhysSink as sink
+use Rattle.pipe_slots.specs.contracts.phys_sink.PhysSink as sink
 use Rattle.pipe_sort.proofs.sink.SortSink.TheSendSync as sort
 use Rattle.pipe_source.proofs.ordered_sink.OrderedSink.TheSendSync as ordered
 use Rattle.pipe_table.proofs.kept.Kept.TheSendSync as kept

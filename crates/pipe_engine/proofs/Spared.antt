@@ -1,11 +1,11 @@
 -- Joins whose keys were each won once give no more than their own, wherever their tables stand.
 use Rattle.std.proofs.Common.{◌≡◌, ℕ, ◌+◌, ◌<◌, ◌≤◌, true, false, ◌==◌, List, [], ◌∷◌, ◌++◌, refl, sym, ap, subst, ◌∙◌, arith}
 use Rattle.std.specs.List.{flat_map}
-use Rattle.pipe_frame.specs.Rows.{Row}
-use Rattle.pipe_frame.proofs.Weights.{SameBag, SameBag-sym, SameBag-trans, SameBag-from_rows}
-use Rattle.pipe_legs.specs.Meaning.{Meaning, OutOf}
-use Rattle.pipe_legs.specs.Ways.{one, occurs}
-use Rattle.pipe_legs.proofs.Tests.{by_test, eq-is, not-both}
+use Rattle.pipe_schema.specs.Rows.{Row}
+use Rattle.pipe_schema.proofs.Weights.{SameBag, SameBag-sym, SameBag-trans, SameBag-from_rows}
+use Rattle.pipe_driver.specs.Meaning.{Meaning, OutOf}
+use Rattle.pipe_driver.specs.Ways.{one, occurs}
+use Rattle.pipe_driver.proofs.Tests.{by_test, eq-is, not-both}
 use Rattle.pipe_driver.specs.State.{World}
 use Rattle.pipe_driver.specs.Within.{GaveOwn, GivesOfProbed, GivesNoMore}
 use Rattle.pipe_chain.specs.Flow.{Work, Acts}

@@ -1,16 +1,16 @@
 -- Slots and stages fit a world that more rows came to.
 use Rattle.std.proofs.Common.{◌≡◌, ◌≢◌, ℕ, zero, suc, ◌+◌, ◌<◌, ◌≤◌, Bool, true, false, cond, ◌==◌, List, [], ◌∷◌, ◌++◌, length, refl, sym, ap, subst, ◌∙◌, arith, append_assoc}
 use Rattle.std.specs.List.{flat_map}
-use Rattle.pipe_frame.specs.Rows.{Row, Same}
-use Rattle.pipe_frame.specs.Weights.{total}
-use Rattle.pipe_frame.proofs.Weights.{SameBag, SameBag-refl, SameBag-sym, SameBag-trans, SameBag-append, SameBag-from_equal, SameBag-from_rows, Same-from_bag, total-append}
+use Rattle.pipe_schema.specs.Rows.{Row, Same}
+use Rattle.pipe_schema.specs.Weights.{total}
+use Rattle.pipe_schema.proofs.Weights.{SameBag, SameBag-refl, SameBag-sym, SameBag-trans, SameBag-append, SameBag-from_equal, SameBag-from_rows, Same-from_bag, total-append}
 use Rattle.pipe_chain.specs.Keys.{SameKeys}
 use Rattle.pipe_chain.specs.Flow.{Work, Acts, Grown, AllGrown}
 use Rattle.pipe_chain.specs.Unmarking.{no_key, no_row}
 use Rattle.pipe_chain.proofs.Weighing.{keys-refl, keys-sym, keys-trans, keys-by, keys-weigh, asks-same, gains-same}
-use Rattle.pipe_legs.specs.Meaning.{Meaning, Place, OutOf}
-use Rattle.pipe_legs.specs.Ways.{one, occurs}
-use Rattle.pipe_legs.proofs.Tests.{by_test, eq-is, eq-true, eq-false, eq-not, not-both}
+use Rattle.pipe_driver.specs.Meaning.{Meaning, Place, OutOf}
+use Rattle.pipe_driver.specs.Ways.{one, occurs}
+use Rattle.pipe_driver.proofs.Tests.{by_test, eq-is, eq-true, eq-false, eq-not, not-both}
 use Rattle.pipe_driver.specs.State.{World, Waits, Has, AreAlike}
 use Rattle.pipe_driver.specs.State as state
 use Rattle.pipe_expr.specs.Joins.{Join}
@@ -28,12 +28,12 @@ use Rattle.pipe_slots.specs.declared.probe_kind.ProbeKind.TheVariants.{Joins, Cr
 use Rattle.pipe_passage.specs.LaneSeats.{SameActs, AllSameActs}
 use Rattle.pipe_slots.specs.declared.slot.Slot.{Slot}
 use Rattle.pipe_slots.specs.declared.slot.Slot.TheVariants as slot
-use Rattle.pipe_along.specs.Along.{MakesOf, AllMakeOf, more_of, AllMarked}
+use Rattle.pipe_driver.specs.Along.{MakesOf, AllMakeOf, more_of, AllMarked}
 use Rattle.pipe_engine.specs.Engine.{IsBare, IsTabled, SlotFits, IsRowStage, IsJoinStage, StageFits, StagesFit, join_work, rows_in}
 use Rattle.pipe_engine.specs.Passed.{with_more}
 use Rattle.pipe_engine.specs.Stands.{Settings}
-use Rattle.pipe_along.proofs.Flowing.{more_here, first_apart}
-use Rattle.pipe_along.proofs.Shares.{share_alike}
+use Rattle.pipe_driver.proofs.Flowing.{more_here, first_apart}
+use Rattle.pipe_driver.proofs.Shares.{share_alike}
 
 -- ---- bags
 

@@ -2,11 +2,11 @@
 use Rattle.std.proofs.Common.{◌≡◌, ℕ, ◌+◌, ◌<◌, ◌==◌, cond, List, [], ◌∷◌, ◌++◌, map, refl, sym, ap, subst, ◌∙◌, arith, inl, inr, Option, Some}
 use Rattle.std.specs.Prelude.{Result, Ok, Err, IfErr}
 use Rattle.pipe_branches.specs.declared.branch.SinkAt.{SinkAt}
-use Rattle.pipe_legs.specs.Legs as plan
-use Rattle.pipe_legs.specs.Legs.{Way}
-use Rattle.pipe_legs.specs.Meaning.{Meaning, meaning_of}
-use Rattle.pipe_legs.specs.Ways.{IsSound}
-use Rattle.pipe_legs.proofs.Tests.{eq-false, eq-true}
+use Rattle.pipe_driver.specs.Legs as plan
+use Rattle.pipe_driver.specs.Legs.{Way}
+use Rattle.pipe_driver.specs.Meaning.{Meaning, meaning_of}
+use Rattle.pipe_driver.specs.Ways.{IsSound}
+use Rattle.pipe_driver.proofs.Tests.{eq-false, eq-true}
 use Rattle.pipe_plan.specs.Faults.{IsWellFormed}
 use Rattle.pipe_plan.specs.Plan.{Plan}
 use Rattle.pipe_driver.specs.declared.error.RunError.{RunError}

@@ -11,20 +11,20 @@ use Rattle.pipe_source.specs.Supplies.{left_of}
 use Rattle.pipe_source.specs.declared.phys_source.PhysSource.{PhysSource}
 use Rattle.pipe_branches.specs.declared.branch.SinkAt.{SinkAt}
 use Rattle.pipe_branches.specs.declared.branch.SinkAt.TheVariants as at
-use Rattle.pipe_legs.specs.Meaning.{Meaning}
-use Rattle.pipe_legs.specs.Ways.{IsSinkOf, IsSound}
+use Rattle.pipe_driver.specs.Meaning.{Meaning}
+use Rattle.pipe_driver.specs.Ways.{IsSinkOf, IsSound}
 use Rattle.pipe_driver.specs.Tables.{number_at}
 use Rattle.pipe_driver.specs.Runner.{Finalizes}
 use Rattle.pipe_driver.specs.Lines.{Task}
 use Rattle.pipe_driver.specs.Runs.{node_of, Unparks, Feeds, sink_of}
 use Rattle.pipe_driver.specs.declared.error.RunError.{RunError}
 use Rattle.pipe_driver.proofs.Drives.{run_with}
-use Rattle.pipe_along.proofs.Flowing.{same_many}
-use Rattle.pipe_batches.specs.Rounds.{left_rows}
-use Rattle.pipe_takings.specs.Rounds.{AreSupplied}
-use Rattle.pipe_sinks.specs.declared.phys_sink.PhysSink.{PhysSink}
-use Rattle.pipe_sinks.specs.declared.phys_sink.PhysSink.TheVariants.{Ordered, Sort, Build, Cross}
-use Rattle.pipe_recording.specs.Written.{closing}
+use Rattle.pipe_driver.proofs.Flowing.{same_many}
+use Rattle.pipe_run.specs.Rounds.{left_rows}
+use Rattle.pipe_run.specs.NotedRounds.{AreSupplied}
+use Rattle.pipe_slots.specs.declared.phys_sink.PhysSink.{PhysSink}
+use Rattle.pipe_slots.specs.declared.phys_sink.PhysSink.TheVariants.{Ordered, Sort, Build, Cross}
+use Rattle.pipe_driver.specs.Written.{closing}
 use Rattle.pipe_engine.specs.Drives.{Line, LineRun}
 use Rattle.pipe_engine.specs.Engine.{Brings, engine_words}
 use Rattle.pipe_engine.specs.Finished.{MayFinishSink, EndedAs}

@@ -2,10 +2,10 @@
 use Rattle.std.proofs.Common.{◌≡◌, ℕ, zero, suc, ◌+◌, ◌*◌, ◌<◌, ◌≤◌, List, [], ◌∷◌, ◌++◌, length, take, drop, Option, Some, None, true, get_or, refl, sym, ap, subst, ◌∙◌, arith, length-append}
 use Rattle.std.specs.List.{AllByRecursion}
 use Rattle.pipe_frame.specs.Frame.{Table}
-use Rattle.pipe_frame.specs.Rows.{Row, Same}
-use Rattle.pipe_frame.specs.Weights.{total}
-use Rattle.pipe_frame.specs.declared.field.Field.{Field}
-use Rattle.pipe_frame.proofs.Weights.{SameBag, SameBag-append, SameBag-refl, SameBag-from_equal, SameBag-from_rows, SameBag-sym, SameBag-trans, Same-from_bag, total-append}
+use Rattle.pipe_schema.specs.Rows.{Row, Same}
+use Rattle.pipe_schema.specs.Weights.{total}
+use Rattle.pipe_schema.specs.declared.field.Field.{Field}
+use Rattle.pipe_schema.proofs.Weights.{SameBag, SameBag-append, SameBag-refl, SameBag-from_equal, SameBag-from_rows, SameBag-sym, SameBag-trans, Same-from_bag, total-append}
 use Rattle.std.specs.Global.{Vec}
 use Rattle.pipe_ops.specs.Batches.{Answers, IsAnswer, Left, batch, cut}
 use Rattle.pipe_ops.specs.declared.context.PExecutionContext.{PExecutionContext}
@@ -15,14 +15,14 @@ use Rattle.pipe_ops.specs.declared.source.Morsel.{Morsel}
 use Rattle.pipe_source.specs.Supplies.{left_of}
 use Rattle.pipe_source.specs.declared.phys_source.PhysSource.{PhysSource}
 use Rattle.pipe_source.specs.declared.phys_source.PhysSource.TheVariants.{Frame, Union, ReProject}
-use Rattle.pipe_batches.specs.Rounds.{left_rows}
+use Rattle.pipe_run.specs.Rounds.{left_rows}
 use Rattle.pipe_chain.proofs.Weighing.{rows-length, total-length}
 use Rattle.pipe_chain.specs.Chain.{works_of}
 use Rattle.pipe_chain.specs.Flow.{Work, Acts, Flows}
 use Rattle.pipe_chain.specs.declared.operator.Operator.{Ghosts as OperatorWords}
 use Rattle.pipe_branches.specs.declared.branch.SinkAt.{SinkAt}
 use Rattle.pipe_branches.specs.declared.branch.SinkAt.TheVariants as at
-use Rattle.pipe_legs.specs.Meaning.{Meaning}
+use Rattle.pipe_driver.specs.Meaning.{Meaning}
 use Rattle.pipe_run.specs.declared.stage.Basin.{Basin}
 use Rattle.pipe_run.specs.declared.stage.Stage.{Stage}
 use Rattle.pipe_slots.specs.declared.phys_operator.PhysOperator.{PhysOperator}
@@ -31,9 +31,9 @@ use Rattle.pipe_slots.specs.declared.slot.Slot.TheVariants as slot
 use Rattle.pipe_outer.specs.declared.marks.Marks.{Marks}
 use Rattle.pipe_outer.specs.declared.marks.Marks.TheVariants as marks
 use Rattle.pipe_passage.specs.LaneSeats.{HaveSeats, HasSeats}
-use Rattle.pipe_sinks.specs.Sinks.{SinkSetting, OrderedBy, SortedBy, BuiltBy, CrossedBy, setting_in, sink_rows, sink_schema}
-use Rattle.pipe_sinks.specs.declared.phys_sink.PhysSink.{PhysSink}
-use Rattle.pipe_sinks.specs.declared.phys_sink.PhysSink.TheVariants as phys
+use Rattle.pipe_slots.specs.Sinks.{SinkSetting, OrderedBy, SortedBy, BuiltBy, CrossedBy, setting_in, sink_rows, sink_schema}
+use Rattle.pipe_slots.specs.declared.phys_sink.PhysSink.{PhysSink}
+use Rattle.pipe_slots.specs.declared.phys_sink.PhysSink.TheVariants as phys
 use Rattle.pipe_engine.specs.Engine.{Brings, HasSchemaLeft, IsFrameOf, IsFresh, IsKeptAt, IsOfRoot, IsWhole, IsWholeAt, fed_or_new, fed_rows, rows_of_sink, whole_rows}
 use Rattle.pipe_engine.specs.Stands.{AreStagesOf, BeginsInOrder, EndsAt, IsInOrder, IsSinkOf, KeepsOrder, Settings}
 use Rattle.pipe_engine.specs.Finished.{HasBoth}

@@ -1,7 +1,7 @@
 -- What a stop check was asked, and what it said, by how a call ended.
 use Rattle.std.specs.Prelude.{◌≡◌, ◌+◌, ◌≤◌, ◌⊎◌, ℕ, true, Result, Ok, Err}
-use Rattle.pipe_frame.specs.Counts.{Counts, last_count}
-use Rattle.pipe_frame.specs.declared.stop.StopCheck.{Ghosts as StopWords}
+use Rattle.pipe_schema.specs.Counts.{Counts, last_count}
+use Rattle.pipe_schema.specs.declared.stop.StopCheck.{Ghosts as StopWords}
 use Rattle.pipe_run.specs.declared.halt.Halt.{Halt}
 use Rattle.pipe_run.specs.declared.halt.Halt.TheVariants as halt
 use Rattle.pipe_run.specs.declared.stage.Refusal.{Refusal}

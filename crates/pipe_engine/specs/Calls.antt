@@ -2,20 +2,20 @@
 use Rattle.std.specs.Prelude.{ℕ, List, Option}
 use Rattle.std.specs.List.{AllByRecursion}
 use Rattle.pipe_frame.specs.Frame.{Table}
-use Rattle.pipe_frame.specs.declared.field.Field.{Field}
+use Rattle.pipe_schema.specs.declared.field.Field.{Field}
 use Rattle.pipe_words.specs.Flags.{SeatMarks}
 use Rattle.pipe_branches.specs.declared.branch.SinkAt.{SinkAt}
-use Rattle.pipe_legs.specs.Meaning.{Meaning}
+use Rattle.pipe_driver.specs.Meaning.{Meaning}
 use Rattle.pipe_source.specs.Supplies.{left_of}
 use Rattle.pipe_source.specs.declared.phys_source.PhysSource.{PhysSource}
-use Rattle.pipe_batches.specs.Rounds.{IsLeftOf}
+use Rattle.pipe_run.specs.Rounds.{IsLeftOf}
 use Rattle.pipe_driver.specs.Runner.{MayRunLeg, MayLeave, MaySettle, MayEnd, MayFinish}
 use Rattle.pipe_run.specs.declared.lane.Lane.{Lane}
 use Rattle.pipe_slots.specs.declared.phys_operator.PhysOperator.{PhysOperator}
 use Rattle.pipe_slots.specs.declared.slot.Slot.{Slot}
 use Rattle.pipe_passage.specs.Passages.{IsPassing}
-use Rattle.pipe_sinks.specs.SinkWords.{sink_words}
-use Rattle.pipe_sinks.specs.declared.phys_sink.PhysSink.{PhysSink}
+use Rattle.pipe_slots.specs.SinkWords.{sink_words}
+use Rattle.pipe_slots.specs.declared.phys_sink.PhysSink.{PhysSink}
 use Rattle.pipe_table.specs.Kept.{BuildRows}
 use Rattle.pipe_probe.specs.Cross.{CrossRows}
 use Rattle.pipe_engine.specs.Engine.{engine_words}

@@ -1,8 +1,8 @@
 -- Rows that went through the lanes of a leg, and what its stages read.
 use Rattle.std.specs.Prelude.{◌≡◌, ℕ, List, [], ◌∷◌, ◌++◌, Bool, true, false, All, map, length, if◌then◌else◌}
 use Rattle.std.specs.List.{flat_map}
-use Rattle.pipe_frame.specs.Rows.{Row, Same}
-use Rattle.pipe_frame.specs.declared.field.Field.{Field}
+use Rattle.pipe_schema.specs.Rows.{Row, Same}
+use Rattle.pipe_schema.specs.declared.field.Field.{Field}
 use Rattle.pipe_words.specs.Flags.{SeatMarks}
 use Rattle.pipe_chain.specs.Counts.{plus, counts_of}
 use Rattle.pipe_chain.specs.Flow.{Acts, Flows, AllGrown}
@@ -15,10 +15,10 @@ use Rattle.pipe_slots.specs.declared.phys_operator.PhysOperator.{PhysOperator}
 use Rattle.pipe_slots.specs.declared.slot.Slot.{Slot}
 use Rattle.pipe_slots.specs.declared.slot.Slot.TheVariants.{Empty}
 use Rattle.pipe_slots.specs.declared.slots.Slots.{Slots}
-use Rattle.pipe_sinks.specs.Sinks.{SinkSetting, setting_in, sink_rows}
-use Rattle.pipe_sinks.specs.SinkWords.{sink_words}
+use Rattle.pipe_slots.specs.Sinks.{SinkSetting, setting_in, sink_rows}
+use Rattle.pipe_slots.specs.SinkWords.{sink_words}
 use Rattle.pipe_engine.specs.Stands.{Settings}
-use Rattle.pipe_sinks.specs.declared.phys_sink.PhysSink.{PhysSink}
+use Rattle.pipe_slots.specs.declared.phys_sink.PhysSink.{PhysSink}
 
 -- some rows flowed through the stages of all lanes
 pub record Carried {H : Type 0} (hash_of : H → List ℕ → ℕ) (limit : ℕ) (from : List Field)

@@ -1,10 +1,10 @@
 -- What the driver's steps do, for each plan of which the run may be.
 use Rattle.std.specs.Prelude.{◌≡◌, ℕ, ◌<◌, ◌≤◌, List, [], Option, Some, None, true, length}
 use Rattle.pipe_frame.specs.Frame.{Table}
-use Rattle.pipe_frame.specs.Rows.{Same}
+use Rattle.pipe_schema.specs.Rows.{Same}
 use Rattle.pipe_plan.specs.PlanRows.{rows_of}
 use Rattle.pipe_branches.specs.declared.branch.SinkAt.{SinkAt}
-use Rattle.pipe_legs.specs.Ways.{IsSinkOf, IsSound}
+use Rattle.pipe_driver.specs.Ways.{IsSinkOf, IsSound}
 use Rattle.pipe_driver.specs.declared.pipe_line.PipeLine.{PipeLine}
 use Rattle.pipe_driver.specs.declared.run.Run.{Run}
 use Rattle.pipe_driver.specs.declared.run.Fed.{Fed}

@@ -1,11 +1,10 @@
 -- What the engine has, where a plan means this and these rows came to its places.
 use Rattle.std.specs.Prelude.{◌≡◌, ℕ, suc, ◌+◌, ◌^◌, ◌<◌, ◌≤◌, List, [], ◌∷◌, ◌++◌, true, false, ◌==◌, if◌then◌else◌, Option, Some, None, All, length, map, slice_index_or}
 use Rattle.std.specs.List.{flat_map, AllByRecursion}
-use Rattle.std.specs.declared.sync.Arc.{Arc}
 use Rattle.pipe_frame.specs.Frame.{Table}
-use Rattle.pipe_frame.specs.Rows.{Row, Same}
-use Rattle.pipe_frame.specs.declared.field.Field.{Field}
-use Rattle.pipe_frame.proofs.Weights.{SameBag}
+use Rattle.pipe_schema.specs.Rows.{Row, Same}
+use Rattle.pipe_schema.specs.declared.field.Field.{Field}
+use Rattle.pipe_schema.proofs.Weights.{SameBag}
 use Rattle.pipe_ops.specs.Batches.{Left}
 use Rattle.pipe_ops.specs.declared.context.PExecutionContext.{PExecutionContext}
 use Rattle.pipe_source.specs.Supplies.{left_of}
@@ -13,10 +12,10 @@ use Rattle.pipe_source.specs.declared.phys_source.PhysSource.{PhysSource}
 use Rattle.pipe_source.specs.declared.phys_source.PhysSource.TheVariants as sources
 use Rattle.pipe_branches.specs.declared.branch.SinkAt.{SinkAt}
 use Rattle.pipe_branches.specs.declared.branch.SinkAt.TheVariants as at
-use Rattle.pipe_legs.specs.Meaning.{Meaning, OutOf, Into}
-use Rattle.pipe_legs.specs.Legs.{sink_node}
-use Rattle.pipe_legs.specs.Ways as ways
-use Rattle.pipe_legs.specs.Ways.{occurs, IsSound}
+use Rattle.pipe_driver.specs.Meaning.{Meaning, OutOf, Into}
+use Rattle.pipe_driver.specs.Legs.{sink_node}
+use Rattle.pipe_driver.specs.Ways as ways
+use Rattle.pipe_driver.specs.Ways.{occurs, IsSound}
 use Rattle.pipe_driver.specs.State.{World, Waits, Has}
 use Rattle.pipe_driver.specs.State as state
 use Rattle.pipe_driver.specs.Tables.{number_at}
@@ -33,22 +32,22 @@ use Rattle.pipe_run.specs.Dealt.{works_in, nodes_in, counts_in}
 use Rattle.pipe_run.specs.Lanes.{IsSet, held_in}
 use Rattle.pipe_slots.specs.Kinds.{kind_of}
 use Rattle.pipe_slots.specs.JoinWords.{suits_join, work_join}
-use Rattle.pipe_batches.specs.Rounds.{left_rows}
+use Rattle.pipe_run.specs.Rounds.{left_rows}
 use Rattle.pipe_passage.specs.LaneSeats.{sum_of, IsRest, HasSeats}
 use Rattle.pipe_slots.specs.SlotTables.{slot_at, seats_at}
 use Rattle.pipe_passage.specs.Passages.{phys_words, acts_now, IsPassing, GivesSchemas}
 use Rattle.pipe_slots.specs.declared.slot.Slot.{Slot}
 use Rattle.pipe_slots.specs.declared.slot.Slot.TheVariants as slot
 use Rattle.pipe_passage.specs.declared.passage.Passage.{Passage}
-use Rattle.pipe_along.specs.Along.{counted_at}
-use Rattle.pipe_sinks.specs.Sinks.{OrderedBy, setting_in, sink_rows}
-use Rattle.pipe_sinks.specs.SinkWords.{sink_words}
+use Rattle.pipe_driver.specs.Along.{counted_at}
+use Rattle.pipe_slots.specs.Sinks.{OrderedBy, setting_in, sink_rows}
+use Rattle.pipe_slots.specs.SinkWords.{sink_words}
 use Rattle.pipe_engine.specs.Stands.{Settings, IsInOrder, IsJoinOf, EndsAt, StandsFor}
 use Rattle.pipe_engine.specs.declared.engine.Engine.{Engine}
 use Rattle.pipe_engine.specs.declared.engine.FedSink.{FedSink}
 use Rattle.pipe_engine.specs.declared.engine.OpenLeg.{OpenLeg}
 use Rattle.pipe_engine.specs.declared.part.Part.{Part}
-use Rattle.pipe_sinks.specs.declared.phys_sink.PhysSink.{PhysSink}
+use Rattle.pipe_slots.specs.declared.phys_sink.PhysSink.{PhysSink}
 
 -- ---- sources
 
@@ -291,20 +290,12 @@ pub record IsAdded (node rows limit : ℕ) (old new : List ℕ) : Type 0 where
   pub long : length new ≡ length old
   pub within : (k : ℕ) → number_at new k ≤ limit
 
--- the settings of a join are there
-abbrev pub HasSpec : {A : Type 0} → JoinSpec → Option (Arc JoinSpec A) → Type 0
-HasSpec spec None = ⊥
-HasSpec spec (Some arc) = arc.value ≡ spec
-
 pub record Fits {H : Type 0} (hash_of : H → List ℕ → ℕ) (engine : Engine H) (x : Settings H)
     (m : Meaning) (w : World) : Type 0 where
   pub sound : IsSound m
-  pub hasher : engine.hasher ≡ x.hasher
   pub parts : engine.parts ≡ x.parts
   pub some : 0 < x.parts
   pub few : x.parts < 4294967295
-  pub specs : (j : ℕ) → m.is_join j ≡ true →
-      HasSpec (x.spec_at j) (slice_index_or engine.specs.items j None)
   pub ordered : engine.nodes ≡ m.ordered
   pub nodes : length engine.slots.slots.items ≡ m.ordered
   pub seated : length engine.slots.seats.items ≡ m.ordered
@@ -333,12 +324,9 @@ pub record Fits {H : Type 0} (hash_of : H → List ℕ → ℕ) (engine : Engine
 -- the engine is for this plan, with its settings
 pub record MayStart {H : Type 0} (engine : Engine H) (x : Settings H) (m : Meaning) : Type 0 where
   pub sound : IsSound m
-  pub hasher : engine.hasher ≡ x.hasher
   pub parts : engine.parts ≡ x.parts
   pub some : 0 < x.parts
   pub few : x.parts < 4294967295
-  pub specs : (j : ℕ) → m.is_join j ≡ true →
-      HasSpec (x.spec_at j) (slice_index_or engine.specs.items j None)
   pub ordered : engine.nodes ≡ m.ordered
 
 -- ---- what the driver knows of it

@@ -7,19 +7,19 @@ use Rattle.pipe_ops.specs.Batches.{Left}
 use Rattle.pipe_ops.specs.declared.sink.FinalizedSink.{FinalizedSink}
 use Rattle.pipe_ops.specs.declared.sink.FinalizedSink.TheVariants.{Finished, Operator, Source}
 use Rattle.pipe_ops.specs.declared.source.Morsel.{Morsel}
-use Rattle.pipe_takings.specs.declared.note.Note.{Note}
-use Rattle.pipe_takings.specs.Rounds.{Gives, AreNotedBehind}
-use Rattle.pipe_batches.specs.Rounds.{left_rows}
+use Rattle.pipe_run.specs.declared.note.Note.{Note}
+use Rattle.pipe_run.specs.NotedRounds.{Gives, AreNotedBehind}
+use Rattle.pipe_run.specs.Rounds.{left_rows}
 use Rattle.pipe_branches.specs.declared.branch.SinkAt.{SinkAt}
-use Rattle.pipe_legs.specs.Meaning.{Meaning, meaning_of}
+use Rattle.pipe_driver.specs.Meaning.{Meaning, meaning_of}
 use Rattle.pipe_driver.specs.State.{World}
 use Rattle.pipe_driver.specs.Runner.{AreBuilt}
 use Rattle.pipe_driver.specs.Plans.{Ask, StandFor}
 use Rattle.pipe_driver.specs.declared.run.Next.{Next}
 use Rattle.pipe_events.specs.PlanStages.{Setting, stages_of}
-use Rattle.pipe_recording.specs.Boards.{board_of, start_of, held_at}
-use Rattle.pipe_recording.specs.Laws.{IsWhole}
-use Rattle.pipe_recording.specs.Written.{IsLegOf, IsEndOf, closing}
+use Rattle.pipe_driver.specs.Boards.{board_of, start_of, held_at}
+use Rattle.pipe_driver.specs.JournalLaws.{IsWhole}
+use Rattle.pipe_driver.specs.Written.{IsLegOf, IsEndOf, closing}
 use Rattle.pipe_source.specs.declared.phys_source.PhysSource.{PhysSource}
 use Rattle.pipe_engine.specs.Drives.{Line, LineRun}
 use Rattle.pipe_engine.specs.Engine.{engine_words, Fits, IsBefore}

@@ -14,6 +14,8 @@ pub mod Finished
 pub mod Taken
 -- rows that went through lanes
 pub mod Carried
+-- what is lent to a run before its first branch
+pub mod Lent
 -- what lets the engine's calls be made
 pub mod Calls
 -- what the driver's steps do

@@ -6,19 +6,19 @@ use Rattle.pipe_source.specs.Supplies.{left_of}
 use Rattle.pipe_source.specs.declared.phys_source.PhysSource.{PhysSource}
 use Rattle.pipe_events.specs.Stages.{Stages, JoinStage, Joined, flushes, flushes_by}
 use Rattle.pipe_events.specs.Worlds.{Event}
-use Rattle.pipe_journal.specs.Runs.{supply}
-use Rattle.pipe_takings.specs.Rounds.{AreSupplied}
+use Rattle.pipe_laws.specs.Runs.{supply}
+use Rattle.pipe_run.specs.NotedRounds.{AreSupplied}
 use Rattle.pipe_branches.specs.declared.branch.SinkAt.{SinkAt}
-use Rattle.pipe_legs.specs.Meaning.{Meaning}
-use Rattle.pipe_legs.specs.Legs.{Way, sink_node}
+use Rattle.pipe_driver.specs.Meaning.{Meaning}
+use Rattle.pipe_driver.specs.Legs.{Way, sink_node}
 use Rattle.pipe_driver.specs.declared.pipe_line.Leg.{Leg}
 use Rattle.pipe_driver.specs.declared.run.Next.{Next}
 use Rattle.pipe_driver.specs.declared.run.Next.TheVariants.{GoOn, Stay, Answer}
 use Rattle.pipe_driver.specs.State.{nothing, is_sink}
 use Rattle.pipe_driver.specs.Lines.{Task, way_as, ways_as, counts_as}
 use Rattle.pipe_driver.specs.Runs.{parked_ways, sink_of}
-use Rattle.pipe_recording.specs.Boards.{Board, IsBoard, held_at}
-use Rattle.pipe_recording.specs.Recorded.{IsNoted, IsSorted}
+use Rattle.pipe_driver.specs.Boards.{Board, IsBoard, held_at}
+use Rattle.pipe_driver.specs.Recorded.{IsNoted, IsSorted}
 use Rattle.pipe_engine.specs.Drives.{Line, LineRun}
 use Rattle.pipe_engine.specs.Stands.{Settings}
 use Rattle.pipe_engine.specs.declared.part.Part.{Part}

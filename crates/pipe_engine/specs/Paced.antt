@@ -1,11 +1,11 @@
 -- How many rows are taken to a question of the stop check.
 use Rattle.std.specs.Prelude.{ℕ, ◌+◌, ◌*◌, ◌≤◌, List, [], ◌∷◌, length, Option, Some, None}
-use Rattle.pipe_frame.specs.Counts.{Counts}
+use Rattle.pipe_schema.specs.Counts.{Counts}
 use Rattle.pipe_ops.specs.declared.context.PExecutionContext.{PExecutionContext}
-use Rattle.pipe_batches.specs.Rounds.{left_rows}
+use Rattle.pipe_run.specs.Rounds.{left_rows}
 use Rattle.pipe_source.specs.Supplies.{left_of}
 use Rattle.pipe_source.specs.declared.phys_source.PhysSource.{PhysSource}
-use Rattle.pipe_takings.specs.Paced.{KeepsPace}
+use Rattle.pipe_run.specs.Paced.{KeepsPace}
 use Rattle.pipe_engine.specs.Drives.{Line}
 use Rattle.pipe_engine.specs.declared.engine.Engine.{Engine}
 

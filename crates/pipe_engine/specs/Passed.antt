@@ -1,7 +1,7 @@
 -- The world after rows came to its places.
 use Rattle.std.specs.Prelude.{ℕ, List, ◌++◌}
-use Rattle.pipe_frame.specs.Rows.{Row}
-use Rattle.pipe_legs.specs.Meaning.{Place}
+use Rattle.pipe_schema.specs.Rows.{Row}
+use Rattle.pipe_driver.specs.Meaning.{Place}
 use Rattle.pipe_driver.specs.State.{World}
 
 -- some rows more came to each place, and were given for keys

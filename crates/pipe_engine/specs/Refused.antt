@@ -1,7 +1,7 @@
 -- What is known where a run ends since a node has too many rows.
 use Rattle.std.specs.Prelude.{◌≡◌, ℕ, ◌+◌, ◌<◌, List, length}
-use Rattle.pipe_frame.specs.Rows.{Row}
-use Rattle.pipe_frame.specs.declared.field.Field.{Field}
+use Rattle.pipe_schema.specs.Rows.{Row}
+use Rattle.pipe_schema.specs.declared.field.Field.{Field}
 use Rattle.pipe_words.specs.Flags.{SeatMarks}
 use Rattle.pipe_chain.specs.Counts.{plus, Over}
 use Rattle.pipe_chain.specs.Flow.{Acts, AllGrown}
@@ -20,7 +20,7 @@ use Rattle.pipe_passage.specs.LaneSeats.{sum_of}
 use Rattle.pipe_passage.specs.Passages.{phys_words, acts_now}
 use Rattle.pipe_passage.specs.Stopped.{IsOnce, AllOnce}
 use Rattle.pipe_passage.specs.declared.passage.Passage.{Passage}
-use Rattle.pipe_sinks.specs.declared.phys_sink.PhysSink.{PhysSink}
+use Rattle.pipe_slots.specs.declared.phys_sink.PhysSink.{PhysSink}
 use Rattle.pipe_engine.specs.Known.{Known}
 
 -- some rows went a part of their way through the stages of all lanes, and a node was given more than

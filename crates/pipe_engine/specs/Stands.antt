@@ -1,13 +1,13 @@
 -- When the operators and the sink of a leg are those of the plan.
 use Rattle.std.specs.Prelude.{◌≡◌, ℕ, List, [], ◌∷◌, true, false, Option, Some, None}
-use Rattle.pipe_frame.specs.Rows.{Row, Same}
-use Rattle.pipe_frame.specs.declared.field.Field.{Field}
+use Rattle.pipe_schema.specs.Rows.{Row, Same}
+use Rattle.pipe_schema.specs.declared.field.Field.{Field}
 use Rattle.pipe_expr.specs.Shares.{probe_share, built_share}
 use Rattle.pipe_expr.specs.declared.join_words.JoinType.TheVariants as how
 use Rattle.pipe_branches.specs.declared.branch.SinkAt.{SinkAt}
 use Rattle.pipe_branches.specs.declared.branch.SinkAt.TheVariants as at
-use Rattle.pipe_legs.specs.Meaning.{Meaning}
-use Rattle.pipe_legs.specs.Legs.{Leg, sink_node}
+use Rattle.pipe_driver.specs.Meaning.{Meaning}
+use Rattle.pipe_driver.specs.Legs.{Leg, sink_node}
 use Rattle.pipe_table.specs.Spec.{IsSpec, settings_of, built_schema}
 use Rattle.pipe_table.specs.declared.spec.JoinSpec.{JoinSpec}
 use Rattle.pipe_run.specs.declared.stage.Basin.{Basin}
@@ -20,9 +20,9 @@ use Rattle.pipe_slots.specs.declared.phys_operator.PhysOperator.{PhysOperator}
 use Rattle.pipe_slots.specs.declared.phys_operator.PhysOperator.TheVariants as op
 use Rattle.pipe_slots.specs.declared.slot.Slot.{Slot}
 use Rattle.pipe_chain.specs.Unmarking.{no_key, no_row}
-use Rattle.pipe_sinks.specs.Sinks.{SinkSetting, OrderedBy, SortedBy, BuiltBy, CrossedBy, may_end, setting_in, sink_rows, sink_schema}
+use Rattle.pipe_slots.specs.Sinks.{SinkSetting, OrderedBy, SortedBy, BuiltBy, CrossedBy, may_end, setting_in, sink_rows, sink_schema}
 use Rattle.pipe_engine.specs.declared.part.Part.{Part}
-use Rattle.pipe_sinks.specs.declared.phys_sink.PhysSink.{PhysSink}
+use Rattle.pipe_slots.specs.declared.phys_sink.PhysSink.{PhysSink}
 
 -- what is known of a plan besides what it means: the settings of its joins and its sinks, the schemas
 -- of its nodes, how the tables of its joins are made, and the rows of its root, where that is a sort

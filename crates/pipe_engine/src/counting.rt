@@ -5,7 +5,7 @@ ghost use Rattle.pipe_driver.specs.Tables.{number_at};
 ghost use Rattle.pipe_run.specs.Dealt.{nodes_in, counts_in};
 ghost use Rattle.pipe_run.specs.Lanes.{lane_nodes};
 ghost use Rattle.pipe_passage.specs.Passages.{IsUnderWay};
-ghost use Rattle.pipe_sinks.specs.SinkWords.{sink_words};
+ghost use Rattle.pipe_slots.specs.SinkWords.{sink_words};
 ghost use Rattle.pipe_engine.specs.Asked.{stops};
 ghost use Rattle.pipe_engine.specs.Carried.{first_node};
 ghost use Rattle.pipe_engine.specs.Engine.{IsAdded};
@@ -16,7 +16,7 @@ use pipe_ops::PExecutionContext;
 use pipe_passage::Passage;
 use pipe_rows::KeyHasher;
 use pipe_run::{Lane, rows_given};
-use pipe_sinks::PhysSink;
+use pipe_slots::PhysSink;
 use std::alloc::{AllocError, Global};
 
 /// No row is counted at any of so many nodes.

@@ -8,11 +8,8 @@ use pipe_frame::DataFrame;
 use pipe_index::HashesKeys;
 use pipe_ops::PExecutionContext;
 use pipe_passage::Passage;
-use pipe_sinks::PhysSink;
-use pipe_slots::Slots;
+use pipe_slots::{PhysSink, Slots};
 use pipe_source::PhysSource;
-use pipe_table::JoinSpec;
-use std::sync::Arc;
 
 /// What is around a run: how threads are made, and the gate that each worker goes through.
 pub struct Tools<'a, R, G> {
@@ -45,11 +42,8 @@ pub struct OpenLeg<H: HashesKeys> {
 #[derive(Drop)]
 pub struct Engine<H: HashesKeys> {
     pub context: PExecutionContext,
-    pub hasher: H,
     /// How many partitions each table has.
     pub parts: u32,
-    /// The settings of each join, by its node.
-    pub specs: Vec<Option<Arc<JoinSpec>>>,
     /// How many nodes the plan has.
     pub nodes: u32,
     pub slots: Slots<H>,

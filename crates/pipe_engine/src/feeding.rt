@@ -5,7 +5,7 @@ ghost use Rattle.pipe_engine.specs.Engine.{fed_or_new, sink_at};
 
 use crate::engine::FedSink;
 use pipe_index::HashesKeys;
-use pipe_sinks::PhysSink;
+use pipe_slots::PhysSink;
 use std::mem::replace;
 
 /// The place of what a leg fed is emptied.

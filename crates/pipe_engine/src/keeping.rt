@@ -1,12 +1,12 @@
 //! The frame of a leg that goes through no operator into the root's sink.
 
 ghost use Rattle.std.specs.Prelude.{◌≡◌, ◌++◌, ◌+◌, ◌≤◌, All, Some, length, IfOk, IfErr, OnOk};
-ghost use Rattle.pipe_frame.specs.Rows.{Same};
+ghost use Rattle.pipe_schema.specs.Rows.{Same};
 ghost use Rattle.pipe_passage.specs.Passages.{IsUnderWay};
 ghost use Rattle.pipe_run.specs.Dealt.{nodes_in};
 ghost use Rattle.pipe_run.specs.Lanes.{IsSet};
-ghost use Rattle.pipe_sinks.specs.SinkWords.{sink_words};
-ghost use Rattle.pipe_sinks.specs.Sinks.{setting_in, sink_rows, sink_schema};
+ghost use Rattle.pipe_slots.specs.SinkWords.{sink_words};
+ghost use Rattle.pipe_slots.specs.Sinks.{setting_in, sink_rows, sink_schema};
 ghost use Rattle.pipe_engine.specs.Asked.{WasAsked, stops};
 ghost use Rattle.pipe_engine.specs.Engine.{fed_rows, rows_of_leg, whole_rows};
 ghost use Rattle.pipe_engine.specs.Refused.{IsNotMany};
@@ -16,14 +16,14 @@ use crate::engine::FedSink;
 use crate::leg::combine;
 use pipe_branches::SinkAt;
 use pipe_driver::RunError;
-use pipe_frame::{DataChunk, DataFrame, StopCheck};
+use pipe_frame::{DataChunk, DataFrame};
 use pipe_index::HashesKeys;
 use pipe_ops::{PExecutionContext, Sink};
 use pipe_passage::Passage;
 use pipe_rows::KeyHasher;
 use pipe_run::Stage;
-use pipe_sinks::PhysSink;
-use pipe_slots::PhysOperator;
+use pipe_schema::StopCheck;
+use pipe_slots::{PhysOperator, PhysSink};
 use std::alloc::Global;
 
 /// The frame of a leg's source, where it goes through no operator into the root's sink. What the answer gets is then the

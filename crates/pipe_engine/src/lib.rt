@@ -1,6 +1,7 @@
 //! The engine that runs the pipelines of a plan: its sinks, the leg that runs, and the driver over them.
 #![tactic(auto)]
 
+mod assembling;
 mod counting;
 mod driving;
 mod engine;
@@ -18,7 +19,8 @@ mod source_frame;
 mod starting;
 mod taking;
 
+pub use assembling::assemble_run;
 pub use engine::{Engine, FedSink, OpenLeg, PlanLine, PlanRun, Tools};
 pub use part::Part;
 pub use plan_run::execute_branches;
-pub use running::{execute_pipeline, run_pipeline};
+pub use running::run_pipeline;

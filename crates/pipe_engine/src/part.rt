@@ -3,8 +3,7 @@
 use pipe_branches::SinkAt;
 use pipe_index::HashesKeys;
 use pipe_run::{Basin, Stage};
-use pipe_sinks::PhysSink;
-use pipe_slots::PhysOperator;
+use pipe_slots::{PhysOperator, PhysSink};
 
 /// The operators of a leg with the nodes whose rows they are given, and its sink, all of which have done nothing. Each
 /// lane works on copies of them.

@@ -1,19 +1,20 @@
 //! The branches of a plan, from the first to the last.
 
 ghost use Rattle.std.specs.Prelude.{◌≡◌, IfOk, IfErr, OnOk, Err, true};
-ghost use Rattle.pipe_frame.specs.Counts.{Counts, Rises};
+ghost use Rattle.pipe_schema.specs.Counts.{Counts, Rises};
 ghost use Rattle.pipe_engine.specs.Asked.{stops};
 ghost use Rattle.pipe_engine.specs.Drives.{ForPlan, AnswersPlan, AnswersSchema, KeepsLimit, EndsPlan};
 ghost use Rattle.pipe_engine.specs.Journals.{JournalsPlan};
 ghost use Rattle.pipe_engine.specs.Paced.{TakesPaced, most_of, rows_due_of};
-ghost use Rattle.pipe_takings.specs.Paced.{KeepsPace};
+ghost use Rattle.pipe_run.specs.Paced.{KeepsPace};
 
 use crate::engine::{PlanLine, PlanRun, Tools};
-use crate::running::execute_pipeline;
+use crate::running::run_fronts;
 use pipe_driver::RunError;
 use pipe_events::Event;
-use pipe_frame::{DataFrame, Gate, StopCheck};
+use pipe_frame::DataFrame;
 use pipe_rows::KeyHasher;
+use pipe_schema::{Gate, StopCheck};
 use std::alloc::Global;
 use std::thread::Threads;
 
@@ -44,5 +45,5 @@ pub fn execute_branches<R: Threads + Sync, H: KeyHasher, C: StopCheck, G: Gate +
     ensures kept { OnOk result (KeepsPace run.runner.context.workers run.runner.context.chunk_rows
         (C.asked stop.old) (C.asked stop.new) run.runner.journal.items journal.new.items) }
 {
-    execute_pipeline(alloc, tools, stop, run, pipelines, journal)
+    run_fronts(alloc, tools, stop, run, pipelines, journal)
 }

@@ -11,8 +11,7 @@ use pipe_driver::RunError;
 use pipe_index::HashesKeys;
 use pipe_passage::{Passage, close_passage};
 use pipe_rows::KeyHasher;
-use pipe_sinks::PhysSink;
-use pipe_slots::Slots;
+use pipe_slots::{PhysSink, Slots};
 use std::alloc::Global;
 
 /// Closes the flags of all joins whose tables stand in their slots: each of their keys was won by one seat, once.

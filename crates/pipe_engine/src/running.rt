@@ -1,7 +1,7 @@
 //! Front parts of branches, one after another.
 
 ghost use Rattle.std.specs.Prelude.{◌≡◌, [], ◌∷◌, IfOk, IfErr, OnOk, Err, true};
-ghost use Rattle.pipe_frame.specs.Counts.{Counts, Rises};
+ghost use Rattle.pipe_schema.specs.Counts.{Counts, Rises};
 ghost use Rattle.pipe_engine.specs.Asked.{WasAsked, stops};
 ghost use Rattle.pipe_engine.specs.Engine.{IsIdle};
 ghost use Rattle.pipe_engine.specs.Drives.{ForSome, ForEach, CanGo, Stopped, FedSinks, CanBegin, RanFront, CanRun, HasRoot};
@@ -10,14 +10,15 @@ ghost use Rattle.pipe_engine.specs.Journals.{Keeps, NotedAt, NotedGoing, WroteWh
 ghost use Rattle.pipe_engine.specs.Paced.{HasKeptPace, TakesPaced};
 ghost use Rattle.pipe_engine.specs.Paced.{most_of, rows_due_from, rows_due_of};
 ghost use Rattle.pipe_engine.specs.Refused.{IsRefused};
-ghost use Rattle.pipe_takings.specs.Paced.{KeepsPace};
+ghost use Rattle.pipe_run.specs.Paced.{KeepsPace};
 
 use crate::driving::{close, feed};
 use crate::engine::{PlanLine, PlanRun, Tools};
 use pipe_driver::{Next, RunError, are_closed, newer};
 use pipe_events::Event;
-use pipe_frame::{DataFrame, Gate, StopCheck};
+use pipe_frame::DataFrame;
 use pipe_rows::KeyHasher;
+use pipe_schema::{Gate, StopCheck};
 use std::alloc::Global;
 use std::collections::VecDeque;
 use std::mem::replace;
@@ -127,7 +128,7 @@ pub fn run_pipeline<R: Threads + Sync, H: KeyHasher, C: StopCheck, G: Gate + Syn
 /// Runs pipelines that stand for the branches of a plan, in order, to the last: the rows of the root. No node has more
 /// rows than the limit. What the legs did is the journal, leg by leg, in place of what it held. `Stopped` where the stop
 /// check said yes, after which it isn't asked again; else it said no each time.
-pub fn execute_pipeline<R: Threads + Sync, H: KeyHasher, C: StopCheck, G: Gate + Sync>(
+pub(crate) fn run_fronts<R: Threads + Sync, H: KeyHasher, C: StopCheck, G: Gate + Sync>(
     alloc: Global,
     tools: &Tools<R, G>,
     stop: &mut C,

@@ -1,7 +1,7 @@
 //! The sinks that legs feed.
 
 ghost use Rattle.std.specs.Prelude.{◌≡◌};
-ghost use Rattle.pipe_legs.specs.Legs.{sink_node};
+ghost use Rattle.pipe_driver.specs.Legs.{sink_node};
 
 use pipe_branches::SinkAt;
 

@@ -7,8 +7,9 @@ ghost use Rattle.pipe_engine.specs.Engine.{IsFresh};
 ghost use Rattle.pipe_engine.specs.Wholes.{HasFrame, IsFrameIn, IsKeptFrame};
 
 use pipe_branches::SinkAt;
-use pipe_frame::{DataFrame, TryClone};
+use pipe_frame::DataFrame;
 use pipe_ops::{PExecutionContext, Source, SourceResult};
+use pipe_schema::TryClone;
 use pipe_source::{DataFrameSource, PhysSource};
 use std::alloc::{AllocError, Global};
 

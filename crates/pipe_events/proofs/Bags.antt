@@ -3,8 +3,8 @@ use Rattle.std.proofs.Common.{◌≡◌, ℕ, ◌≤◌, Bool, true, false, cond
 use Rattle.std.specs.Prelude.{filter}
 use Rattle.std.specs.List.{flat_map}
 use Rattle.std.proofs.lemmas.List.Concat.{flat_map-append}
-use Rattle.pipe_frame.specs.Weights.{total}
-use Rattle.pipe_frame.proofs.Weights.{SameBag, WithinBag, total-append, total-map, total-filter, total-flat_map}
+use Rattle.pipe_schema.specs.Weights.{total}
+use Rattle.pipe_schema.proofs.Weights.{SameBag, WithinBag, total-append, total-map, total-filter, total-flat_map}
 
 pub SameBag-nil : {X : Type 0} (a : List X) → SameBag (a ++ []) a
 SameBag-nil a = record { sums = λ f. omega (arith, total-append f a []) }

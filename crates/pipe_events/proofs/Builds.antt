@@ -1,8 +1,8 @@
 -- What a bag brings doesn't depend on the order of the build sides that it passes.
 use Rattle.std.proofs.Common.{◌≡◌, ℕ, zero, suc, ◌<◌, ◌≤◌, Bool, true, false, cond, eqb, List, [], ◌∷◌, ◌++◌, refl, ◌∙◌, subst, arith}
 use Rattle.std.specs.List.{flat_map}
-use Rattle.pipe_frame.specs.Rows.{Row}
-use Rattle.pipe_frame.proofs.Weights.{SameBag, SameBag-refl, SameBag-trans, SameBag-append, SameBag-flat_map, SameBag-pieces, SameBag-map, SameBag-filter}
+use Rattle.pipe_schema.specs.Rows.{Row}
+use Rattle.pipe_schema.proofs.Weights.{SameBag, SameBag-refl, SameBag-trans, SameBag-append, SameBag-flat_map, SameBag-pieces, SameBag-map, SameBag-filter}
 use Rattle.pipe_expr.specs.Joins.{Join}
 use Rattle.pipe_expr.specs.Shares.{meets, probe_pair, probe_pairs, pairs_or_padding, share_by, probe_share}
 use Rattle.pipe_expr.specs.declared.join_words.JoinType.{JoinType}

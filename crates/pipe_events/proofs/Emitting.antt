@@ -2,8 +2,8 @@
 use Rattle.std.proofs.Common.{◌≡◌, ℕ, ◌<◌, Bool, true, false, cond, ◌||◌, List, [], ◌∷◌, ◌++◌, refl, ap, sym, ◌∙◌, arith}
 use Rattle.std.specs.Prelude.{not}
 use Rattle.std.specs.List.{list_any}
-use Rattle.pipe_frame.specs.Rows.{Row}
-use Rattle.pipe_frame.proofs.Weights.{total-append, SameBag-append}
+use Rattle.pipe_schema.specs.Rows.{Row}
+use Rattle.pipe_schema.proofs.Weights.{total-append, SameBag-append}
 use Rattle.pipe_events.specs.Stages.{JoinStage, Stages, Joined, rows, reaches, build_key, matches_built, IsStages, marks}
 use Rattle.pipe_events.specs.Worlds.{World, Load, mine, others, is_of, emitted, carried, ChainBuilt}
 use Rattle.pipe_events.proofs.Tests.{any-same, any-append, any-or, any-never, any-alike, any-filter}

@@ -3,8 +3,8 @@ use Rattle.std.proofs.Common.{◌≡◌, ℕ, zero, suc, ◌<◌, ◌≤◌, Boo
 use Rattle.std.proofs.lemmas.Bool.Decides.{Decides-eqb}
 use Rattle.std.specs.Prelude.{not}
 use Rattle.std.specs.List.{list_any}
-use Rattle.pipe_frame.specs.Rows.{Row, eq_row}
-use Rattle.pipe_frame.proofs.Weights.{eq_row-refl}
+use Rattle.pipe_schema.specs.Rows.{Row, eq_row}
+use Rattle.pipe_schema.proofs.Weights.{eq_row-refl}
 use Rattle.pipe_events.specs.Stages.{JoinStage, Stages, Stage, Scan, Each, Union, Sort, Joined, rows, reach_at, reaches, build_key, matches_built, IsBelow, IsStages, marks}
 use Rattle.pipe_events.specs.Worlds.{World, Load, mine, with_load, seen, mark_keys, mark_seen, mark_below, emitted, given, carried}
 use Rattle.pipe_events.proofs.WalkLemmas.{walk_stays}

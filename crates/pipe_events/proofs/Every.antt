@@ -1,7 +1,7 @@
 -- Every schedule: each event keeps the facts, and at the end they give the plan's rows.
 use Rattle.std.proofs.Common.{◌≡◌, ℕ, ◌<◌, Bool, true, false, List, [], ◌∷◌, ◌++◌, refl, ap, ◌∙◌, arith}
-use Rattle.pipe_frame.specs.Rows.{Row}
-use Rattle.pipe_frame.proofs.Weights.{SameBag, WithinBag, SameBag-refl, SameBag-sym, SameBag-trans, Same-from_bag, Within-from_bag}
+use Rattle.pipe_schema.specs.Rows.{Row}
+use Rattle.pipe_schema.proofs.Weights.{SameBag, WithinBag, SameBag-refl, SameBag-sym, SameBag-trans, Same-from_bag, Within-from_bag}
 use Rattle.pipe_events.specs.Stages.{JoinStage, Stages, Stage, Scan, Each, Union, Sort, Joined, rows, flow_at, feeds, build_key, matches_built, IsStages, marks}
 use Rattle.pipe_events.specs.Worlds.{World, start, Allowed, Event, Take, Mark, Emit, Done, Close, Flush, is_sink, after}
 use Rattle.pipe_events.proofs.Bags.{SameBag-nil, flat_nil, WithinBag-trans, WithinBag-first, WithinBag-from_SameBag}

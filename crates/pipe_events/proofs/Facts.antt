@@ -2,8 +2,8 @@
 use Rattle.std.proofs.Common.{◌≡◌, ℕ, ◌<◌, ◌≤◌, Bool, true, false, cond, eqb, length, List, [], ◌∷◌, ◌++◌, map, refl, ap, arith}
 use Rattle.std.specs.Prelude.{filter, not}
 use Rattle.std.specs.List.{list_any}
-use Rattle.pipe_frame.specs.Rows.{Row}
-use Rattle.pipe_frame.proofs.Weights.{SameBag, WithinBag, SameBag-refl, SameBag-from_equal}
+use Rattle.pipe_schema.specs.Rows.{Row}
+use Rattle.pipe_schema.proofs.Weights.{SameBag, WithinBag, SameBag-refl, SameBag-from_equal}
 use Rattle.pipe_expr.specs.Joins.{Join, key_of, keys_match}
 use Rattle.pipe_expr.specs.Shares.{pad_built, own_by, matched_built, unmatched_built}
 use Rattle.pipe_expr.specs.declared.join_words.JoinType.{JoinType}

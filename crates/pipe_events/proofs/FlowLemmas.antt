@@ -1,8 +1,8 @@
 -- What comes to each node of two bags together is what comes of the one and of the other.
 use Rattle.std.proofs.Common.{ℕ, List, [], ◌++◌}
 use Rattle.std.specs.List.{flat_map}
-use Rattle.pipe_frame.specs.Rows.{Row}
-use Rattle.pipe_frame.proofs.Weights.{SameBag, WithinBag, SameBag-refl, SameBag-trans, SameBag-append, SameBag-flat_map, SameBag-pieces, SameBag-pieces_apart}
+use Rattle.pipe_schema.specs.Rows.{Row}
+use Rattle.pipe_schema.proofs.Weights.{SameBag, WithinBag, SameBag-refl, SameBag-trans, SameBag-append, SameBag-flat_map, SameBag-pieces, SameBag-pieces_apart}
 use Rattle.pipe_events.specs.Stages.{Stages, flow_to, flow_at, made, through, feeds}
 use Rattle.pipe_events.proofs.Bags.{SameBag-flat_map_append, WithinBag-append, WithinBag-pieces, WithinBag-flat_map, WithinBag-nothing, middle}
 use Rattle.pipe_events.proofs.WalkLemmas.{walk_both, walk_three}

@@ -4,8 +4,8 @@ use Rattle.std.proofs.lemmas.Bool.Decides.{Decides-eqb}
 use Rattle.std.proofs.lemmas.List.{map-append}
 use Rattle.std.specs.Prelude.{filter, not}
 use Rattle.std.specs.List.{list_any}
-use Rattle.pipe_frame.specs.Rows.{Row}
-use Rattle.pipe_frame.proofs.Weights.{SameBag, SameBag-refl, SameBag-sym, SameBag-trans, SameBag-append, SameBag-map, SameBag-filter}
+use Rattle.pipe_schema.specs.Rows.{Row}
+use Rattle.pipe_schema.proofs.Weights.{SameBag, SameBag-refl, SameBag-sym, SameBag-trans, SameBag-append, SameBag-map, SameBag-filter}
 use Rattle.pipe_events.specs.Stages.{JoinStage, Stages, Joined, rows, flow, reaches, build_key, IsStages, only, marks, marks_by, flushes_by}
 use Rattle.pipe_events.specs.Worlds.{World, Flush, count, at_join, unflagged_rows, unmatched, flushed_by, MayFlush, after}
 use Rattle.pipe_events.proofs.Bags.{SameBag-nil, WithinBag-trans, WithinBag-first, WithinBag-from_SameBag}

@@ -3,8 +3,8 @@ use Rattle.std.proofs.Common.{◌≡◌, ℕ, ◌+◌, ◌<◌, Bool, true, fals
 use Rattle.std.proofs.lemmas.Bool.Decides.{Decides-eqb}
 use Rattle.std.specs.Prelude.{not}
 use Rattle.std.specs.List.{list_any}
-use Rattle.pipe_frame.specs.Rows.{Row, eq_row}
-use Rattle.pipe_frame.proofs.Weights.{SameBag, WithinBag, total-append, SameBag-refl, SameBag-sym, SameBag-trans, SameBag-append, SameBag-filter, eq_row-sound}
+use Rattle.pipe_schema.specs.Rows.{Row, eq_row}
+use Rattle.pipe_schema.proofs.Weights.{SameBag, WithinBag, total-append, SameBag-refl, SameBag-sym, SameBag-trans, SameBag-append, SameBag-filter, eq_row-sound}
 use Rattle.pipe_events.specs.Stages.{Key, JoinStage, Stages, Joined, rows, flow, flow_at, feeds, reaches, build_key, matches_built, IsStages, only, marks}
 use Rattle.pipe_events.specs.Worlds.{World, Load, Mark, put, mine, others, is_of, with_load, at_join, seen, mark_keys, newly_marked, given, given_by, carried, ChainBuilt, MayMark, after}
 use Rattle.pipe_events.proofs.Bags.{SameBag-nil, flat_nil, WithinBag-trans, WithinBag-first, WithinBag-from_SameBag}

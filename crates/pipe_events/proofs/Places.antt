@@ -3,9 +3,9 @@ use Rattle.std.proofs.Common.{◌≡◌, ℕ, zero, suc, ◌+◌, ◌<◌, ◌�
 use Rattle.std.specs.List.{range_with_len}
 use Rattle.std.proofs.lemmas.Bool.Decides.{Decides-eqb}
 use Rattle.std.proofs.lemmas.List.FromFn.{fill_by_all}
-use Rattle.pipe_frame.specs.Rows.{Row}
-use Rattle.pipe_frame.specs.Weights.{total}
-use Rattle.pipe_frame.proofs.Weights.{SameBag, WithinBag, total-map}
+use Rattle.pipe_schema.specs.Rows.{Row}
+use Rattle.pipe_schema.specs.Weights.{total}
+use Rattle.pipe_schema.proofs.Weights.{SameBag, WithinBag, total-map}
 use Rattle.pipe_expr.proofs.PairSums.{total-swap}
 use Rattle.pipe_events.specs.Worlds.{picked, put, count}
 use Rattle.pipe_events.proofs.WalkLemmas.{Decides-no}

@@ -2,8 +2,8 @@
 use Rattle.std.proofs.Common.{◌≡◌, ℕ, zero, suc, ◌<◌, ◌≤◌, Bool, true, false, cond, eqb, List, [], ◌∷◌, ◌++◌, refl, ap, subst, arith, ◌||◌}
 use Rattle.std.specs.List.{flat_map, list_any}
 use Rattle.std.proofs.lemmas.Bool.Decides.{Decides-eqb}
-use Rattle.pipe_frame.specs.Rows.{Row}
-use Rattle.pipe_frame.proofs.Weights.{SameBag, WithinBag, SameBag-refl, SameBag-sym, SameBag-trans, SameBag-append, SameBag-flat_map}
+use Rattle.pipe_schema.specs.Rows.{Row}
+use Rattle.pipe_schema.proofs.Weights.{SameBag, WithinBag, SameBag-refl, SameBag-sym, SameBag-trans, SameBag-append, SameBag-flat_map}
 use Rattle.pipe_events.specs.Stages.{JoinStage, Stages, Joined, rows_at, rows_to, rows, flow_to, flow_at, made, flow, through, feeds, reach_at, reaches_to, own_rows, IsBelow, IsStages, only, marks}
 use Rattle.pipe_events.proofs.Bags.{WithinBag-append, WithinBag-pieces, WithinBag-flat_map, WithinBag-trans, WithinBag-from_SameBag}
 use Rattle.pipe_events.proofs.WalkLemmas.{walk_both, walk_stays}

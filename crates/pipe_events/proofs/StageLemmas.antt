@@ -1,8 +1,8 @@
 -- The rows of a node are what it has of its own and what it makes of the rows that pass it.
 use Rattle.std.proofs.Common.{◌≡◌, ℕ, ◌<◌, Bool, true, false, cond, List, [], ◌∷◌, ◌++◌, refl, ap}
 use Rattle.std.specs.List.{flat_map}
-use Rattle.pipe_frame.specs.Rows.{Row}
-use Rattle.pipe_frame.proofs.Weights.{SameBag, SameBag-refl, SameBag-sym, SameBag-trans, SameBag-append, SameBag-append_comm, SameBag-flat_map}
+use Rattle.pipe_schema.specs.Rows.{Row}
+use Rattle.pipe_schema.proofs.Weights.{SameBag, SameBag-refl, SameBag-sym, SameBag-trans, SameBag-append, SameBag-append_comm, SameBag-flat_map}
 use Rattle.pipe_expr.specs.Joins.{Join, join_rows}
 use Rattle.pipe_expr.specs.Shares.{probe_share, built_share}
 use Rattle.pipe_expr.proofs.ShareLaw.{right-built, left-built}

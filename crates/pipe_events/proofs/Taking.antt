@@ -3,8 +3,8 @@ use Rattle.std.proofs.Common.{◌≡◌, ℕ, ◌+◌, ◌<◌, ◌≤◌, Bool,
 use Rattle.std.proofs.lemmas.Bool.{cases_lt}
 use Rattle.std.proofs.lemmas.List.{map-append}
 use Rattle.std.specs.List.{list_any, range_with_len}
-use Rattle.pipe_frame.specs.Rows.{Row}
-use Rattle.pipe_frame.proofs.Weights.{SameBag, total-append, SameBag-refl, SameBag-sym}
+use Rattle.pipe_schema.specs.Rows.{Row}
+use Rattle.pipe_schema.proofs.Weights.{SameBag, total-append, SameBag-refl, SameBag-sym}
 use Rattle.pipe_events.specs.Stages.{Key, Stages, Stage, Scan, Each, Union, Sort, Joined, rows, flow, reaches, own_rows, IsStages, only}
 use Rattle.pipe_events.specs.Worlds.{World, Take, source_rows, IsReady, picked, count, MayTake, after}
 use Rattle.pipe_events.proofs.Bags.{SameBag-nil, WithinBag-trans, WithinBag-first, WithinBag-from_SameBag}

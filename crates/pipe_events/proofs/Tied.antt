@@ -1,8 +1,8 @@
 -- What a run's own journal is tied by: closed sides, flags, and lists that are joined.
 use Rattle.std.proofs.Common.{◌≡◌, ℕ, ◌<◌, true, false, List, [], ◌∷◌, ◌++◌, refl, ap}
 use Rattle.std.specs.List.{list_any}
-use Rattle.pipe_frame.specs.Rows.{Same}
-use Rattle.pipe_frame.proofs.Weights.{Same-from_bag}
+use Rattle.pipe_schema.specs.Rows.{Same}
+use Rattle.pipe_schema.proofs.Weights.{Same-from_bag}
 use Rattle.pipe_events.specs.Stages.{JoinStage, Stages, Joined, rows, reaches, IsStages, marks}
 use Rattle.pipe_events.specs.Worlds.{World, start, Event, is_sink, after}
 use Rattle.pipe_expr.specs.declared.join_words.JoinType.TheVariants as how

@@ -4,8 +4,8 @@ use Rattle.std.proofs.lemmas.Bool.{cases_lt}
 use Rattle.std.proofs.lemmas.Bool.Decides.{Decides-eqb}
 use Rattle.std.specs.Prelude.{not}
 use Rattle.std.specs.List.{list_any, range_with_len}
-use Rattle.pipe_frame.specs.Rows.{Row}
-use Rattle.pipe_frame.proofs.Weights.{SameBag, total-append, SameBag-refl, SameBag-sym, SameBag-trans, SameBag-append, Same-from_bag}
+use Rattle.pipe_schema.specs.Rows.{Row}
+use Rattle.pipe_schema.proofs.Weights.{SameBag, total-append, SameBag-refl, SameBag-sym, SameBag-trans, SameBag-append, Same-from_bag}
 use Rattle.pipe_events.specs.Stages.{JoinStage, Stages, Stage, Scan, Each, Union, Sort, Joined, rows, flow, feeds, reach_at, reaches_to, reaches, own_rows, build_key, matches_built, IsBelow, GivesOneList, IsStages, only, marks}
 use Rattle.pipe_events.specs.Worlds.{World, Load, mine, others, is_of, source_rows, IsReady, ends, is_sink, carried, ChainBuilt}
 use Rattle.pipe_events.proofs.Bags.{SameBag-nil}

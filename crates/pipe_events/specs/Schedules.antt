@@ -2,7 +2,7 @@
 use Rattle.std.specs.Prelude.{◌≡◌, ℕ, ◌<◌, List, [], ◌∷◌, ◌++◌, Bool, true, false, not, if◌then◌else◌, filter, Some}
 use Rattle.std.specs.List.{list_any}
 use mathlib.Core.Logic.{◌↔◌}
-use Rattle.pipe_frame.specs.Rows.{Row, Same, Within}
+use Rattle.pipe_schema.specs.Rows.{Row, Same, Within}
 use Rattle.pipe_expr.specs.Shares.{matched_built}
 use Rattle.pipe_expr.specs.declared.join_words.JoinType.TheVariants as how
 use Rattle.pipe_events.specs.Stages.{JoinStage, Stages, Joined, IsStages, rows, build_key, matches_built, marks}

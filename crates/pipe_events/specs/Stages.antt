@@ -2,8 +2,8 @@
 -- those that pass it.
 use Rattle.std.specs.Prelude.{◌≡◌, ℕ, ◌<◌, List, [], ◌∷◌, ◌++◌, Bool, true, false, not, if◌then◌else◌, ◌==◌, ◌||◌}
 use Rattle.std.specs.List.{flat_map, list_any}
-use Rattle.pipe_frame.specs.Rows.{Row, Same}
-use Rattle.pipe_frame.specs.declared.any_value.AnyValue.{AnyValue}
+use Rattle.pipe_schema.specs.Rows.{Row, Same}
+use Rattle.pipe_schema.specs.declared.any_value.AnyValue.{AnyValue}
 use Rattle.pipe_expr.specs.Joins.{Join, join_rows, key_of}
 use Rattle.pipe_expr.specs.Shares.{met_by, probe_share, built_share}
 use Rattle.pipe_expr.specs.declared.join_words.JoinType.{JoinType}

@@ -2,8 +2,8 @@
 -- time, whoever does it.
 use Rattle.std.specs.Prelude.{◌≡◌, ◌≢◌, ℕ, zero, suc, ◌+◌, ◌<◌, ◌≤◌, List, [], ◌∷◌, ◌++◌, map, filter, length, Bool, true, false, not, if◌then◌else◌, ◌==◌, ◌||◌, slice_index_or, Option, Some, None}
 use Rattle.std.specs.List.{flat_map, list_any, range_with_len}
-use Rattle.pipe_frame.specs.Rows.{Row, eq_row}
-use Rattle.pipe_frame.specs.Weights.{total}
+use Rattle.pipe_schema.specs.Rows.{Row, eq_row}
+use Rattle.pipe_schema.specs.Weights.{total}
 use Rattle.pipe_expr.specs.Joins.{Join}
 use Rattle.pipe_expr.specs.Shares.{pad_built}
 use Rattle.pipe_expr.specs.declared.join_words.JoinType.{JoinType}

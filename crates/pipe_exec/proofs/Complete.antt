@@ -8,7 +8,7 @@ use Rattle.pipe_driver.specs.Within.{AllWithin}
 use Rattle.pipe_exec.specs.Evaluated.{stop_of}
 use Rattle.pipe_exec.specs.Runs.{Fails, IsMemory, RunCauses, Stays}
 use Rattle.pipe_exec.specs.Sound.{IsRefused, IsSound}
-use Rattle.pipe_frame.specs.Counts.{Counts}
+use Rattle.pipe_schema.specs.Counts.{Counts}
 use Rattle.pipe_plan.specs.Faults.{IsWellFormed, most_nodes}
 use Rattle.pipe_plan.specs.Plan.{Plan}
 use Rattle.pipe_plan.specs.declared.config.PipeConfig.{PipeConfig}

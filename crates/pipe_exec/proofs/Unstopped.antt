@@ -4,7 +4,7 @@ use Rattle.std.specs.Prelude.{if◌then◌else◌, nat_le, nat_lt, IfErr, IsErrO
 use Rattle.std.specs.List.{range_with_len}
 use Rattle.pipe_check.specs.Checked.{MemoryOr, check_fault}
 use Rattle.pipe_exec.specs.Sound.{CheckCauses}
-use Rattle.pipe_frame.specs.declared.field.Field.{Field}
+use Rattle.pipe_schema.specs.declared.field.Field.{Field}
 use Rattle.pipe_plan.specs.Faults.{duplicate_in, first_fault, fault_at, fault_under, is_bad_join, is_bad_node, is_bad_sort, is_mistyped, most_nodes, or_else, plan_fault, told, told_name, unknown_in}
 use Rattle.pipe_plan.specs.Node.{Node}
 use Rattle.pipe_plan.specs.Schemas.{schemas_to}

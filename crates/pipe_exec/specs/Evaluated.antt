@@ -1,6 +1,6 @@
 -- What the frame of a plan has to be, and why there is none.
 use Rattle.std.specs.Prelude.{◌≡◌, ℕ, List, true, Result, Ok, Err}
-use Rattle.pipe_frame.specs.Rows.{Row, Same}
+use Rattle.pipe_schema.specs.Rows.{Row, Same}
 use Rattle.pipe_plan.specs.Plan.{Plan}
 use Rattle.pipe_plan.specs.PlanRows.{rows_of}
 use Rattle.pipe_plan.specs.Under.{node_at}

@@ -2,7 +2,7 @@
 use Rattle.std.specs.Prelude.{ℕ, List, []}
 use Rattle.pipe_plan.specs.Plan.{Plan}
 use Rattle.pipe_lines.specs.Journals.{IsJournalOf}
-use Rattle.pipe_takings.specs.Paced.{KeepsPace}
+use Rattle.pipe_run.specs.Paced.{KeepsPace}
 use Rattle.pipe_exec.specs.declared.answer.RunAnswer.{RunAnswer}
 
 -- the journal of an answer is complete, and brings the root the rows of its frame

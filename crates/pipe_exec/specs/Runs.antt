@@ -1,6 +1,6 @@
 -- Why a run gives no rows.
 use Rattle.std.specs.Prelude.{ℕ, ◌≡◌, ◌⊎◌}
-use Rattle.pipe_frame.specs.Counts.{Rises}
+use Rattle.pipe_schema.specs.Counts.{Rises}
 use Rattle.pipe_plan.specs.Plan.{Plan}
 use Rattle.pipe_plan.specs.declared.config.PipeConfig.{PipeConfig}
 use Rattle.pipe_plan.specs.declared.error.PipeError.{PipeError}

@@ -3,7 +3,8 @@
 ghost use Rattle.std.specs.Prelude.{◌≡◌};
 
 use pipe_events::Event;
-use pipe_frame::{DataFrame, List};
+use pipe_frame::DataFrame;
+use pipe_schema::List;
 
 /// What a run wrote down, in order: what its workers took of which source, each followed by its end, and which sides
 /// were closed.

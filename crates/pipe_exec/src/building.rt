@@ -5,8 +5,9 @@ ghost use Rattle.pipe_plan.specs.Node.{node_of};
 ghost use Rattle.pipe_plan.specs.Plan.{plan_of};
 ghost use Rattle.pipe_exec.specs.Sides.{node_building, options_building, plan_building, size_hint};
 
-use pipe_frame::{DataFrame, List, TryClone};
+use pipe_frame::DataFrame;
 use pipe_plan::{Arena, IR, JoinOptions, RowsHint};
+use pipe_schema::{List, TryClone};
 use std::alloc::{AllocError, Global};
 
 /// The hint of a side that is thought to have a row more than the other, or not.

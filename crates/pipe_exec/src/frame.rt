@@ -1,10 +1,10 @@
 //! The frame of a checked plan.
 
 ghost use Rattle.std.specs.Prelude.{◌≡◌, [], Err, IfOk, IfErr, OnOk, true};
-ghost use Rattle.pipe_frame.specs.Counts.{Counts, Rises};
+ghost use Rattle.pipe_schema.specs.Counts.{Counts, Rises};
 ghost use Rattle.pipe_plan.specs.Plan.{plan_of};
 ghost use Rattle.pipe_plan.specs.Schemas.{schema_of};
-ghost use Rattle.pipe_takings.specs.Paced.{KeepsPace};
+ghost use Rattle.pipe_run.specs.Paced.{KeepsPace};
 ghost use Rattle.pipe_driver.specs.Within.{AllWithin};
 ghost use Rattle.pipe_lines.specs.Journals.{IsJournalOf};
 ghost use Rattle.pipe_exec.specs.Evaluated.{EndsWith, HasRowsOf, error_of, stops};
@@ -13,11 +13,12 @@ use pipe_check::CheckedPlan;
 use pipe_driver::RunError;
 use pipe_engine::Tools;
 use pipe_events::Event;
-use pipe_frame::{DataFrame, Gate, StopCheck};
+use pipe_frame::DataFrame;
 use pipe_lines::run_branches;
 use pipe_ops::PExecutionContext;
 use pipe_plan::PipeError;
 use pipe_rows::KeyHasher;
+use pipe_schema::{Gate, StopCheck};
 use std::alloc::Global;
 use std::thread::Threads;
 

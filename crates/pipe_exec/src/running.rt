@@ -1,7 +1,7 @@
 //! Running a plan.
 
 ghost use Rattle.std.specs.Prelude.{◌≡◌, Err, IfOk, IfErr, OnOk, true};
-ghost use Rattle.pipe_frame.specs.Counts.{Counts, Rises};
+ghost use Rattle.pipe_schema.specs.Counts.{Counts, Rises};
 ghost use Rattle.pipe_plan.specs.Plan.{plan_of};
 ghost use Rattle.pipe_plan.specs.Schemas.{schema_of};
 ghost use Rattle.pipe_driver.specs.Within.{AllWithin};
@@ -15,9 +15,9 @@ use crate::answer::{Journal, RunAnswer};
 use crate::check::check_job;
 use crate::frame::plan_frame;
 use crate::numbers::context_of;
-use pipe_frame::{Gate, List, StopCheck};
 use pipe_plan::{Arena, PipeConfig, PipeError};
 use pipe_rows::{Fnv, KeyHasher};
+use pipe_schema::{Gate, List, StopCheck};
 use std::alloc::Global;
 use std::thread::Threads;
 

@@ -3,8 +3,8 @@ use Rattle.std.proofs.Common.{◌≡◌, Bool, List, Some, None, refl}
 use Rattle.std.specs.Ordering.{nat_cmp, int_cmp, bool_cmp}
 use Rattle.std.specs.Cmp.Lexicographic.{slice_cmp}
 use Rattle.std.specs.declared.cmp.Ordering.{Ordering}
-use Rattle.pipe_frame.specs.Cell.{int32_cell, int64_cell, uint32_cell, uint64_cell, boolean_cell, string_cell, binary_cell, int128_cell}
-use Rattle.pipe_frame.specs.declared.any_value.AnyValue.{AnyValue}
+use Rattle.pipe_schema.specs.Cell.{int32_cell, int64_cell, uint32_cell, uint64_cell, boolean_cell, string_cell, binary_cell, int128_cell}
+use Rattle.pipe_schema.specs.declared.any_value.AnyValue.{AnyValue}
 use Rattle.pipe_expr.specs.Values.{compared}
 use Rattle.pipe_expr.specs.Nullables.{zip_with, strictly, tested}
 use Rattle.pipe_expr.specs.Operands.{Zips}

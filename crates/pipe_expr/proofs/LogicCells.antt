@@ -2,9 +2,9 @@
 use Rattle.std.proofs.Common.{◌≡◌, ℕ, zero, suc, Bool, true, false, List, [], ◌∷◌, Option, Some, None, length, map, replicate, refl, ap, sym, ◌∙◌, arith}
 use Rattle.std.specs.Ordering.{bool_cmp, is_ne}
 use Rattle.std.proofs.lemmas.List.{length-replicate}
-use Rattle.pipe_frame.specs.Cell.{boolean_cell}
-use Rattle.pipe_frame.specs.declared.any_value.AnyValue.TheVariants as cell
-use Rattle.pipe_frame.specs.declared.any_value.AnyValue.{AnyValue}
+use Rattle.pipe_schema.specs.Cell.{boolean_cell}
+use Rattle.pipe_schema.specs.declared.any_value.AnyValue.TheVariants as cell
+use Rattle.pipe_schema.specs.declared.any_value.AnyValue.{AnyValue}
 use Rattle.pipe_expr.specs.Values.{both_of, either_of, opposite_of, compared}
 use Rattle.pipe_expr.specs.Nullables.{zip_with, strictly, tested, both, either}
 use Rattle.pipe_expr.specs.Operands.{Zips, IsOperand, operand_cells}

@@ -2,11 +2,11 @@
 use Rattle.std.proofs.Common.{◌≡◌, ℕ, suc, ◌+◌, ◌<◌, Bool, true, false, cond, List, [], ◌∷◌, Some, None, is_some, length, get_or, map, refl, ap, sym, ◌∙◌, arith, Bor}
 use Rattle.std.specs.Str.{bytes_eq}
 use Rattle.std.proofs.lemmas.List.{length-map}
-use Rattle.pipe_frame.specs.Rows.{Row}
-use Rattle.pipe_frame.specs.Series.{Cells}
-use Rattle.pipe_frame.specs.Schema.{place_from, place_of}
+use Rattle.pipe_schema.specs.Rows.{Row}
+use Rattle.pipe_column.specs.Series.{Cells}
+use Rattle.pipe_schema.specs.Schema.{place_from, place_of}
 use Rattle.pipe_frame.specs.Frame.{Table, cell_of_row, columns_from, columns_of}
-use Rattle.pipe_frame.specs.declared.field.Field.{Field}
+use Rattle.pipe_schema.specs.declared.field.Field.{Field}
 use Rattle.pipe_frame.proofs.Tables.{map_same}
 use Rattle.pipe_expr.specs.Types.{type_of_column}
 use Rattle.pipe_expr.specs.Values.{value_of, cell_there}
@@ -52,7 +52,7 @@ found name (field ∷ fields) rows n i d h =
     ] in split (bytes_eq field.name name) refl h
 
 pub place_below : (name : List ℕ) (fields : List Field) (i : ℕ) → place_of name fields ≡ Some i → i < length fields
-place_below name fields i h = let f = found name fields [] 0 i (record { name = []; dtype = Rattle.pipe_frame.specs.declared.data_type.DataType.TheVariants.Boolean; cells = [] }) h in let c = f.counted in let b = f.below in omega arith
+place_below name fields i h = let f = found name fields [] 0 i (record { name = []; dtype = Rattle.pipe_schema.specs.declared.data_type.DataType.TheVariants.Boolean; cells = [] }) h in let c = f.counted in let b = f.below in omega arith
 
 -- the column there has the cells of its rows
 pub named_is_value : (name : List ℕ) (table : Table) (i : ℕ) (columns : List Cells) (b : Bor Cells) → place_of name table.schema ≡ Some i → columns ≡ columns_of table → b.now ≡ get_or columns i b.now → IsValueOf (Column name) table (operand.Lent b)

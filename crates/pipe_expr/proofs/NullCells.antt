@@ -2,10 +2,10 @@
 use Rattle.std.proofs.Common.{◌≡◌, ℕ, zero, suc, ◌<◌, Bool, true, false, List, [], ◌∷◌, Some, length, map, replicate, refl, ap, ◌∙◌, arith}
 use Rattle.std.specs.Bool.{beq}
 use Rattle.std.proofs.lemmas.List.{length-map}
-use Rattle.pipe_frame.specs.Cell.{is_null_cell, boolean_cell}
-use Rattle.pipe_frame.specs.Column.{nullable_at}
-use Rattle.pipe_frame.specs.Series.{cell_at}
-use Rattle.pipe_frame.specs.declared.any_value.AnyValue.{AnyValue}
+use Rattle.pipe_schema.specs.Cell.{is_null_cell, boolean_cell}
+use Rattle.pipe_column.specs.Column.{nullable_at}
+use Rattle.pipe_column.specs.Series.{cell_at}
+use Rattle.pipe_schema.specs.declared.any_value.AnyValue.{AnyValue}
 use Rattle.pipe_expr.specs.Nullables.{null_test, null_found}
 use Rattle.pipe_expr.specs.Values.{null_test_cell}
 use Rattle.pipe_expr.proofs.Operands.{map-replicate}

@@ -1,6 +1,7 @@
 -- What stands at a place of nullable values.
-use Rattle.std.proofs.Common.{◌≡◌, ℕ, zero, suc, ◌<◌, Bool, true, false, List, [], ◌∷◌, ◌++◌, ◌+◌, take, Option, Some, None, length, get_or, replicate, refl, ap, sym, ◌∙◌, arith}
-use Rattle.pipe_frame.specs.Column.{nullable, nullables, nullable_at}
+use Rattle.std.proofs.Common.{◌≡◌, ℕ, zero, suc, ◌<◌, Bool, true, false, List, [], ◌∷◌, ◌++◌, ◌+◌, take, map, Option, Some, None, length, get_or, replicate, refl, ap, sym, ◌∙◌, arith}
+use Rattle.std.proofs.lemmas.List.{get_or-map, length-map}
+use Rattle.pipe_column.specs.Column.{nullable, nullables, nullable_at}
 use Rattle.pipe_expr.specs.Nullables.{zip_with}
 
 -- a place of a column has a validity and a value
@@ -49,6 +50,13 @@ take-more (suc i) (x ∷ all) h = ap (λ l. x ∷ l) (take-more i all (omega ari
 pub nullables-grow : {T : Type 0} (all : List (Option T)) (validity : List Bool) (xs : List T) (m : Bool) (x : T) (i : ℕ) → i < length all → length validity ≡ i → length xs ≡ i → nullables validity xs ≡ take i all → nullable m x ≡ nullable_at all i → nullables (validity ++ m ∷ []) (xs ++ x ∷ []) ≡ take (i + 1) all
 nullables-grow all validity xs m x i h p q e f = nullables-push validity xs m x (p ∙ sym q) ∙ rw (e, f) (take-more i all h) ∙ (let n : suc i ≡ i + 1 = omega arith in ap (λ k. take k all) n)
 
+-- each place of values that are all there has its value
+pub values_of-valid : {T : Type 0} (xs : List T) (i : ℕ) → i < length (map Some xs) → i < length xs
+values_of-valid xs i h = omega (arith, h, length-map xs Some)
+
+pub nullable_at-valid : {T : Type 0} (xs : List T) (i : ℕ) (x : T) → i < length (map Some xs) → nullable true (get_or xs i x) ≡ nullable_at (map Some xs) i
+nullable_at-valid xs i x h = sym (get_or-map Some xs i x None (omega (arith, h, length-map xs Some)))
+
 -- each place of a repetition has its item
 pub nullable_at-replicate : {T : Type 0} (n : ℕ) (x : Option T) (i : ℕ) → i < length (replicate n x) → nullable_at (replicate n x) i ≡ x
 nullable_at-replicate zero x i h = absurd (omega arith)
@@ -74,4 +82,4 @@ nullable_at-zip f (x ∷ xs) [] i h = absurd (omega arith)
 nullable_at-zip f (x ∷ xs) (y ∷ ys) zero h = refl
 nullable_at-zip f (x ∷ xs) (y ∷ ys) (suc i) h = nullable_at-zip f xs ys i (omega arith)
 
-pub ruleset nullable_rules = (validity_of-nullables, values_of-nullables, nullable_at-read, nullables-grow, nullable_at-replicate, left_of-zip, right_of-zip, nullable_at-zip)
+pub ruleset nullable_rules = (validity_of-nullables, values_of-nullables, nullable_at-read, nullables-grow, values_of-valid, nullable_at-valid, nullable_at-replicate, left_of-zip, right_of-zip, nullable_at-zip)

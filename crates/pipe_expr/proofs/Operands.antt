@@ -1,5 +1,10 @@
 -- Operands: columns and constants.
-use Rattle.std.proofs.Common.{◌≡◌, ℕ, zero, suc, List, [], ◌∷◌, ◌++◌, ◌+◌, length, map, replicate, refl, ap, sym, ◌∙◌, arith}
+use Rattle.std.proofs.Common.{◌≡◌, ℕ, zero, suc, List, [], ◌∷◌, ◌++◌, ◌+◌, Option, Some, length, map, replicate, refl, ap, sym, subst, ◌∙◌, arith}
+use Rattle.pipe_column.specs.Column.{nullables}
+use Rattle.pipe_column.specs.Validity.{validities}
+use Rattle.pipe_column.specs.declared.validities.Validities.{Validities}
+use Rattle.pipe_column.specs.declared.validities.Validities.TheVariants as shown
+use Rattle.pipe_column.proofs.AllThere.{nullables-there}
 use Rattle.pipe_expr.specs.Nullables.{zip_with}
 
 -- as many as in each list
@@ -25,5 +30,12 @@ replicate-push n x = replicate-suc n x ∙ (let e : suc n ≡ n + 1 = omega arit
 
 pub repeated_cell : {A B : Type 0} (f : A → B) (n : ℕ) (x : A) {c : B} → f x ≡ c → replicate n c ≡ map f (replicate n x)
 repeated_cell f n x h = ap (replicate n) (sym h) ∙ map-replicate f n x
+
+-- the values of a column in which none is missing
+pub valid_operand : {T C : Type 0} (cell : Option T → C) (v : Validities) (n : ℕ) (xs : List T) {column : List (Option T)} {cells : List C} → cells ≡ map cell column → nullables (validities v) xs ≡ column → length (validities v) ≡ length xs → v ≡ shown.All n → cells ≡ map cell (map Some xs)
+valid_operand cell v n xs e f even is =
+    let Even : Validities → Type 0 = λ w. length (validities w) ≡ length xs in
+    let all : nullables (validities v) xs ≡ map Some xs = ap (λ w. nullables (validities w) xs) is ∙ nullables-there n xs (subst Even is even) in
+    e ∙ ap (map cell) (sym f ∙ all)
 
 pub ruleset operand_rules = (length-zip, map-replicate, replicate-push, repeated_cell)

@@ -1,7 +1,7 @@
 -- Columns whose places are replaced one after another.
 use Rattle.std.proofs.Common.{◌≡◌, ℕ, zero, suc, ◌+◌, ◌<◌, Bool, true, false, List, [], ◌∷◌, Option, Some, None, length, get_or, set, refl, ap, sym, ◌∙◌, arith}
 use Rattle.std.proofs.lemmas.List.{length-set}
-use Rattle.pipe_frame.specs.Column.{nullable, nullables, nullable_at}
+use Rattle.pipe_column.specs.Column.{nullable, nullables, nullable_at}
 use Rattle.pipe_expr.specs.Nullables.{zip_with}
 use Rattle.pipe_expr.proofs.NullableRows.{nullable_at-read}
 

@@ -1,20 +1,20 @@
 -- From the values of the parts of an expression to its own.
 use Rattle.std.proofs.Common.{◌≡◌, Bool, true, false, cond, List, [], ◌∷◌, Option, Some, None, is_some, length, map, replicate, refl, ap, sym, ◌∙◌, Bor}
 use Rattle.std.proofs.lemmas.List.{length-map}
-use Rattle.pipe_frame.specs.Cell.{eq_dtype, fits_dtype}
-use Rattle.pipe_frame.specs.Rows.{Row}
+use Rattle.pipe_schema.specs.Cell.{eq_dtype, fits_dtype}
+use Rattle.pipe_schema.specs.Rows.{Row}
 use Rattle.pipe_frame.specs.Frame.{Table}
-use Rattle.pipe_frame.specs.declared.any_value.AnyValue.{AnyValue}
-use Rattle.pipe_frame.specs.declared.data_type.DataType.{DataType}
-use Rattle.pipe_frame.specs.declared.field.Field.{Field}
-use Rattle.pipe_frame.specs.declared.data_type.DataType.TheVariants as dtype
+use Rattle.pipe_schema.specs.declared.any_value.AnyValue.{AnyValue}
+use Rattle.pipe_schema.specs.declared.data_type.DataType.{DataType}
+use Rattle.pipe_schema.specs.declared.field.Field.{Field}
+use Rattle.pipe_schema.specs.declared.data_type.DataType.TheVariants as dtype
 use Rattle.pipe_expr.specs.Types.{type_of, literal_type, not_type, null_test_type}
 use Rattle.pipe_expr.specs.Values.{value_of, opposite_of, null_test_cell}
 use Rattle.pipe_expr.specs.Nullables.{zip_with}
 use Rattle.pipe_expr.specs.Operands.{operand_dtype, operand_cells}
 use Rattle.pipe_expr.specs.Evaluation.{IsValueOf, type_of_two, value_of_two}
 use Rattle.pipe_expr.specs.Formula.{Formula, Literal, Add, Sub, Mul, Eq, NotEq, Lt, LtEq, Gt, GtEq, And, Or, Not, IsNull, IsNotNull}
-use Rattle.pipe_frame.specs.Series.{Cells}
+use Rattle.pipe_column.specs.Series.{Cells}
 use Rattle.pipe_expr.specs.declared.operand.Operand.{Operand}
 use Rattle.pipe_expr.specs.declared.operand.Operand.TheVariants as operand
 

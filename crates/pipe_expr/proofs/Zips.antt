@@ -1,6 +1,6 @@
 -- An operator on cells, through the values in them.
 use Rattle.std.proofs.Common.{◌≡◌, List, [], ◌∷◌, Option, map, refl, ap, ◌∙◌}
-use Rattle.pipe_frame.specs.declared.any_value.AnyValue.{AnyValue}
+use Rattle.pipe_schema.specs.declared.any_value.AnyValue.{AnyValue}
 use Rattle.pipe_expr.specs.Nullables.{zip_with}
 use Rattle.pipe_expr.specs.Operands.{Zips}
 

@@ -1,5 +1,5 @@
 -- The operations on integers.
-use Rattle.pipe_frame.specs.declared.any_value.AnyValue.{AnyValue}
+use Rattle.pipe_schema.specs.declared.any_value.AnyValue.{AnyValue}
 use Rattle.pipe_expr.specs.Values.{sum_of, difference_of, product_of}
 use Rattle.pipe_expr.specs.declared.arithmetic.Arithmetic.{Arithmetic}
 use Rattle.pipe_expr.specs.declared.arithmetic.Arithmetic.TheVariants as operation

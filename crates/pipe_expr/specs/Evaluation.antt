@@ -2,10 +2,10 @@
 use Rattle.std.specs.Prelude.{◌≡◌, ℕ, Option, Some, None, map, length}
 use Rattle.std.specs.Ordering.{is_eq, is_ne, is_lt, is_le, is_gt, is_ge}
 use Rattle.pipe_frame.specs.Frame.{Table}
-use Rattle.pipe_frame.specs.Series.{Cells}
-use Rattle.pipe_frame.specs.declared.any_value.AnyValue.{AnyValue}
-use Rattle.pipe_frame.specs.declared.any_value.AnyValue.TheVariants as cell
-use Rattle.pipe_frame.specs.declared.data_type.DataType.{DataType}
+use Rattle.pipe_column.specs.Series.{Cells}
+use Rattle.pipe_schema.specs.declared.any_value.AnyValue.{AnyValue}
+use Rattle.pipe_schema.specs.declared.any_value.AnyValue.TheVariants as cell
+use Rattle.pipe_schema.specs.declared.data_type.DataType.{DataType}
 use Rattle.pipe_expr.specs.Types.{type_of, arithmetic_type, comparison_type, logic_type}
 use Rattle.pipe_expr.specs.Values.{value_of, sum_of, difference_of, product_of, compared, both_of, either_of}
 use Rattle.pipe_expr.specs.Operands.{operand_dtype, operand_cells, IsOperand, IsRowByRow}

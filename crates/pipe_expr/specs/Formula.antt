@@ -1,7 +1,7 @@
 -- The formula of an expression: its operators, names and values, wherever its parts lie in memory.
 use Rattle.std.specs.Prelude.{ℕ, List, map}
-use Rattle.pipe_frame.specs.declared.any_value.AnyValue.{AnyValue}
-use Rattle.pipe_frame.specs.declared.data_type.DataType.{DataType}
+use Rattle.pipe_schema.specs.declared.any_value.AnyValue.{AnyValue}
+use Rattle.pipe_schema.specs.declared.data_type.DataType.{DataType}
 use Rattle.pipe_expr.specs.declared.expr.Expr.{Expr, Col, Lit, Add', Sub', Mul', Eq', NotEq', Lt', LtEq', Gt', GtEq', And', Or', Not', IsNull', IsNotNull'}
 use Rattle.pipe_expr.specs.declared.expr.NamedExpr.{NamedExpr}
 

@@ -1,9 +1,9 @@
 -- What operators give on nullable values, and on columns of them.
 use Rattle.std.specs.Prelude.{◌≡◌, List, [], ◌∷◌, Bool, true, false, not, Option, Some, None}
 use Rattle.std.specs.declared.cmp.Ordering.{Ordering}
-use Rattle.pipe_frame.specs.Cell.{is_null_cell}
-use Rattle.pipe_frame.specs.Column.{nullable, nullables}
-use Rattle.pipe_frame.specs.declared.any_value.AnyValue.{AnyValue}
+use Rattle.pipe_schema.specs.Cell.{is_null_cell}
+use Rattle.pipe_column.specs.Column.{nullable, nullables}
+use Rattle.pipe_schema.specs.declared.any_value.AnyValue.{AnyValue}
 
 -- two lists, item by item
 abbrev pub zip_with : {A B C : Type 0} → (A → B → C) → List A → List B → List C

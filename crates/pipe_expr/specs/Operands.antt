@@ -1,14 +1,14 @@
 -- What a subexpression gives over so many rows.
-use Rattle.std.specs.Prelude.{◌≡◌, ℕ, Bool, List, Option, IsTrue, map, length, replicate}
+use Rattle.std.specs.Prelude.{◌≡◌, ℕ, Bool, List, Option, Some, IsTrue, map, length, replicate}
 use Rattle.std.specs.Ordering.{nat_cmp}
 use Rattle.std.specs.Cmp.Lexicographic.{slice_cmp}
 use Rattle.std.specs.declared.cmp.Ordering.{Ordering}
 use Rattle.std.specs.Option.{option_copied}
-use Rattle.pipe_frame.specs.Cell.{fits_dtype}
-use Rattle.pipe_frame.specs.Column.{nullable, nullables}
-use Rattle.pipe_frame.specs.Series.{Cells}
-use Rattle.pipe_frame.specs.declared.any_value.AnyValue.{AnyValue}
-use Rattle.pipe_frame.specs.declared.data_type.DataType.{DataType}
+use Rattle.pipe_schema.specs.Cell.{fits_dtype}
+use Rattle.pipe_column.specs.Column.{nullable, nullables}
+use Rattle.pipe_column.specs.Series.{Cells}
+use Rattle.pipe_schema.specs.declared.any_value.AnyValue.{AnyValue}
+use Rattle.pipe_schema.specs.declared.data_type.DataType.{DataType}
 use Rattle.pipe_expr.specs.Nullables.{zip_with, strictly, tested}
 use Rattle.pipe_expr.specs.declared.operand.Operand.{Operand}
 use Rattle.pipe_expr.specs.declared.operand.Operand.TheVariants as operand
@@ -36,6 +36,7 @@ IsOperand rows (operand.Constant dtype cell) = IsTrue (fits_dtype dtype cell.now
 -- the nullable values of an operand of a fixed-width type
 abbrev pub native_values : {T : Type 0} → NativeOperand T → List (Option T)
 native_values (native.Column column) = nullables column.validity.now column.values.now
+native_values (native.Valid column) = map Some column.values.now
 native_values (native.Scalar scalar) = replicate scalar.rows (nullable scalar.valid scalar.value)
 
 abbrev pub zip_native : {T U : Type 0} → (Option T → Option T → Option U) → NativeOperand T → NativeOperand T → List (Option U)

@@ -1,8 +1,8 @@
 -- Expressions that were made for a schema, and the columns that they give.
 use Rattle.std.specs.Prelude.{ℕ, List, map}
 use Rattle.pipe_frame.specs.Frame.{Table}
-use Rattle.pipe_frame.specs.Series.{Cells, named_cells}
-use Rattle.pipe_frame.specs.declared.field.Field.{Field}
+use Rattle.pipe_column.specs.Series.{Cells, named_cells}
+use Rattle.pipe_schema.specs.declared.field.Field.{Field}
 use Rattle.pipe_expr.specs.Types.{type_of}
 use Rattle.pipe_expr.specs.Values.{value_of}
 use Rattle.pipe_expr.specs.Projections.{known_type}

@@ -1,7 +1,7 @@
 -- Why a formula has no type: a name that is unknown comes before a type that doesn't fit.
 use Rattle.std.specs.Prelude.{◌≡◌, ◌⊎◌, ℕ, List, Option, Some, None, IsTrue, is_some}
-use Rattle.pipe_frame.specs.declared.data_type.DataType.{DataType}
-use Rattle.pipe_frame.specs.declared.field.Field.{Field}
+use Rattle.pipe_schema.specs.declared.data_type.DataType.{DataType}
+use Rattle.pipe_schema.specs.declared.field.Field.{Field}
 use Rattle.pipe_expr.specs.Types.{type_of, unknown_column}
 use Rattle.pipe_expr.specs.declared.error.ExprError.{ExprError}
 use Rattle.pipe_expr.specs.declared.error.ExprError.TheVariants as fault

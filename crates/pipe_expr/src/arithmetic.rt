@@ -9,7 +9,8 @@ use crate::integer::Integer;
 use crate::kernel::{Difference, Product, Sum};
 use crate::native_operand::zip_into;
 use crate::operand::Operand;
-use pipe_frame::{DataType, Series};
+use pipe_column::Series;
+use pipe_schema::DataType;
 use std::alloc::{AllocError, Global};
 
 /// An operation on two integers of one type.

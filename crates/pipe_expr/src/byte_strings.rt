@@ -2,15 +2,16 @@
 
 ghost use Rattle.std.specs.Prelude.{◌≡◌, ◌<◌, length, map, IsTrue};
 ghost use Rattle.std.specs.Option.{option_copied};
-ghost use Rattle.pipe_frame.specs.Cell.{fits_dtype, string_cell, binary_cell};
-ghost use Rattle.pipe_frame.specs.Column.{nullable_at};
-ghost use Rattle.pipe_frame.specs.declared.data_type.DataType.TheVariants as dtype;
+ghost use Rattle.pipe_schema.specs.Cell.{fits_dtype, string_cell, binary_cell};
+ghost use Rattle.pipe_column.specs.Column.{nullable_at};
+ghost use Rattle.pipe_schema.specs.declared.data_type.DataType.TheVariants as dtype;
 ghost use Rattle.pipe_expr.specs.Operands.{operand_dtype, operand_cells, IsOperand, byte_strings, compared_strings};
 
 use crate::kernel::Test;
 use crate::nullable_values::NullableValues;
 use crate::operand::Operand;
-use pipe_frame::{AnyValue, BinaryColumn, Series, StringColumn};
+use pipe_column::{BinaryColumn, Series, StringColumn};
+use pipe_schema::AnyValue;
 
 /// Byte strings by row, some of them missing.
 #[derive(Clone, Copy)]

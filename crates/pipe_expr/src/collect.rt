@@ -5,7 +5,7 @@ ghost use Rattle.pipe_expr.specs.Nullables.{zip_with, IsZip};
 
 use crate::kernel::Kernel;
 use crate::nullable_values::NullableValues;
-use pipe_frame::Column;
+use pipe_column::Column;
 use std::alloc::{AllocError, Global};
 
 /// A column of these values.

@@ -2,7 +2,7 @@
 
 ghost use Rattle.std.specs.Prelude.{◌≡◌, length, IfOk};
 ghost use Rattle.std.specs.Ordering.{is_eq, is_ne, is_lt, is_le, is_gt, is_ge};
-ghost use Rattle.pipe_frame.specs.declared.data_type.DataType.TheVariants as dtype;
+ghost use Rattle.pipe_schema.specs.declared.data_type.DataType.TheVariants as dtype;
 ghost use Rattle.pipe_expr.specs.Values.{compared};
 ghost use Rattle.pipe_expr.specs.Operands.{operand_dtype, IsRowByRow, IsOperand, byte_strings, compared_strings};
 
@@ -11,7 +11,8 @@ use crate::collect::collect;
 use crate::kernel::{Compared, Test};
 use crate::native_operand::zip;
 use crate::operand::Operand;
-use pipe_frame::{Column, DataType, Series, Text};
+use pipe_column::{Column, Series};
+use pipe_schema::{DataType, Text};
 use std::alloc::{AllocError, Global};
 use std::cmp::Ordering;
 

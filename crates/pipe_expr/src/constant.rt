@@ -2,15 +2,16 @@
 
 ghost use Rattle.std.specs.Prelude.{◌≡◌, replicate, IfOk, IsTrue};
 ghost use Rattle.std.specs.Option.{option_copied};
-ghost use Rattle.pipe_frame.specs.Cell.{fits_dtype, string_cell};
-ghost use Rattle.pipe_frame.specs.declared.data_type.DataType.TheVariants as dtype;
+ghost use Rattle.pipe_schema.specs.Cell.{fits_dtype, string_cell};
+ghost use Rattle.pipe_schema.specs.declared.data_type.DataType.TheVariants as dtype;
 ghost use Rattle.pipe_expr.specs.Operands.{operand_dtype, operand_cells, IsOperand};
 
 use crate::byte_strings::bytes_in;
 use crate::collect::collect;
 use crate::nullable_values::ScalarValue;
 use crate::operand::Operand;
-use pipe_frame::{AnyValue, BinaryColumn, DataType, Native, Series, StringColumn, Text, TryClone};
+use pipe_column::{BinaryColumn, Native, Series, StringColumn};
+use pipe_schema::{AnyValue, DataType, Text, TryClone};
 use std::alloc::{AllocError, Global};
 
 /// A cell of a fixed-width type, at each of so many rows.

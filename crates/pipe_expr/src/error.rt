@@ -1,6 +1,6 @@
 //! Why an expression has no type.
 
-use pipe_frame::Text;
+use pipe_schema::Text;
 use std::alloc::AllocError;
 use thiserror::Error;
 

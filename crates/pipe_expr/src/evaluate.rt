@@ -17,7 +17,9 @@ use crate::expr::Expr;
 use crate::logic::{both, either, negated};
 use crate::null_test::test_for_null;
 use crate::operand::Operand;
-use pipe_frame::{DataFrame, Series, Text};
+use pipe_column::Series;
+use pipe_frame::DataFrame;
+use pipe_schema::Text;
 use std::alloc::{AllocError, Global};
 
 /// What an expression's operator gives of the values of its two sides, row by row.

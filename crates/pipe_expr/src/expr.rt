@@ -1,6 +1,6 @@
 //! Expressions over the columns of a row.
 
-use pipe_frame::{AnyValue, DataType, Text};
+use pipe_schema::{AnyValue, DataType, Text};
 
 /// An expression over a row.
 #[derive(Debug, Drop)]

@@ -5,7 +5,7 @@ ghost use Rattle.std.specs.Int.{int_wrapping_add, int_wrapping_sub, int_wrapping
 ghost use Rattle.pipe_expr.specs.Nullables.{IsOnCells};
 ghost use Rattle.pipe_expr.specs.Values.{sum_of, difference_of, product_of};
 
-use pipe_frame::Native;
+use pipe_column::Native;
 
 /// An integer of a fixed width.
 pub(crate) trait Integer: Native {

@@ -1,7 +1,7 @@
 //! The law of a join's shares.
 
 ghost use Rattle.std.specs.Prelude.{List, true, false};
-ghost use Rattle.pipe_frame.specs.Rows.{Row as Cells, Same};
+ghost use Rattle.pipe_schema.specs.Rows.{Row as Cells, Same};
 ghost use Rattle.pipe_expr.specs.Joins.{Join, join_rows};
 ghost use Rattle.pipe_expr.specs.Shares.{all_shares};
 

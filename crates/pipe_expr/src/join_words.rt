@@ -1,6 +1,6 @@
 //! The words of joins and functions that the layers share.
 
-use pipe_frame::{List, Text};
+use pipe_schema::{List, Text};
 
 /// Which rows a join gives.
 #[derive(Clone, Copy, Debug, PartialEq, Eq)]

@@ -1,7 +1,7 @@
 //! Laws of the definitions.
 
 ghost use Rattle.std.specs.Prelude.{◌≡◌, List, None};
-ghost use Rattle.pipe_frame.specs.declared.field.Field.{Field as Column};
+ghost use Rattle.pipe_schema.specs.declared.field.Field.{Field as Column};
 ghost use Rattle.pipe_expr.specs.Formula.{Formula};
 ghost use Rattle.pipe_expr.specs.Types.{unknown_column};
 ghost use Rattle.pipe_expr.specs.Typing.{IsTyped};

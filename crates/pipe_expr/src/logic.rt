@@ -1,7 +1,7 @@
 //! Three-valued `and`, `or` and `not` of columns.
 
 ghost use Rattle.std.specs.Prelude.{◌≡◌, IfOk};
-ghost use Rattle.pipe_frame.specs.declared.data_type.DataType.TheVariants as dtype;
+ghost use Rattle.pipe_schema.specs.declared.data_type.DataType.TheVariants as dtype;
 ghost use Rattle.pipe_expr.specs.Values.{both_of, either_of, opposite_of};
 ghost use Rattle.pipe_expr.specs.Operands.{operand_dtype, each_row, IsRowByRow, IsOperand};
 
@@ -9,7 +9,8 @@ use crate::comparison::IsOther;
 use crate::kernel::{Both, Compared, Either};
 use crate::native_operand::zip_into;
 use crate::operand::Operand;
-use pipe_frame::{AnyValue, DataType, Series};
+use pipe_column::Series;
+use pipe_schema::{AnyValue, DataType};
 use std::alloc::{AllocError, Global};
 
 /// The `and` of two operands of truth values, row by row.

@@ -6,19 +6,23 @@ ghost use Rattle.pipe_expr.specs.Operands.{operand_dtype, operand_cells, IsOpera
 
 use crate::collect::{collect, collect_into};
 use crate::kernel::Kernel;
-use crate::nullable_values::{ColumnValues, ScalarValue, Zipped};
+use crate::nullable_values::{ColumnValues, NullableValues, ScalarValue, ValidValues, Zipped};
 use crate::operand::Operand;
-use pipe_frame::{Column, Native, Series, Text};
+use pipe_column::{Column, Native, Series, Validities};
+use pipe_schema::Text;
 use std::alloc::{AllocError, Global};
 
 /// The values of an operand of a fixed-width type.
 #[derive(Clone, Copy)]
 pub(crate) enum NativeOperand<'a, T> {
     Column(ColumnValues<'a, T>),
+    /// A column in which no value is missing, so that loops read no validity.
+    Valid(ValidValues<'a, T>),
     Scalar(ScalarValue<T>),
 }
 
 /// The values of a column of a type.
+#[tactic(auto, using(crate::proofs::Operands::valid_operand))]
 fn values_of<T: Native>(series: &Series) -> NativeOperand<'_, T>
     requires { series.now.dtype ≡ T.dtype_of }
     ensures { series.now.cells ≡ map T.cell (native_values result) }
@@ -27,7 +31,10 @@ fn values_of<T: Native>(series: &Series) -> NativeOperand<'_, T>
         unreachable!()
     };
     let (validity, values) = column.parts();
-    NativeOperand::Column(ColumnValues { validity, values })
+    match validity {
+        Validities::All(_) => NativeOperand::Valid(ValidValues { values }),
+        Validities::Each(validity) => NativeOperand::Column(ColumnValues { validity, values }),
+    }
 }
 
 /// The values of an operand of a type.
@@ -47,6 +54,52 @@ fn native_operand<'a, T: Native>(rows: usize, operand: &'a Operand<'a>) -> Nativ
     }
 }
 
+/// What a kernel gives of some values and an operand's values, row by row.
+#[tactic(auto, using(crate::proofs::Operands::operand_rules))]
+fn zip_operand<'a, A: NullableValues + Copy, K: Kernel<A::Value>>(
+    alloc: Global,
+    rows: usize,
+    left: &A,
+    right: NativeOperand<'a, A::Value>,
+    kernel: K,
+) -> Result<Column<K::Output>, AllocError>
+where
+    A::Value: Copy,
+    K::Output: Drop,
+    requires left { length (A.nullables left.now) ≡ rows }
+    requires right { length (native_values right) ≡ rows }
+    ensures { IfOk result
+        (λ c. c ≡ zip_with K.gives (A.nullables left.now) (native_values right.entry)) }
+{
+    let left = *left;
+    match right {
+        NativeOperand::Column(right) => {
+            let zipped = Zipped {
+                left,
+                right,
+                kernel,
+            };
+            Ok(collect(alloc, rows, &zipped)?)
+        }
+        NativeOperand::Valid(right) => {
+            let zipped = Zipped {
+                left,
+                right,
+                kernel,
+            };
+            Ok(collect(alloc, rows, &zipped)?)
+        }
+        NativeOperand::Scalar(right) => {
+            let zipped = Zipped {
+                left,
+                right,
+                kernel,
+            };
+            Ok(collect(alloc, rows, &zipped)?)
+        }
+    }
+}
+
 /// What a kernel gives of two operands' values, row by row.
 #[tactic(auto, using(crate::proofs::Operands::operand_rules))]
 fn zip_values<'a, T: Copy, K: Kernel<T>>(
@@ -62,39 +115,10 @@ where
     requires right { length (native_values right) ≡ rows }
     ensures { IfOk result (λ c. c ≡ zip_native K.gives left.entry right.entry) }
 {
-    match (left, right) {
-        (NativeOperand::Column(left), NativeOperand::Column(right)) => {
-            let zipped = Zipped {
-                left,
-                right,
-                kernel,
-            };
-            Ok(collect(alloc, rows, &zipped)?)
-        }
-        (NativeOperand::Column(left), NativeOperand::Scalar(right)) => {
-            let zipped = Zipped {
-                left,
-                right,
-                kernel,
-            };
-            Ok(collect(alloc, rows, &zipped)?)
-        }
-        (NativeOperand::Scalar(left), NativeOperand::Column(right)) => {
-            let zipped = Zipped {
-                left,
-                right,
-                kernel,
-            };
-            Ok(collect(alloc, rows, &zipped)?)
-        }
-        (NativeOperand::Scalar(left), NativeOperand::Scalar(right)) => {
-            let zipped = Zipped {
-                left,
-                right,
-                kernel,
-            };
-            Ok(collect(alloc, rows, &zipped)?)
-        }
+    match left {
+        NativeOperand::Column(left) => Ok(zip_operand(alloc, rows, &left, right, kernel)?),
+        NativeOperand::Valid(left) => Ok(zip_operand(alloc, rows, &left, right, kernel)?),
+        NativeOperand::Scalar(left) => Ok(zip_operand(alloc, rows, &left, right, kernel)?),
     }
 }
 
@@ -138,6 +162,7 @@ fn zip_column<'a, T: Copy + Drop, K: Kernel<T, Output = T>>(
 {
     match right {
         NativeOperand::Column(right) => collect_into(left, &right, kernel),
+        NativeOperand::Valid(right) => collect_into(left, &right, kernel),
         NativeOperand::Scalar(right) => collect_into(left, &right, kernel),
     }
 }

@@ -1,8 +1,8 @@
 //! Tests for null of columns.
 
 ghost use Rattle.std.specs.Prelude.{◌≡◌, map, IfOk};
-ghost use Rattle.pipe_frame.specs.Cell.{is_null_cell};
-ghost use Rattle.pipe_frame.specs.declared.data_type.DataType.TheVariants as dtype;
+ghost use Rattle.pipe_schema.specs.Cell.{is_null_cell};
+ghost use Rattle.pipe_schema.specs.declared.data_type.DataType.TheVariants as dtype;
 ghost use Rattle.pipe_expr.specs.Nullables.{null_found};
 ghost use Rattle.pipe_expr.specs.Values.{null_test_cell};
 ghost use Rattle.pipe_expr.specs.Operands.{operand_cells, each_row, IsOperand};
@@ -10,7 +10,8 @@ ghost use Rattle.pipe_expr.specs.Operands.{operand_cells, each_row, IsOperand};
 use crate::collect::collect;
 use crate::nullable_values::{NullableValues, ScalarValue};
 use crate::operand::Operand;
-use pipe_frame::{AnyValue, Column, Series, Text};
+use pipe_column::{Column, Series};
+use pipe_schema::{AnyValue, Text};
 use std::alloc::{AllocError, Global};
 
 /// Whether null or no null is wanted and found in a column, row by row.

@@ -1,7 +1,7 @@
 //! What has a nullable value at each of so many rows.
 
-ghost use Rattle.std.specs.Prelude.{◌≡◌, ◌<◌, List, Option, length, replicate};
-ghost use Rattle.pipe_frame.specs.Column.{nullable, nullable_at, nullables as nullables_of};
+ghost use Rattle.std.specs.Prelude.{◌≡◌, ◌<◌, List, Option, Some, length, map, replicate};
+ghost use Rattle.pipe_column.specs.Column.{nullable, nullable_at, nullables as nullables_of};
 ghost use Rattle.pipe_expr.specs.Nullables.{zip_with};
 
 use crate::kernel::Kernel;
@@ -35,6 +35,23 @@ impl<'a, T: Copy> NullableValues for ColumnValues<'a, T> {
 
     fn nullable(&self, i: usize) -> (bool, T) {
         (self.validity[i], self.values[i])
+    }
+}
+
+/// The values of a column in which none is missing.
+#[derive(Clone, Copy)]
+pub(crate) struct ValidValues<'a, T> {
+    pub(crate) values: &'a [T],
+}
+
+#[tactic(auto, using(crate::proofs::NullableRows::nullable_rules))]
+impl<'a, T: Copy> NullableValues for ValidValues<'a, T> {
+    type Value = T;
+
+    ghost nullables = { λ s. map Some s.values.now };
+
+    fn nullable(&self, i: usize) -> (bool, T) {
+        (true, self.values[i])
     }
 }
 

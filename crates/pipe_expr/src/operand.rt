@@ -3,7 +3,8 @@
 ghost use Rattle.std.specs.Prelude.{◌≡◌};
 ghost use Rattle.pipe_expr.specs.Operands.{operand_dtype};
 
-use pipe_frame::{AnyValue, DataType, Series};
+use pipe_column::Series;
+use pipe_schema::{AnyValue, DataType};
 
 /// The values of a subexpression.
 #[derive(Drop)]

@@ -8,7 +8,9 @@ ghost use Rattle.pipe_expr.specs.Typing.{IsTyped};
 use crate::evaluate::evaluate_expr;
 use crate::expr::NamedExpr;
 use crate::typing::expr_type;
-use pipe_frame::{DataChunk, Field, Schema, Series, Text, TryClone};
+use pipe_column::Series;
+use pipe_frame::DataChunk;
+use pipe_schema::{Field, Schema, Text, TryClone};
 use std::alloc::{AllocError, Global};
 use std::marker::Model;
 
@@ -16,7 +18,7 @@ use std::marker::Model;
 pub trait PhysicalPipedExpr: Send + Sync {
     ghost use Rattle.std.specs.Prelude.{List};
     ghost use Rattle.pipe_frame.specs.Chunks.{HasSchema};
-    ghost use Rattle.pipe_frame.specs.declared.field.Field.{Field as Column};
+    ghost use Rattle.pipe_schema.specs.declared.field.Field.{Field as Column};
     ghost use Rattle.pipe_expr.specs.Projections.{expr_field};
     ghost use Rattle.pipe_expr.specs.Formula.{NamedFormula, named_formula_of};
 

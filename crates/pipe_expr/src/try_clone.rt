@@ -7,7 +7,7 @@ ghost use Rattle.pipe_expr.specs.Formula.{formula_of, formulas_of, named_formula
 
 use crate::expr::{Expr, NamedExpr};
 use crate::join_words::{FunctionIR, RenamePair};
-use pipe_frame::{List, TryClone};
+use pipe_schema::{List, TryClone};
 use std::alloc::{AllocError, Global};
 
 /// A copy of an expression in a box, by the same allocator.

@@ -2,14 +2,14 @@
 
 ghost use Rattle.std.specs.Prelude.{◌≡◌, Some, None, IfOk, IfErr};
 ghost use Rattle.std.specs.Option.{option_copied};
-ghost use Rattle.pipe_frame.specs.Cell.{eq_dtype};
+ghost use Rattle.pipe_schema.specs.Cell.{eq_dtype};
 ghost use Rattle.pipe_expr.specs.Formula.{formula_of};
 ghost use Rattle.pipe_expr.specs.Types.{type_of as expr_type_of, type_of_column, unknown_column, is_integer, literal_type, arithmetic_type, comparison_type, not_type, logic_type, null_test_type};
 ghost use Rattle.pipe_expr.specs.Typing.{IsTold};
 
 use crate::error::ExprError;
 use crate::expr::Expr;
-use pipe_frame::{AnyValue, DataType, Field, Schema, Text};
+use pipe_schema::{AnyValue, DataType, Field, Schema, Text};
 use std::alloc::Global;
 
 /// Whether two types are the same.

@@ -1,16 +1,6 @@
-pub mod Parts
-pub mod Nullables
-pub mod Texts
-pub mod Pieces
-pub mod Cells
-pub mod SeriesCells
 pub mod Tables
 pub mod RowOps
 pub mod Sizes
 pub mod Selects
-pub mod Weights
-pub mod NamePlaces
-pub mod NativeBytes
-pub mod NameOrders
-pub mod NameSets
 pub mod Stacks
+pub mod Queues

@@ -6,15 +6,15 @@ use Rattle.std.proofs.lemmas.Bool.{cases_lt}
 use Rattle.std.proofs.lemmas.List.{length-map, get_or-map, get_or-take, get_or-drop, length-drop, length-take-le, take_at, take_all, set-get_or, get_or_append_left, get_or-append_right, drop_more}
 use Rattle.std.proofs.lemmas.List.FromFn.{fill_by_all}
 use Rattle.std.proofs.lemmas.List.Elements.{All-cons, All-nil}
-use Rattle.pipe_frame.specs.Rows.{Row}
-use Rattle.pipe_frame.specs.Cell.{boolean_cell}
-use Rattle.pipe_frame.specs.Series.{Cells, cell_at, cell_or_null}
-use Rattle.pipe_frame.specs.Schema.{IsSchema}
-use Rattle.pipe_frame.specs.Columns.{taken_column, taken_columns, part_column, front_column, stacked_column, stacked_front, true_places}
-use Rattle.pipe_frame.specs.Frame.{Table, field_of, row_at, column_rows, table_of, AllOfHeight, IsRowOrNone, row_or_nulls, chosen_rows, kept_rows, height_of}
-use Rattle.pipe_frame.specs.declared.field.Field.{Field}
-use Rattle.pipe_frame.specs.declared.any_value.AnyValue.{AnyValue}
-use Rattle.pipe_frame.specs.declared.any_value.AnyValue.TheVariants as cell
+use Rattle.pipe_schema.specs.Rows.{Row}
+use Rattle.pipe_schema.specs.Cell.{boolean_cell}
+use Rattle.pipe_column.specs.Series.{Cells, cell_at, cell_or_null}
+use Rattle.pipe_schema.specs.Schema.{IsSchema}
+use Rattle.pipe_column.specs.Columns.{taken_column, taken_columns, part_column, front_column, stacked_column, stacked_front, true_places, field_of, row_at, column_rows, AllOfHeight, height_of}
+use Rattle.pipe_frame.specs.Frame.{Table, table_of, IsRowOrNone, row_or_nulls, chosen_rows, kept_rows}
+use Rattle.pipe_schema.specs.declared.field.Field.{Field}
+use Rattle.pipe_schema.specs.declared.any_value.AnyValue.{AnyValue}
+use Rattle.pipe_schema.specs.declared.any_value.AnyValue.TheVariants as cell
 use Rattle.pipe_frame.proofs.Tables.{length-column_rows, get_or-column_rows}
 
 -- ---- one column after another

@@ -7,11 +7,12 @@ use Rattle.std.specs.Cmp.Lexicographic.{bytes_decides}
 use Rattle.std.proofs.lemmas.Option.{slice_get-map, slice_get-get_or}
 use Rattle.std.proofs.lemmas.List.{length-map, take_more, drop_more}
 use Rattle.std.proofs.lemmas.List.Elements.{All-cons, All-nil, filter_map-append}
-use Rattle.pipe_frame.specs.Series.{Cells}
-use Rattle.pipe_frame.specs.Schema.{has_name, name_of, names_of, names_fault, IsSchema, place_from, place_of, first_unknown}
-use Rattle.pipe_frame.specs.Frame.{Table, field_of, cell_in, row_at, column_rows, table_of, AllOfHeight, at_places, place_named, places_named, row_at_places, selected}
-use Rattle.pipe_frame.specs.declared.field.Field.{Field}
-use Rattle.pipe_frame.proofs.NamePlaces.{is_some-place_from}
+use Rattle.pipe_column.specs.Series.{Cells}
+use Rattle.pipe_schema.specs.Schema.{has_name, name_of, names_of, names_fault, IsSchema, place_from, place_of, first_unknown}
+use Rattle.pipe_column.specs.Columns.{field_of, cell_in, row_at, column_rows, AllOfHeight}
+use Rattle.pipe_frame.specs.Frame.{Table, table_of, at_places, place_named, places_named, row_at_places, selected}
+use Rattle.pipe_schema.specs.declared.field.Field.{Field}
+use Rattle.pipe_schema.proofs.NamePlaces.{is_some-place_from}
 use Rattle.pipe_frame.proofs.Tables.{map_map, map_same}
 
 -- ---- what stands at places

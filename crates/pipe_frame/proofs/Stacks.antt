@@ -9,14 +9,14 @@ use Rattle.std.proofs.lemmas.List.FromFn.{get_or-map-range_with_len}
 use Rattle.std.proofs.lemmas.Option.{slice_get-get_or, get_or_from_slice_get, slice_get_within}
 use Rattle.std.proofs.Math.Seq.{take-suc}
 use Rattle.pipe_frame.specs.Chunks.{chunk_rows, HasFieldAt, HasSchema}
-use Rattle.pipe_frame.specs.Rows.{Row, HasWidth}
-use Rattle.pipe_frame.specs.Series.{Cells}
-use Rattle.pipe_frame.specs.Columns.{stacked_column}
-use Rattle.pipe_frame.specs.Frame.{Table, field_of, cell_in, row_at, column_rows, table_of, AllOfHeight, cell_of_row, column_of, columns_from, columns_of}
+use Rattle.pipe_schema.specs.Rows.{Row, HasWidth}
+use Rattle.pipe_column.specs.Series.{Cells}
+use Rattle.pipe_column.specs.Columns.{stacked_column, field_of, cell_in, row_at, column_rows, AllOfHeight}
+use Rattle.pipe_frame.specs.Frame.{Table, table_of, cell_of_row, column_of, columns_from, columns_of}
 use Rattle.pipe_frame.specs.declared.chunk.DataChunk.{DataChunk}
-use Rattle.pipe_frame.specs.declared.data_type.DataType.TheVariants as type
-use Rattle.pipe_frame.specs.declared.field.Field.{Field}
-use Rattle.pipe_frame.specs.declared.any_value.AnyValue.TheVariants as cell
+use Rattle.pipe_schema.specs.declared.data_type.DataType.TheVariants as type
+use Rattle.pipe_schema.specs.declared.field.Field.{Field}
+use Rattle.pipe_schema.specs.declared.any_value.AnyValue.TheVariants as cell
 use Rattle.pipe_frame.proofs.Tables.{length-column_rows, get_or-column_rows}
 
 -- ---- the columns of a frame

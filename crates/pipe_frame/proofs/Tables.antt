@@ -8,12 +8,13 @@ use Rattle.std.proofs.lemmas.List.FromFn.{length-map-range_with_len, get_or-map-
 use Rattle.std.proofs.lemmas.List.Elements.{All-cons, All-nil}
 use Rattle.std.proofs.lemmas.Option.{slice_get-get_or}
 use Rattle.std.proofs.lemmas.Bool.Decides.{Decides-eqb}
-use Rattle.pipe_frame.specs.Rows.{Row}
-use Rattle.pipe_frame.specs.Series.{Cells, cell_at, chosen_cells}
-use Rattle.pipe_frame.specs.Frame.{Table, field_of, cell_in, row_at, column_rows, table_of, AllOfHeight, chosen_rows, chosen_column, chosen_columns, cell_of_row, columns_from, columns_of, other_height, height_of}
-use Rattle.pipe_frame.specs.Schema.{IsSchema}
-use Rattle.pipe_frame.specs.declared.field.Field.{Field}
-use Rattle.pipe_frame.specs.declared.any_value.AnyValue.TheVariants as cell
+use Rattle.pipe_schema.specs.Rows.{Row}
+use Rattle.pipe_column.specs.Series.{Cells, cell_at, chosen_cells}
+use Rattle.pipe_column.specs.Columns.{field_of, cell_in, row_at, column_rows, AllOfHeight, chosen_column, chosen_columns, other_height, height_of}
+use Rattle.pipe_frame.specs.Frame.{Table, table_of, chosen_rows, cell_of_row, columns_from, columns_of}
+use Rattle.pipe_schema.specs.Schema.{IsSchema}
+use Rattle.pipe_schema.specs.declared.field.Field.{Field}
+use Rattle.pipe_schema.specs.declared.any_value.AnyValue.TheVariants as cell
 
 -- as many rows as the height says
 pub length-column_rows : (columns : List Cells) (height : ℕ) → length (column_rows columns height) ≡ height

@@ -2,9 +2,9 @@
 use Rattle.std.specs.Prelude.{◌≡◌, ℕ, List, Some, slice_get}
 use Rattle.std.specs.List.{flat_map}
 use Rattle.pipe_frame.specs.Frame.{Table}
-use Rattle.pipe_frame.specs.Rows.{Row}
+use Rattle.pipe_schema.specs.Rows.{Row}
 use Rattle.pipe_frame.specs.declared.chunk.DataChunk.{DataChunk}
-use Rattle.pipe_frame.specs.declared.field.Field.{Field}
+use Rattle.pipe_schema.specs.declared.field.Field.{Field}
 
 -- the rows of a chunk
 abbrev pub chunk_rows : DataChunk → List Row

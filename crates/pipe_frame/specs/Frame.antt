@@ -1,63 +1,28 @@
 -- Frames (relational algebra): a frame stands for its schema and its list of rows.
-use Rattle.std.specs.Prelude.{◌≡◌, ℕ, ◌+◌, ◌<◌, List, [], ◌∷◌, ◌++◌, take, drop, ◌==◌, if◌then◌else◌, Option, Some, None, map, All, length, replicate, slice_get, slice_index_or, filter_map, option_map}
-use Rattle.std.specs.List.{range_with_len}
-use Rattle.pipe_frame.specs.Rows.{Row}
-use Rattle.pipe_frame.specs.Series.{Cells, cell_at, chosen_cells}
-use Rattle.pipe_frame.specs.Cell.{is_true_cell}
-use Rattle.pipe_frame.specs.Schema.{names_of, names_fault, place_of, first_unknown}
-use Rattle.pipe_frame.specs.declared.any_value.AnyValue.{AnyValue}
-use Rattle.pipe_frame.specs.declared.any_value.AnyValue.TheVariants as cell
-use Rattle.pipe_frame.specs.declared.field.Field.{Field}
-use Rattle.pipe_frame.specs.declared.error.FrameError.{FrameError}
-use Rattle.pipe_frame.specs.declared.error.FrameError.TheVariants as fault
+use Rattle.std.specs.Prelude.{ℕ, ◌+◌, ◌<◌, List, [], ◌∷◌, ◌++◌, take, drop, if◌then◌else◌, Option, Some, None, map, length, replicate, slice_get, slice_index_or, filter_map, option_map}
+use Rattle.pipe_schema.specs.Rows.{Row}
+use Rattle.pipe_column.specs.Series.{Cells, cell_at}
+use Rattle.pipe_schema.specs.Cell.{is_true_cell}
+use Rattle.pipe_schema.specs.Schema.{names_of, names_fault, place_of, first_unknown}
+use Rattle.pipe_schema.specs.declared.any_value.AnyValue.{AnyValue}
+use Rattle.pipe_schema.specs.declared.any_value.AnyValue.TheVariants as cell
+use Rattle.pipe_schema.specs.declared.field.Field.{Field}
+use Rattle.pipe_schema.specs.declared.error.FrameError.{FrameError}
+use Rattle.pipe_schema.specs.declared.error.FrameError.TheVariants as fault
+use Rattle.pipe_column.specs.Columns.{field_of, column_rows, height_of, other_height}
 
 -- a frame as its reader sees it
 pub record Table : Type 0 where
   pub schema : List Field
   pub rows : List Row
 
-abbrev pub field_of : Cells → Field
-field_of column = record { name = column.name; dtype = column.dtype }
-
--- a column's cell at a place
-abbrev pub cell_in : ℕ → Cells → AnyValue
-cell_in i column = cell_at column.cells i
-
--- the row at a place of some columns
-abbrev pub row_at : List Cells → ℕ → Row
-row_at columns i = map (cell_in i) columns
-
--- the rows of some columns
-abbrev pub column_rows : List Cells → ℕ → List Row
-column_rows columns height = map (row_at columns) (range_with_len 0 height)
-
--- the height of the first column
-abbrev pub height_of : List Cells → ℕ
-height_of [] = 0
-height_of (column ∷ columns) = length column.cells
-
--- the rows of columns of one height
-abbrev pub even_rows : List Cells → List Row
-even_rows columns = column_rows columns (height_of columns)
-
 -- the frame of some columns
 abbrev pub table_of : List Cells → ℕ → Table
 table_of columns height = record { schema = map field_of columns; rows = column_rows columns height }
 
--- each column has so many cells
-abbrev pub AllOfHeight : ℕ → List Cells → Type 0
-AllOfHeight height columns = All (λ column. length column.cells ≡ height) columns
-
 -- the rows at these places
 abbrev pub chosen_rows : List Row → List ℕ → List Row
 chosen_rows rows places = map (λ i. slice_index_or rows i []) places
-
--- a column with the cells at these places
-abbrev pub chosen_column : List ℕ → Cells → Cells
-chosen_column places column = record column { cells = chosen_cells column.cells places }
-
-abbrev pub chosen_columns : List Cells → List ℕ → List Cells
-chosen_columns columns places = map (chosen_column places) columns
 
 -- a row's cell in a column
 abbrev pub cell_of_row : ℕ → Row → AnyValue
@@ -73,12 +38,6 @@ columns_from i (field ∷ fields) rows = column_of rows i field ∷ columns_from
 
 abbrev pub columns_of : Table → List Cells
 columns_of table = columns_from 0 table.schema table.rows
-
--- the first height that isn't this one
-abbrev pub other_height : ℕ → List Cells → Option ℕ
-other_height height [] = None
-other_height height (column ∷ columns) =
-    if length column.cells == height then other_height height columns else Some (length column.cells)
 
 abbrev pub differing : ℕ → Option ℕ → Option FrameError
 differing first None = None

@@ -1,6 +1,6 @@
 -- A vertical stacker: frames are gathered until they are large enough to be given out as one.
 use Rattle.std.specs.Prelude.{◌≡◌, ℕ, ◌/◌, List, [], ◌++◌, Option, Some, None, nat_lt, if◌then◌else◌}
-use Rattle.pipe_frame.specs.Rows.{Row}
+use Rattle.pipe_schema.specs.Rows.{Row}
 use Rattle.pipe_frame.specs.Frame.{Table}
 use Rattle.pipe_frame.specs.Sizes.{frame_size}
 use Rattle.pipe_frame.specs.declared.stacker.Stacked.{Stacked}

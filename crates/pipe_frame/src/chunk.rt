@@ -3,7 +3,7 @@
 ghost use Rattle.std.specs.Prelude.{◌≡◌, [], IsTrue, ◌↔◌};
 
 use crate::data_frame::DataFrame;
-use crate::try_clone::TryClone;
+use pipe_schema::TryClone;
 use std::alloc::AllocError;
 
 /// A frame with its place among the chunks of a run.
@@ -39,6 +39,17 @@ impl DataChunk {
             chunk_index: self.chunk_index,
             frame,
         }
+    }
+
+    /// The frame.
+    pub fn into_frame(self) -> DataFrame
+        ensures { result ≡ self.frame }
+    {
+        let DataChunk {
+            chunk_index: _,
+            frame,
+        } = self;
+        frame
     }
 
     /// Whether the chunk has no row.

@@ -1,21 +1,14 @@
 //! What a frame does to its columns, one after another.
 
 ghost use Rattle.std.specs.Prelude.{◌≡◌, ℕ, ◌<◌, ◌≤◌, ◌+◌, [], length, ◌⊎◌, ◌^◌, All, map, option_map, sum_by, IfOk, IfErr, OnOk, OnErr, Some, None};
-ghost use Rattle.pipe_frame.specs.Schema.{MemoryOr, first_unknown};
-ghost use Rattle.pipe_frame.specs.Sizes.{column_size};
-ghost use Rattle.pipe_frame.specs.Columns.{taken_columns, part_column, front_column, stacked_columns, true_places};
-ghost use Rattle.pipe_frame.specs.Frame.{row_at, field_of, height_of, other_height, AllOfHeight, columns_named, unknown_fault};
+ghost use Rattle.pipe_schema.specs.Schema.{MemoryOr, first_unknown};
+ghost use Rattle.pipe_column.specs.Sizes.{column_size};
+ghost use Rattle.pipe_column.specs.Columns.{taken_columns, part_column, front_column, stacked_columns, true_places, row_at, field_of, height_of, other_height, AllOfHeight};
+ghost use Rattle.pipe_frame.specs.Frame.{columns_named, unknown_fault};
 
-use crate::column::Column;
 use crate::data_frame::Row;
-use crate::error::FrameError;
-use crate::field::Field;
-use crate::list::List;
-use crate::place::Place;
-use crate::schema::Schema;
-use crate::series::Series;
-use crate::text::Text;
-use crate::try_clone::TryClone;
+use pipe_column::{Column, Place, Series};
+use pipe_schema::{Field, FrameError, List, Schema, Text, TryClone};
 use std::alloc::{AllocError, Global};
 
 /// The row at a place of some columns.
@@ -145,10 +138,26 @@ pub(crate) fn append_columns(
     Ok(())
 }
 
+/// The places where truth values are true.
+fn places_of_values(alloc: Global, values: &[bool]) -> Result<Vec<usize>, AllocError>
+    ensures { IfOk result (λ places. places.items ≡ true_places 0 (map Some values.now)) }
+{
+    let mut places = Vec::new(alloc);
+    for i in 0..values.len() {
+        if values[i] {
+            places.push(i)?;
+        }
+    }
+    Ok(places)
+}
+
 /// The places where a mask is true.
 pub(crate) fn places_of_true(alloc: Global, mask: &Column<bool>) -> Result<Vec<usize>, AllocError>
     ensures { IfOk result (λ places. places.items ≡ true_places 0 mask.now) }
 {
+    if let Some(values) = mask.values_without_nulls() {
+        return Ok(places_of_values(alloc, values)?);
+    }
     let mut places = Vec::new(alloc);
     for i in 0..mask.len() {
         if let Some(true) = mask.at(i) {

@@ -1,25 +1,20 @@
 //! Frames: columns of one height, each name once.
 
 ghost use Rattle.std.specs.Prelude.{◌≡◌, ℕ, ◌<◌, ◌≤◌, ◌+◌, ◌⊎◌, [], ◌++◌, length, All, map, take, drop, IfOk, IfErr, OnOk, OnErr, Some, None, slice_get, ◌^◌};
-ghost use Rattle.pipe_frame.specs.Schema.{MemoryOr, IsSchema};
-ghost use Rattle.pipe_frame.specs.Frame.{column_rows, even_rows, field_of, columns_of, height_of, frame_fault, table_of, AllOfHeight, IsRowOrNone, with_rows, chosen, taken, filtered, sliced, stacked, selected, select_fault};
-ghost use Rattle.pipe_frame.specs.Rows.{HasWidth};
+ghost use Rattle.pipe_schema.specs.Schema.{MemoryOr, IsSchema};
+ghost use Rattle.pipe_column.specs.Columns.{column_rows, even_rows, field_of, height_of, AllOfHeight};
+ghost use Rattle.pipe_frame.specs.Frame.{columns_of, frame_fault, table_of, IsRowOrNone, with_rows, chosen, taken, filtered, sliced, stacked, selected, select_fault};
+ghost use Rattle.pipe_schema.specs.Rows.{HasWidth};
 ghost use Rattle.pipe_frame.specs.Sizes.{frame_size};
 
-use crate::any_value::AnyValue;
 use crate::columns::{
     append_columns, differing_height, empty_columns, fields_of, first_height, places_of_true,
     row_of, select_columns, share_columns, size_of_columns, slice_columns, take_columns,
 };
-use crate::data_type::DataType;
-use crate::error::FrameError;
-use crate::list::{List, copy_items};
-use crate::names::check_names;
-use crate::place::Place;
-use crate::schema::Schema;
-use crate::series::Series;
-use crate::text::Text;
-use crate::try_clone::TryClone;
+use pipe_column::{Place, Series};
+use pipe_schema::{
+    AnyValue, DataType, FrameError, List, Schema, Text, TryClone, check_names, copy_items,
+};
 use std::alloc::{AllocError, Global};
 use std::marker::Model;
 
@@ -48,8 +43,9 @@ impl Drop for DataFrame {
 
 impl Model for DataFrame {
     ghost use Rattle.std.specs.Prelude.{◌≡◌, map};
-    ghost use Rattle.pipe_frame.specs.Schema.{IsSchema};
-    ghost use Rattle.pipe_frame.specs.Frame.{Table, table_of, field_of, AllOfHeight};
+    ghost use Rattle.pipe_schema.specs.Schema.{IsSchema};
+    ghost use Rattle.pipe_column.specs.Columns.{field_of, AllOfHeight};
+    ghost use Rattle.pipe_frame.specs.Frame.{Table, table_of};
 
     ghost Value = { Table };
 
@@ -151,6 +147,19 @@ impl DataFrame {
         ensures even { AllOfHeight (length self.now.rows) result.now }
     {
         self.columns.as_slice()
+    }
+
+    /// The columns, by value.
+    pub(crate) fn into_columns(self) -> Vec<Series>
+        ensures { result.items ≡ columns_of self }
+    {
+        let DataFrame {
+            schema,
+            columns,
+            height: _,
+        } = self;
+        drop(schema);
+        columns
     }
 
     /// The row at a place.

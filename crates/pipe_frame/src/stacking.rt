@@ -3,14 +3,17 @@
 ghost use Rattle.std.specs.Prelude.{◌≡◌, ℕ, ◌<◌, ◌++◌, length, map, All, IfOk, OnOk, Some, Ok, slice_get, slice_index_or};
 ghost use Rattle.std.specs.List.{flat_map};
 ghost use Rattle.pipe_frame.specs.Chunks.{chunk_rows, chunks_table, HasFieldAt, HasSchema};
-ghost use Rattle.pipe_frame.specs.Frame.{cell_of_row, columns_of, field_of};
-ghost use Rattle.pipe_frame.specs.Rows.{HasWidth};
+ghost use Rattle.pipe_column.specs.Columns.{field_of};
+ghost use Rattle.pipe_frame.specs.Frame.{cell_of_row, columns_of};
+ghost use Rattle.pipe_frame.specs.Queues.{first_cells, others, BeginsWith, chunk_columns, with_cells};
+ghost use Rattle.pipe_schema.specs.Rows.{HasWidth};
+ghost use Rattle.pipe_column.specs.Series.{named_cells};
 
 use crate::chunk::DataChunk;
+use crate::column_queue::ColumnQueue;
 use crate::data_frame::DataFrame;
-use crate::schema::Schema;
-use crate::series::Series;
-use crate::try_clone::TryClone;
+use pipe_column::Series;
+use pipe_schema::{Field, Schema, TryClone};
 use std::alloc::{AllocError, Global};
 use std::mem::replace;
 use std::thread;
@@ -64,19 +67,80 @@ fn stacked_column(
     Ok(column)
 }
 
-/// All columns, one after another.
+/// The columns of chunks, chunk by chunk.
+fn queues_of(alloc: Global, chunks: Vec<DataChunk>) -> Result<Vec<ColumnQueue>, AllocError>
+    ensures { IfOk result (λ queues. queues.items ≡ map chunk_columns chunks.items) }
+{
+    let mut queues = Vec::with_capacity(alloc, chunks.len())?;
+    for chunk in chunks {
+        queues.push(ColumnQueue::of_frame(chunk.into_frame()))?;
+    }
+    Ok(queues)
+}
+
+/// Puts the first column of a queue behind a column of its type; the others are left.
+fn append_first(column: &mut Series, mut queue: ColumnQueue) -> Result<ColumnQueue, AllocError>
+    requires { BeginsWith column.old.dtype queue }
+    ensures cells { OnOk result (column.new ≡ with_cells column.old (first_cells queue)) }
+    ensures left { IfOk result (λ left. left ≡ others queue) }
+{
+    let Some(first) = queue.take_first() else {
+        unreachable!()
+    };
+    column.append(&first)?;
+    Ok(queue)
+}
+
+/// Puts the first column of each queue behind a column of their type; the others are left. The memory of each is given
+/// back once it is copied.
+fn append_firsts(
+    alloc: Global,
+    column: &mut Series,
+    queues: Vec<ColumnQueue>,
+) -> Result<Vec<ColumnQueue>, AllocError>
+    requires { All (BeginsWith column.old.dtype) queues.items }
+    ensures cells { OnOk result (column.new ≡ with_cells column.old (flat_map first_cells queues.items)) }
+    ensures left { IfOk result (λ left. left.items ≡ map others queues.items) }
+{
+    let mut left = Vec::with_capacity(alloc, queues.len())?;
+    for queue in queues {
+        left.push(append_first(column, queue)?)?;
+    }
+    Ok(left)
+}
+
+/// A column of a field that has the first column of each queue; the others are left.
+fn next_column(
+    alloc: Global,
+    field: &Field,
+    queues: Vec<ColumnQueue>,
+    height: usize,
+) -> Result<(Series, Vec<ColumnQueue>), AllocError>
+    requires { All (BeginsWith field.now.dtype) queues.items }
+    ensures column { IfOk result (λ it. it.0 ≡ named_cells field.now.name field.now.dtype (flat_map first_cells queues.items)) }
+    ensures left { IfOk result (λ it. it.1.items ≡ map others queues.items) }
+{
+    let mut column = Series::with_capacity(alloc, field.name.try_clone()?, field.dtype, height)?;
+    let left = append_firsts(alloc, &mut column, queues)?;
+    Ok((column, left))
+}
+
+/// All columns, one after another. What a column is made of is given back before the next is made.
 fn stacked_columns(
     alloc: Global,
-    chunks: &[DataChunk],
+    chunks: Vec<DataChunk>,
     schema: &Schema,
     height: usize,
 ) -> Result<Vec<Series>, AllocError>
-    requires { All (HasSchema schema.now) chunks.now }
-    ensures { IfOk result (λ columns. columns.items ≡ columns_of (chunks_table schema.now chunks.now)) }
+    requires { All (HasSchema schema.now) chunks.items }
+    ensures { IfOk result (λ columns. columns.items ≡ columns_of (chunks_table schema.now chunks.items)) }
 {
     let mut columns = Vec::with_capacity(alloc, schema.len())?;
+    let mut queues = queues_of(alloc, chunks)?;
     for k in 0..schema.len() {
-        columns.push(stacked_column(alloc, chunks, schema, height, k)?)?;
+        let (column, left) = next_column(alloc, schema.field(k), queues, height)?;
+        queues = left;
+        columns.push(column)?;
     }
     Ok(columns)
 }
@@ -161,7 +225,8 @@ fn stacked_on<R: Threads + Sync>(
     Ok(columns)
 }
 
-/// The rows of chunks of one schema, in order, as one frame.
+/// The rows of chunks of one schema, in order, as one frame. It is made column by column, so that no more than one column
+/// is there twice.
 pub fn chunks_to_df_unchecked(
     alloc: Global,
     chunks: Vec<DataChunk>,
@@ -171,7 +236,7 @@ pub fn chunks_to_df_unchecked(
     ensures { IfOk result (λ frame. frame ≡ chunks_table schema.now chunks.items) }
 {
     let height = height_of_all(chunks.as_slice(), schema)?;
-    let columns = stacked_columns(alloc, chunks.as_slice(), schema, height)?;
+    let columns = stacked_columns(alloc, chunks, schema, height)?;
     Ok(DataFrame::of_height(schema.try_clone()?, columns, height))
 }
 

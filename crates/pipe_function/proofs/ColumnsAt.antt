@@ -2,13 +2,14 @@
 use Rattle.std.proofs.Common.{◌≡◌, ℕ, zero, suc, ◌+◌, ◌<◌, true, false, List, [], ◌∷◌, Option, Some, None, is_some, length, map, get_or, refl, ap, sym, ◌∙◌, arith}
 use Rattle.std.proofs.lemmas.List.{length-map}
 use Rattle.std.proofs.lemmas.Option.{slice_get-get_or}
-use Rattle.pipe_frame.specs.Rows.{Row}
-use Rattle.pipe_frame.specs.Series.{Cells, cell_at}
-use Rattle.pipe_frame.specs.Schema.{place_of, has_name, names_of}
-use Rattle.pipe_frame.specs.Frame.{Table, cell_of_row, column_of, columns_from, columns_of, chosen_column}
-use Rattle.pipe_frame.specs.declared.any_value.AnyValue.TheVariants as cell
-use Rattle.pipe_frame.specs.declared.field.Field.{Field}
-use Rattle.pipe_frame.proofs.NamePlaces.{is_some-place_from}
+use Rattle.pipe_schema.specs.Rows.{Row}
+use Rattle.pipe_column.specs.Series.{Cells, cell_at}
+use Rattle.pipe_schema.specs.Schema.{place_of, has_name, names_of}
+use Rattle.pipe_column.specs.Columns.{chosen_column}
+use Rattle.pipe_frame.specs.Frame.{Table, cell_of_row, column_of, columns_from, columns_of}
+use Rattle.pipe_schema.specs.declared.any_value.AnyValue.TheVariants as cell
+use Rattle.pipe_schema.specs.declared.field.Field.{Field}
+use Rattle.pipe_schema.proofs.NamePlaces.{is_some-place_from}
 use Rattle.pipe_frame.proofs.Tables.{map_same}
 use Rattle.pipe_expr.specs.Projections.{field_named}
 use Rattle.pipe_expr.specs.Values.{cell_there, named_cell}

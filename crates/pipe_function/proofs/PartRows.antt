@@ -4,13 +4,14 @@ use Rattle.std.specs.Borrow.{Bor}
 use Rattle.std.specs.List.{AllByRecursion, flat_map, range_with_len}
 use Rattle.std.proofs.lemmas.List.{length-map, length-append, length-drop, map-append, take_more, get_or_default}
 use Rattle.std.proofs.lemmas.List.Elements.{recursion_from_All}
-use Rattle.pipe_frame.specs.Column.{nullable, nullables}
-use Rattle.pipe_frame.specs.Series.{Cells}
-use Rattle.pipe_frame.specs.declared.any_value.AnyValue.{AnyValue}
-use Rattle.pipe_frame.specs.declared.any_value.AnyValue.TheVariants as cell
-use Rattle.pipe_frame.specs.declared.data_type.DataType.{DataType}
-use Rattle.pipe_frame.proofs.Nullables.{length-nullables, nullables-push, get_or-nullables}
-use Rattle.pipe_frame.proofs.SeriesCells.{cell_at-map}
+use Rattle.pipe_column.specs.Column.{nullable, nullables}
+use Rattle.pipe_column.specs.Series.{Cells}
+use Rattle.pipe_column.specs.Validity.{validities}
+use Rattle.pipe_schema.specs.declared.any_value.AnyValue.{AnyValue}
+use Rattle.pipe_schema.specs.declared.any_value.AnyValue.TheVariants as cell
+use Rattle.pipe_schema.specs.declared.data_type.DataType.{DataType}
+use Rattle.pipe_column.proofs.Nullables.{length-nullables, nullables-push, get_or-nullables}
+use Rattle.pipe_column.proofs.SeriesCells.{cell_at-map}
 use Rattle.pipe_function.specs.Lent.{lent_cells, lent_row, cells_between, HasCells}
 use Rattle.pipe_function.specs.Parts.{Parts, part_values, part_cells, part_at, parts_at, IsEven, HasPlaces}
 use Rattle.pipe_function.proofs.Ranges.{map-flat, flat-same}
@@ -28,7 +29,7 @@ module _ {T : Type 0} (of : Option T → AnyValue) where
   places dtype n (p ∷ all) [] e even has = cc
   places dtype n (p ∷ all) (c ∷ columns) e even has =
       let first : length (part_cells of p) ≡ length c.now.cells = ap length (first-cells p all c columns e) in
-      let wide : length (part_cells of p) ≡ length p.1.now = length-map (part_values p) of ∙ length-nullables p.0.now p.1.now even.0 in
+      let wide : length (part_cells of p) ≡ length p.1.now = length-map (part_values p) of ∙ length-nullables (validities p.0) p.1.now even.0 in
       let same = even.0 in
       let long = has.0.1 in
       ((even.0, omega arith), places dtype n all columns (other-cells p all c columns e) even.1 has.1)
@@ -64,13 +65,13 @@ place_there n k all p there less is =
     subst (HasPlaces n) (sym is) first
 
 -- what stands at a place of a column
-pub part_read : {T : Type 0} (p : Parts T) (i : ℕ) (x : T) → HasPlaces (i + 1) p → x ≡ get_or p.1.now i x → nullable (get_or p.0.now i false) (get_or p.1.now i x) ≡ part_at i p
-part_read p i x there is =
+pub part_read : {T : Type 0} (p : Parts T) (i : ℕ) (m : Bool) (x : T) → HasPlaces (i + 1) p → m ≡ get_or (validities p.0) i false → x ≡ get_or p.1.now i x → nullable m (get_or p.1.now i x) ≡ part_at i p
+part_read p i m x there marked is =
     let same = there.0 in
     let long = there.1 in
-    let valid : get_or p.0.now i false ≡ get_or p.0.now i (get_or p.0.now i false) = get_or_default p.0.now i false (get_or p.0.now i false) (omega arith) in
-    ap (nullable (get_or p.0.now i false)) (sym is)
-    ∙ sym (get_or-nullables p.0.now p.1.now i (get_or p.0.now i false) x same (omega arith) valid is)
+    let valid : m ≡ get_or (validities p.0) i m = marked ∙ get_or_default (validities p.0) i false m (omega arith) in
+    ap (nullable m) (sym is)
+    ∙ sym (get_or-nullables (validities p.0) p.1.now i m x same (omega arith) valid is)
 
 -- and of one column more
 pub row_more : {T : Type 0} (old : List (Option T)) (validity validity_more : List Bool) (values values_more : List T) (all : List (Parts T)) (k i : ℕ) (p : Parts T) (m : Bool) (x : T) → validity_more ≡ validity ++ m ∷ [] → values_more ≡ values ++ x ∷ [] → nullables validity values ≡ old ++ parts_at (take k all) i → length validity ≡ length values → k < length all → p ≡ get_or all k p → nullable m x ≡ part_at i p → nullables validity_more values_more ≡ old ++ parts_at (take (k + 1) all) i

@@ -2,12 +2,13 @@
 use Rattle.std.proofs.Common.{◌≡◌, ℕ, zero, suc, ◌+◌, ◌<◌, List, [], ◌∷◌, length, map, refl, ap, subst, sym, ◌∙◌, arith}
 use Rattle.std.specs.List.{range_with_len}
 use Rattle.std.proofs.lemmas.List.{length-map}
-use Rattle.pipe_frame.specs.Rows.{Row}
-use Rattle.pipe_frame.specs.Series.{Cells}
-use Rattle.pipe_frame.specs.Schema.{IsSchema}
-use Rattle.pipe_frame.specs.Frame.{Table, AllOfHeight, field_of, cell_in, row_at, column_rows, table_of, height_of, columns_from, columns_of}
-use Rattle.pipe_frame.specs.declared.field.Field.{Field}
-use Rattle.pipe_frame.proofs.NamePlaces.{some_field}
+use Rattle.pipe_schema.specs.Rows.{Row}
+use Rattle.pipe_column.specs.Series.{Cells}
+use Rattle.pipe_schema.specs.Schema.{IsSchema}
+use Rattle.pipe_column.specs.Columns.{AllOfHeight, field_of, cell_in, row_at, column_rows, height_of}
+use Rattle.pipe_frame.specs.Frame.{Table, table_of, columns_from, columns_of}
+use Rattle.pipe_schema.specs.declared.field.Field.{Field}
+use Rattle.pipe_schema.proofs.NamePlaces.{some_field}
 use Rattle.pipe_frame.proofs.Tables.{map_map, map_same}
 use Rattle.pipe_expr.specs.Projections.{renamed_field}
 use Rattle.pipe_expr.specs.declared.join_words.RenamePair.{RenamePair}

@@ -4,15 +4,16 @@ use Rattle.std.specs.Borrow.{Bor}
 use Rattle.std.specs.List.{AllByRecursion, flat_map, range_with_len}
 use Rattle.std.proofs.lemmas.List.{map-append, get_or-map}
 use Rattle.std.proofs.lemmas.List.FromFn.{get_or-range_with_len, length-range_with_len}
-use Rattle.pipe_frame.specs.Rows.{Row}
-use Rattle.pipe_frame.specs.Series.{Cells, named_cells}
-use Rattle.pipe_frame.specs.Schema.{IsSchema, first_unknown, has_name, names_of}
-use Rattle.pipe_frame.specs.Frame.{Table, AllOfHeight, field_of, cell_in, row_at, table_of, height_of, sliced}
-use Rattle.pipe_frame.specs.declared.any_value.AnyValue.{AnyValue}
-use Rattle.pipe_frame.specs.declared.any_value.AnyValue.TheVariants as cell
-use Rattle.pipe_frame.specs.declared.data_type.DataType.{DataType}
-use Rattle.pipe_frame.specs.declared.data_type.DataType.TheVariants as dtype
-use Rattle.pipe_frame.specs.declared.field.Field.{Field}
+use Rattle.pipe_schema.specs.Rows.{Row}
+use Rattle.pipe_column.specs.Series.{Cells, named_cells}
+use Rattle.pipe_schema.specs.Schema.{IsSchema, first_unknown, has_name, names_of}
+use Rattle.pipe_column.specs.Columns.{AllOfHeight, field_of, cell_in, row_at, height_of}
+use Rattle.pipe_frame.specs.Frame.{Table, table_of, sliced}
+use Rattle.pipe_schema.specs.declared.any_value.AnyValue.{AnyValue}
+use Rattle.pipe_schema.specs.declared.any_value.AnyValue.TheVariants as cell
+use Rattle.pipe_schema.specs.declared.data_type.DataType.{DataType}
+use Rattle.pipe_schema.specs.declared.data_type.DataType.TheVariants as dtype
+use Rattle.pipe_schema.specs.declared.field.Field.{Field}
 use Rattle.pipe_frame.proofs.Tables.{map_map, map_same}
 use Rattle.pipe_expr.specs.Projections.{known_type, field_named, on_type, function_fields, function_rows, unpivoted_row}
 use Rattle.pipe_expr.specs.Values.{named_cell}

@@ -1,7 +1,7 @@
 -- What a function operator owes by law.
 use Rattle.std.proofs.Common.{◌≡◌, ℕ, List, [], ap}
 use Rattle.pipe_frame.specs.Frame.{Table}
-use Rattle.pipe_frame.specs.Rows.{Same}
+use Rattle.pipe_schema.specs.Rows.{Same}
 use Rattle.pipe_expr.specs.Projections.{function_rows}
 use Rattle.pipe_expr.specs.declared.join_words.FunctionIR.{FunctionIR}
 use Rattle.pipe_expr.specs.declared.join_words.FunctionIR.TheVariants as function

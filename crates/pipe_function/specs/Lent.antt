@@ -2,12 +2,13 @@
 use Rattle.std.specs.Borrow.{Bor}
 use Rattle.std.specs.Prelude.{◌≡◌, ℕ, ◌≤◌, List, length, map}
 use Rattle.std.specs.List.{flat_map, range_with_len}
-use Rattle.pipe_frame.specs.Frame.{Table, cell_in}
-use Rattle.pipe_frame.specs.Rows.{Row}
-use Rattle.pipe_frame.specs.Series.{Cells, named_cells}
-use Rattle.pipe_frame.specs.declared.any_value.AnyValue.{AnyValue}
-use Rattle.pipe_frame.specs.declared.data_type.DataType.{DataType}
-use Rattle.pipe_frame.specs.declared.field.Field.{Field}
+use Rattle.pipe_column.specs.Columns.{cell_in}
+use Rattle.pipe_frame.specs.Frame.{Table}
+use Rattle.pipe_schema.specs.Rows.{Row}
+use Rattle.pipe_column.specs.Series.{Cells, named_cells}
+use Rattle.pipe_schema.specs.declared.any_value.AnyValue.{AnyValue}
+use Rattle.pipe_schema.specs.declared.data_type.DataType.{DataType}
+use Rattle.pipe_schema.specs.declared.field.Field.{Field}
 use Rattle.pipe_expr.specs.Projections.{known_type}
 use Rattle.pipe_expr.specs.Types.{type_of_column}
 use Rattle.pipe_expr.specs.Values.{named_cell}

@@ -1,7 +1,7 @@
 -- A frame under other names.
 use Rattle.std.specs.Prelude.{List, map}
 use Rattle.pipe_frame.specs.Frame.{Table}
-use Rattle.pipe_frame.specs.Series.{Cells, named_cells}
+use Rattle.pipe_column.specs.Series.{Cells, named_cells}
 use Rattle.pipe_expr.specs.Projections.{renamed, renamed_field}
 use Rattle.pipe_expr.specs.declared.join_words.RenamePair.{RenamePair}
 

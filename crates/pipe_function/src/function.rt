@@ -1,15 +1,16 @@
 //! The function operator.
 
 ghost use Rattle.std.specs.Prelude.{◌≡◌, ◌≤◌, ℕ, List, [], length, true, false, IfOk};
-ghost use Rattle.pipe_frame.specs.declared.field.Field.{Field};
+ghost use Rattle.pipe_schema.specs.declared.field.Field.{Field};
 ghost use Rattle.pipe_function.specs.Applied.{Applies};
 
 use crate::cutting::Cutting;
 use crate::renamed::renamed_df;
 use crate::unpivoted::unpivoted_part;
 use pipe_expr::FunctionIR;
-use pipe_frame::{DataChunk, TryClone};
+use pipe_frame::DataChunk;
 use pipe_ops::{Operator, OperatorResult, PExecutionContext, determine_chunk_size};
+use pipe_schema::TryClone;
 use std::alloc::{AllocError, Global};
 
 /// A function over chunks, an unpivot in pieces whose size follows what the pieces before made (polars-pipe's
@@ -99,8 +100,8 @@ impl Operator for FunctionOperator {
     ghost use Rattle.pipe_expr.specs.Projections.{function_fields, function_rows};
     ghost use Rattle.pipe_ops.specs.Laws.{never_due};
     ghost use Rattle.pipe_ops.specs.Pieces.{IsPieceOf, Pays, is_more};
-    ghost use Rattle.pipe_frame.specs.Rows.{Row};
-    ghost use Rattle.pipe_frame.specs.declared.field.Field.{Field};
+    ghost use Rattle.pipe_schema.specs.Rows.{Row};
+    ghost use Rattle.pipe_schema.specs.declared.field.Field.{Field};
     ghost use Rattle.pipe_function.specs.Applied.{Applies};
     ghost use Rattle.pipe_function.specs.Turns.{owed_of, Fits};
     ghost use Rattle.pipe_function.specs.Operators.{pieces_of, turn_for, Turns, AnswersFor};

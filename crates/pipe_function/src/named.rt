@@ -1,12 +1,14 @@
 //! Columns by their names.
 
 ghost use Rattle.std.specs.Prelude.{◌≡◌, ◌<◌, IfOk, Some, map, length, All};
-ghost use Rattle.pipe_frame.specs.Schema.{first_unknown, has_name, names_of};
+ghost use Rattle.pipe_schema.specs.Schema.{first_unknown, has_name, names_of};
 ghost use Rattle.std.specs.Prelude.{true, None};
 ghost use Rattle.pipe_function.specs.Lent.{lent, whole_column};
 ghost use Rattle.pipe_function.specs.Unpivots.{column_at};
 
-use pipe_frame::{DataFrame, Series, Text};
+use pipe_column::Series;
+use pipe_frame::DataFrame;
+use pipe_schema::Text;
 use std::alloc::{AllocError, Global};
 
 /// The column of a name.

@@ -2,22 +2,24 @@
 
 ghost use Rattle.std.specs.Prelude.{◌≡◌, ◌<◌, ◌+◌, ◌++◌, ◌^◌, IfOk, OnOk, map, All, length};
 ghost use Rattle.std.specs.List.{AllByRecursion};
-ghost use Rattle.pipe_frame.specs.Column.{nullable, nullables};
-ghost use Rattle.pipe_frame.specs.Series.{named_cells};
+ghost use Rattle.pipe_column.specs.Column.{nullable, nullables};
+ghost use Rattle.pipe_column.specs.Series.{named_cells};
+ghost use Rattle.pipe_column.specs.Validity.{validities};
 ghost use Rattle.pipe_function.specs.Lent.{cells_between, lent_cells, HasCells};
 ghost use Rattle.pipe_function.specs.Parts.{part_at, part_cells, parts_at, IsEven, HasPlaces};
 
-use pipe_frame::{Column, Native, Series, Text};
+use pipe_column::{Column, Native, Series, Validities};
+use pipe_schema::Text;
 use std::alloc::{AllocError, Global};
 
-/// The validity and the values of a column.
-type Parts<'a, T> = (&'a [bool], &'a [T]);
+/// For each value of a column whether it is there, and the values.
+type Parts<'a, T> = (Validities<'a>, &'a [T]);
 
 /// The parts of a column.
 fn parts_of<'a, T: Native>(column: &'a Series) -> Parts<'a, T>
     requires { column.now.dtype ≡ T.dtype_of }
-    ensures even { length result.0.now ≡ length result.1.now }
-    ensures cells { map T.cell (nullables result.0.now result.1.now) ≡ column.now.cells }
+    ensures even { length (validities result.0) ≡ length result.1.now }
+    ensures cells { map T.cell (nullables (validities result.0) result.1.now) ≡ column.now.cells }
 {
     match column.as_column::<T>() {
         Some(values) => values.parts(),
@@ -48,7 +50,7 @@ fn nullable_in<T: Copy>(column: &Parts<T>, i: usize) -> (bool, T)
     requires { HasPlaces (i + 1) column.now }
     ensures { nullable result.0 result.1 ≡ part_at i column.now }
 {
-    (column.0[i], column.1[i])
+    (column.0.at(i), column.1[i])
 }
 
 /// Adds what stands at a place of each column.

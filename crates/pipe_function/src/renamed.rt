@@ -2,13 +2,15 @@
 
 ghost use Rattle.std.specs.Prelude.{◌≡◌, IfOk, map};
 ghost use Rattle.pipe_frame.specs.Frame.{columns_of};
-ghost use Rattle.pipe_frame.specs.Schema.{IsSchema};
+ghost use Rattle.pipe_schema.specs.Schema.{IsSchema};
 ghost use Rattle.pipe_expr.specs.Projections.{renamed, renamed_field};
 ghost use Rattle.pipe_function.specs.Renamings.{renamed_column, renamed_frame};
 
+use pipe_column::Series;
 use pipe_expr::RenamePair;
-use pipe_frame::{DataFrame, Series, Text, TryClone};
+use pipe_frame::DataFrame;
 use pipe_ops::frame_of;
+use pipe_schema::{Text, TryClone};
 use std::alloc::{AllocError, Global};
 
 /// The name that a column gets: the first that some renaming gives it, else its own.

@@ -1,11 +1,12 @@
 //! What stands once for each row and column of an unpivot.
 
 ghost use Rattle.std.specs.Prelude.{◌≡◌, ◌+◌, ◌<◌, ◌^◌, ◌++◌, IfOk, OnOk, replicate, map, Some};
-ghost use Rattle.pipe_frame.specs.Cell.{string_cell};
-ghost use Rattle.pipe_frame.specs.Series.{named_cells};
+ghost use Rattle.pipe_schema.specs.Cell.{string_cell};
+ghost use Rattle.pipe_column.specs.Series.{named_cells};
 ghost use Rattle.pipe_function.specs.Unpivots.{repeated, name_cell, repeated_cells};
 
-use pipe_frame::{DataType, Series, StringColumn, Text};
+use pipe_column::{Series, StringColumn};
+use pipe_schema::{DataType, Text};
 use std::alloc::{AllocError, Global};
 
 /// Adds a number, so many times.

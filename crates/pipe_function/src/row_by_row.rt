@@ -2,12 +2,13 @@
 
 ghost use Rattle.std.specs.Prelude.{◌≡◌, ◌+◌, ◌<◌, ◌++◌, ◌^◌, IfOk, OnOk, map};
 ghost use Rattle.std.specs.List.{AllByRecursion};
-ghost use Rattle.pipe_frame.specs.Cell.{string_cell, binary_cell};
-ghost use Rattle.pipe_frame.specs.Series.{named_cells};
+ghost use Rattle.pipe_schema.specs.Cell.{string_cell, binary_cell};
+ghost use Rattle.pipe_column.specs.Series.{named_cells};
 ghost use Rattle.pipe_function.specs.Lent.{cells_between, lent_row, HasCells};
 
 use crate::parts::flattened_values;
-use pipe_frame::{BinaryColumn, DataType, Series, StringColumn, Text};
+use pipe_column::{BinaryColumn, Series, StringColumn};
+use pipe_schema::{DataType, Text};
 use std::alloc::{AllocError, Global};
 
 /// Adds the texts of a row.

@@ -9,9 +9,11 @@ ghost use Rattle.pipe_function.specs.Turns.{is_unpivot};
 use crate::named::{columns_named, named_columns};
 use crate::repeated::{repeated_names, repeated_places};
 use crate::row_by_row::flattened;
+use pipe_column::Series;
 use pipe_expr::FunctionIR;
-use pipe_frame::{DataFrame, Series, Text, TryClone};
+use pipe_frame::DataFrame;
 use pipe_ops::frame_of;
+use pipe_schema::{Text, TryClone};
 use std::alloc::{AllocError, Global};
 
 /// The columns of so many rows of a frame from a row on, unpivoted: for each of the rows and each column of `on`, the

@@ -2,13 +2,14 @@
 use Rattle.std.proofs.Common.{◌≡◌, ℕ, suc, List, [], ◌∷◌, map, length, Option, Some, false, not, cond, is_some, ◌==◌, refl, ap, ap₂, ◌∙◌, sym}
 use Rattle.std.specs.List.{AllByRecursion}
 use Rattle.serde_json.specs.View.{items_of}
-use Rattle.pipe_frame.specs.declared.any_value.AnyValue.{AnyValue}
-use Rattle.pipe_frame.specs.declared.field.Field.{Field}
-use Rattle.pipe_frame.specs.declared.error.FrameError.{FrameError}
-use Rattle.pipe_frame.specs.Series.{Cells}
-use Rattle.pipe_frame.specs.Schema.{IsSchema, names_of, names_fault}
-use Rattle.pipe_frame.specs.Frame.{Table, table_of, columns_of, field_of, column_rows, height_of, other_height, AllOfHeight, differing, else_fault, frame_fault}
-use Rattle.pipe_frame.specs.Rows.{Row}
+use Rattle.pipe_schema.specs.declared.any_value.AnyValue.{AnyValue}
+use Rattle.pipe_schema.specs.declared.field.Field.{Field}
+use Rattle.pipe_schema.specs.declared.error.FrameError.{FrameError}
+use Rattle.pipe_column.specs.Series.{Cells}
+use Rattle.pipe_schema.specs.Schema.{IsSchema, names_of, names_fault}
+use Rattle.pipe_column.specs.Columns.{field_of, column_rows, height_of, other_height, AllOfHeight}
+use Rattle.pipe_frame.specs.Frame.{Table, table_of, columns_of, differing, else_fault, frame_fault}
+use Rattle.pipe_schema.specs.Rows.{Row}
 use Rattle.pipe_frame.proofs.Tables.{columns_of-table, length-column_rows}
 use Rattle.pipe_job.specs.Spelling.{list, cell_spelling}
 use Rattle.pipe_job.specs.Shape.{nulls_of, outlines_in, is_table}

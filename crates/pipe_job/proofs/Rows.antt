@@ -1,9 +1,9 @@
 -- The lines of the rows of some columns, from a row on.
 use Rattle.std.proofs.Common.{◌≡◌, ◌<◌, ◌-◌, ◌+◌, ◌++◌, ℕ, suc, List, [], flat_map, map, ap, sym, ◌∙◌, arith, append_assoc, slice_index_or}
 use Rattle.std.specs.List.{range_with_len}
-use Rattle.pipe_frame.specs.Rows.{Row}
-use Rattle.pipe_frame.specs.Series.{Cells}
-use Rattle.pipe_frame.specs.Frame.{row_at, column_rows}
+use Rattle.pipe_schema.specs.Rows.{Row}
+use Rattle.pipe_column.specs.Series.{Cells}
+use Rattle.pipe_column.specs.Columns.{row_at, column_rows}
 use Rattle.pipe_frame.proofs.Tables.{get_or-column_rows}
 use Rattle.pipe_job.specs.Line.{row_line}
 

@@ -6,12 +6,12 @@ use Rattle.std.specs.List.{AllByRecursion}
 use Rattle.hex.specs.Hex.{IsBytes}
 use Rattle.serde_json.specs.Data.{Data, Items, item, array, string}
 use Rattle.serde_json.specs.View.{items_of}
-use Rattle.pipe_frame.specs.declared.any_value.AnyValue.{AnyValue}
-use Rattle.pipe_frame.specs.declared.any_value.AnyValue.TheVariants as cell
-use Rattle.pipe_frame.specs.declared.data_type.DataType.{DataType}
-use Rattle.pipe_frame.specs.declared.data_type.DataType.TheVariants as dtype
-use Rattle.pipe_frame.specs.Cell.{string_cell, binary_cell}
-use Rattle.pipe_frame.specs.Series.{Cells, named_cells}
+use Rattle.pipe_schema.specs.declared.any_value.AnyValue.{AnyValue}
+use Rattle.pipe_schema.specs.declared.any_value.AnyValue.TheVariants as cell
+use Rattle.pipe_schema.specs.declared.data_type.DataType.{DataType}
+use Rattle.pipe_schema.specs.declared.data_type.DataType.TheVariants as dtype
+use Rattle.pipe_schema.specs.Cell.{string_cell, binary_cell}
+use Rattle.pipe_column.specs.Series.{Cells, named_cells}
 use Rattle.pipe_job.specs.Spelling.{list, maybe, MaybeFits, hex_spelling, cell_spelling, FitsType}
 use Rattle.pipe_job.specs.FrameSpelling.{IsColumn}
 use Rattle.pipe_job.specs.Reads.{ReadWhere}

@@ -4,8 +4,8 @@ use Rattle.serde_json.specs.Data.{Data, string, object, no_members, member}
 use Rattle.pipe_expr.specs.Formula.{Formula, Column, Literal, Add, Sub, Mul, Eq, NotEq, Lt, LtEq, Gt, GtEq, And, Or, Not, IsNull, IsNotNull, formula_of, NamedFormula, named_formula_of}
 use Rattle.pipe_expr.specs.declared.expr.Expr.{Expr}
 use Rattle.pipe_expr.specs.declared.expr.NamedExpr.{NamedExpr}
-use Rattle.pipe_frame.specs.declared.any_value.AnyValue.{AnyValue}
-use Rattle.pipe_frame.specs.declared.data_type.DataType.{DataType}
+use Rattle.pipe_schema.specs.declared.any_value.AnyValue.{AnyValue}
+use Rattle.pipe_schema.specs.declared.data_type.DataType.{DataType}
 use Rattle.pipe_job.specs.Spelling.{single, couple, type_spelling, cell_spelling, FitsType}
 
 -- a value of a type

@@ -2,9 +2,9 @@
 use Rattle.std.specs.Prelude.{◌≡◌, ℕ, List, Result, length, codes}
 use Rattle.std.specs.List.{AllByRecursion}
 use Rattle.serde_json.specs.Data.{Data, string, object, no_members, member}
-use Rattle.pipe_frame.specs.declared.data_type.DataType.{DataType}
-use Rattle.pipe_frame.specs.Schema.{IsSchema}
-use Rattle.pipe_frame.specs.Series.{Cells}
+use Rattle.pipe_schema.specs.declared.data_type.DataType.{DataType}
+use Rattle.pipe_schema.specs.Schema.{IsSchema}
+use Rattle.pipe_column.specs.Series.{Cells}
 use Rattle.pipe_frame.specs.Frame.{Table, table_of, columns_of}
 use Rattle.pipe_job.specs.declared.misread.Misread.{Misread}
 use Rattle.pipe_job.specs.Reads.{ReadWhere}

@@ -6,12 +6,13 @@ ghost use Rattle.std.specs.Char.{digit_char};
 ghost use Rattle.json.specs.Print.{escape_letter, escape_byte, escape, quoted};
 ghost use Rattle.serde_json.specs.Written.{compact_text, comma_if};
 ghost use Rattle.hex.specs.Hex.{encode_lower, lower_digits};
-ghost use Rattle.pipe_frame.specs.Series.{cell_at};
+ghost use Rattle.pipe_column.specs.Series.{cell_at};
 ghost use Rattle.pipe_job.specs.Spelling.{cell_spelling};
 ghost use Rattle.pipe_job.specs.Text.{is_plain as stands_for_itself, all_plain, text_or_null, quoted_hex, quoted_decimal, boolean_text};
 
 use itoa::{Buffer, Integer};
-use pipe_frame::{DataType, Series};
+use pipe_column::Series;
+use pipe_schema::DataType;
 use std::alloc::AllocError;
 
 /// The sixteen hexadecimal digits.

@@ -10,7 +10,7 @@ ghost use Rattle.pipe_job.specs.Spelling.{hex_spelling, type_spelling, cell_spel
 
 use crate::misread::Misread;
 use crate::spelled::Spelled;
-use pipe_frame::{AnyValue, Bytes, DataType, Text};
+use pipe_schema::{AnyValue, Bytes, DataType, Text};
 use pipe_value::Value;
 use std::alloc::Global;
 

@@ -7,7 +7,7 @@ ghost use Rattle.serde_json.specs.Data.{null, string};
 ghost use Rattle.pipe_value.specs.Items.{elements};
 ghost use Rattle.pipe_value.specs.View.{view};
 ghost use Rattle.hex.specs.Hex.{IsBytes, encode_lower};
-ghost use Rattle.pipe_frame.specs.declared.data_type.DataType.TheVariants as dtype;
+ghost use Rattle.pipe_schema.specs.declared.data_type.DataType.TheVariants as dtype;
 ghost use Rattle.pipe_job.specs.Reads.{ReadWhere};
 ghost use Rattle.pipe_job.specs.Shape.{is_list, is_maybe, is_text, is_hex, is_column};
 ghost use Rattle.pipe_job.specs.Spelling.{list, maybe, MaybeFits, hex_spelling};
@@ -18,7 +18,8 @@ use crate::members::Members;
 use crate::misread::Misread;
 use crate::spelled::Spelled;
 use crate::spelled_cell::SpelledCell;
-use pipe_frame::{BinaryColumn, Bytes, Column, DataType, Series, StringColumn, Text};
+use pipe_column::{BinaryColumn, Column, Series, StringColumn};
+use pipe_schema::{Bytes, DataType, Text};
 use pipe_value::Value;
 use std::alloc::{AllocError, Global};
 

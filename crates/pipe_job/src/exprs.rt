@@ -13,7 +13,7 @@ use crate::misread::Misread;
 use crate::ops::{Binary, Unary};
 use crate::spelled::Spelled;
 use pipe_expr::Expr;
-use pipe_frame::{DataType, Text};
+use pipe_schema::{DataType, Text};
 use pipe_value::Value;
 use std::alloc::{AllocError, Global};
 

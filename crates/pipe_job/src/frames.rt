@@ -11,7 +11,9 @@ ghost use Rattle.pipe_job.specs.FrameSpelling.{column_spelling, ColumnFits, fram
 use crate::members::Members;
 use crate::misread::Misread;
 use crate::spelled::Spelled;
-use pipe_frame::{DataFrame, FrameError, List, Series};
+use pipe_column::Series;
+use pipe_frame::DataFrame;
+use pipe_schema::{FrameError, List};
 use pipe_value::Value;
 use std::alloc::Global;
 

@@ -10,8 +10,8 @@ use crate::members::{Members, two_items};
 use crate::misread::Misread;
 use crate::spelled::Spelled;
 use pipe_expr::{Expr, JoinCoalesce, JoinType};
-use pipe_frame::{List, Text};
 use pipe_plan::{IR, JoinOptions, RowsHint};
+use pipe_schema::{List, Text};
 use pipe_value::Value;
 use std::alloc::Global;
 

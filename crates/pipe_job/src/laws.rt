@@ -1,8 +1,8 @@
 //! Laws of the definitions.
 
 ghost use Rattle.std.specs.Prelude.{◌≡◌, ◌∷◌, ◌++◌, List, map, flat_map};
-ghost use Rattle.pipe_frame.specs.declared.field.Field.{Field as Column};
-ghost use Rattle.pipe_frame.specs.Rows.{Row as Cells};
+ghost use Rattle.pipe_schema.specs.declared.field.Field.{Field as Column};
+ghost use Rattle.pipe_schema.specs.Rows.{Row as Cells};
 ghost use Rattle.serde_json.specs.Data.{Data};
 ghost use Rattle.pipe_job.specs.JobSpelling.{Spells, Task};
 ghost use Rattle.pipe_job.specs.Line.{head_line, row_line, lines};

@@ -1,15 +1,17 @@
 //! The lines of frames: the column names, and the cells of each row.
 
 ghost use Rattle.std.specs.Prelude.{◌≡◌, ◌<◌, ◌++◌, length, flat_map, OnOk, IfOk, slice_index_or, []};
-ghost use Rattle.pipe_frame.specs.Frame.{row_at, AllOfHeight};
-ghost use Rattle.pipe_frame.specs.Schema.{names_of};
+ghost use Rattle.pipe_column.specs.Columns.{row_at, AllOfHeight};
+ghost use Rattle.pipe_schema.specs.Schema.{names_of};
 ghost use Rattle.serde_json.specs.Data.{string};
 ghost use Rattle.serde_json.specs.Written.{compact_text};
 ghost use Rattle.pipe_job.specs.Spelling.{list, cell_spelling};
 ghost use Rattle.pipe_job.specs.Line.{head_line, row_line};
 
 use crate::cell_texts::{push_byte, push_cell, push_comma, push_quoted};
-use pipe_frame::{Bytes, DataFrame, Field, Schema, Series};
+use pipe_column::Series;
+use pipe_frame::DataFrame;
+use pipe_schema::{Bytes, Field, Schema};
 use std::alloc::{AllocError, Global};
 
 /// About how many rows are looked at to tell how long all lines are.

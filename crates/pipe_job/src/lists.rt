@@ -12,7 +12,7 @@ ghost use Rattle.pipe_job.specs.Spelling.{list, maybe, MaybeFits};
 
 use crate::misread::Misread;
 use crate::spelled::Spelled;
-use pipe_frame::List;
+use pipe_schema::List;
 use pipe_value::Value;
 use std::alloc::Global;
 

@@ -14,8 +14,8 @@ use crate::members::{Members, two_items};
 use crate::misread::Misread;
 use crate::spelled::Spelled;
 use pipe_expr::{Expr, FunctionIR, NamedExpr, RenamePair};
-use pipe_frame::{List, Text};
 use pipe_plan::{IR, PlanSlice, SortOptions};
+use pipe_schema::{List, Text};
 use pipe_value::Value;
 use std::alloc::Global;
 

@@ -8,7 +8,7 @@ ghost use Rattle.pipe_job.specs.Line.{row_line};
 use crate::cell_texts::{
     push_binary, push_boolean, push_byte, push_comma, push_decimal, push_number, push_string,
 };
-use pipe_frame::AnyValue;
+use pipe_schema::AnyValue;
 use std::alloc::AllocError;
 
 /// Appends the text of a cell.

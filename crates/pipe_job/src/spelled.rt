@@ -11,7 +11,7 @@ ghost use Rattle.pipe_job.specs.Spelling.{decimal_spelling};
 
 use crate::misread::Misread;
 use itoa::Buffer;
-use pipe_frame::Text;
+use pipe_schema::Text;
 use pipe_value::Value;
 use std::alloc::Global;
 

@@ -5,7 +5,7 @@ ghost use Rattle.pipe_job.specs.Shape.{is_value};
 ghost use Rattle.pipe_job.specs.Spelling.{cell_spelling, FitsType};
 
 use crate::spelled::Spelled;
-use pipe_frame::Native;
+use pipe_column::Native;
 
 /// What a column of fixed width holds: it is spelled as the cell of a row is.
 pub trait SpelledCell: Native + Spelled {

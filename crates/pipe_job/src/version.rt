@@ -12,8 +12,9 @@ ghost use Rattle.pipe_job.specs.Version.{IsVersion, has_int128, named_has_int128
 
 use crate::misread::Misread;
 use pipe_expr::{Expr, NamedExpr};
-use pipe_frame::{DataFrame, DataType, Field};
+use pipe_frame::DataFrame;
 use pipe_plan::{Arena, IR};
+use pipe_schema::{DataType, Field};
 use pipe_value::Value;
 
 /// The version that a value spells.

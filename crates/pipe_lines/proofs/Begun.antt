@@ -3,15 +3,15 @@ use Rattle.std.proofs.Common.{◌≡◌, ℕ, zero, suc, ◌+◌, ◌<◌, ◌==
 use Rattle.std.specs.List.{flat_map, AllByRecursion}
 use Rattle.pipe_plan.specs.Plan.{Plan}
 use Rattle.pipe_plan.specs.Faults.{IsWellFormed}
-use Rattle.pipe_legs.specs.Shape.{Kind, Begins, Each, Unites, Joins, Sorts, kind_at, sources_by}
-use Rattle.pipe_legs.specs.Meaning.{Tree, tree_of}
-use Rattle.pipe_legs.specs.Legs.{ways_of}
-use Rattle.pipe_legs.specs.Ways.{one, occurs, starts_of}
-use Rattle.pipe_legs.proofs.Tests.{by_test, eq-is, occurs-append, occurs-total, some-left}
-use Rattle.pipe_legs.proofs.Trees.{IsInput, AreInputs, IsTree}
-use Rattle.pipe_legs.proofs.Plans.{is_tree}
-use Rattle.pipe_legs.proofs.Whole.{at_sources}
-use Rattle.pipe_recording.specs.Boards.{begins_leg}
+use Rattle.pipe_driver.specs.Shape.{Kind, Begins, Each, Unites, Joins, Sorts, kind_at, sources_by}
+use Rattle.pipe_driver.specs.Meaning.{Tree, tree_of}
+use Rattle.pipe_driver.specs.Legs.{ways_of}
+use Rattle.pipe_driver.specs.Ways.{one, occurs, starts_of}
+use Rattle.pipe_driver.proofs.Tests.{by_test, eq-is, occurs-append, occurs-total, some-left}
+use Rattle.pipe_driver.proofs.Trees.{IsInput, AreInputs, IsTree}
+use Rattle.pipe_driver.proofs.PlanParts.{is_tree}
+use Rattle.pipe_driver.proofs.Runnable.{at_sources}
+use Rattle.pipe_driver.specs.Boards.{begins_leg}
 
 -- what is known of the nodes below
 abbrev Below : Tree → (n k : ℕ) → Type 0

@@ -16,11 +16,11 @@ use Rattle.pipe_branches.proofs.Covers.{side-member, self-member}
 use Rattle.pipe_branches.proofs.Down.{node-turn, turn-is}
 use Rattle.pipe_branches.proofs.Readers.{there-under, input-under}
 use Rattle.pipe_branches.proofs.Sound.{member, or-true, down-under, under-self, root-there}
-use Rattle.pipe_legs.proofs.Paths.{IsWithin, last_offset, within}
-use Rattle.pipe_legs.proofs.Plans.{there}
-use Rattle.pipe_legs.proofs.Tests.{all-append}
+use Rattle.pipe_driver.proofs.Paths.{IsWithin, last_offset, within}
+use Rattle.pipe_driver.proofs.PlanParts.{there}
+use Rattle.pipe_driver.proofs.Tests.{all-append}
 use Rattle.pipe_check.specs.Checked.{Checked}
-use Rattle.pipe_create.specs.Nodes.{plan_in, nodes_in}
+use Rattle.pipe_convert.specs.Nodes.{plan_in, nodes_in}
 use Rattle.pipe_lines.specs.Lines.{AreEnds, HasEnds}
 
 -- ---- a path that is closed ends in a sink behind all its operators

@@ -1,7 +1,7 @@
 -- A plan within its limits ends with rows, by a stop, or for want of memory.
 use Rattle.std.proofs.Common.{◌≡◌, ℕ, refl, arith, inl, inr}
 use Rattle.std.specs.Prelude.{Result, Ok, Err, IfErr}
-use Rattle.pipe_frame.specs.Counts.{Counts}
+use Rattle.pipe_schema.specs.Counts.{Counts}
 use Rattle.pipe_plan.specs.Plan.{Plan}
 use Rattle.pipe_driver.specs.Within.{AllWithin, EndsWith}
 use Rattle.pipe_driver.specs.declared.error.RunError.{RunError}

@@ -10,23 +10,23 @@ use Rattle.pipe_branches.specs.declared.branch.SinkAt.{SinkAt}
 use Rattle.pipe_branches.specs.declared.branch.SinkAt.TheVariants as at
 use Rattle.pipe_branches.specs.declared.branch.SinkNode.{SinkNode}
 use Rattle.pipe_branches.specs.Texts.{between}
-use Rattle.pipe_legs.specs.Legs.{sink_node}
-use Rattle.pipe_legs.specs.Meaning.{Meaning}
-use Rattle.pipe_legs.specs.Shape.{kind_at, kind_of, union_kind, is_sorting}
-use Rattle.pipe_legs.proofs.Plans.{there}
-use Rattle.pipe_legs.proofs.Tests.{and-cases}
+use Rattle.pipe_driver.specs.Legs.{sink_node}
+use Rattle.pipe_driver.specs.Meaning.{Meaning}
+use Rattle.pipe_driver.specs.Shape.{kind_at, kind_of, union_kind, is_sorting}
+use Rattle.pipe_driver.proofs.PlanParts.{there}
+use Rattle.pipe_driver.proofs.Tests.{and-cases}
 use Rattle.pipe_driver.specs.declared.pipe_line.Leg.{Leg}
 use Rattle.pipe_engine.specs.Stands.{Settings, EndsAt}
 use Rattle.pipe_engine.specs.declared.part.Part.{Part}
-use Rattle.pipe_sinks.specs.Sinks.{SinkSetting, setting_in}
-use Rattle.pipe_sinks.specs.declared.phys_sink.PhysSink.{PhysSink}
-use Rattle.pipe_sinks.specs.declared.phys_sink.PhysSink.TheVariants as sink
+use Rattle.pipe_slots.specs.Sinks.{SinkSetting, setting_in}
+use Rattle.pipe_slots.specs.declared.phys_sink.PhysSink.{PhysSink}
+use Rattle.pipe_slots.specs.declared.phys_sink.PhysSink.TheVariants as sink
 use Rattle.pipe_slots.specs.declared.phys_operator.PhysOperator.{PhysOperator}
 use Rattle.pipe_check.specs.Checked.{Checked}
-use Rattle.pipe_create.specs.Nodes.{IsUnder, plan_in, nodes_in, meaning_in}
-use Rattle.pipe_create.specs.Sources.{taken_at}
-use Rattle.pipe_create.specs.Steps.{last_of}
-use Rattle.pipe_create.proofs.JoinNodes.{under_sort}
+use Rattle.pipe_convert.specs.Nodes.{IsUnder, plan_in, nodes_in, meaning_in}
+use Rattle.pipe_convert.specs.Sources.{taken_at}
+use Rattle.pipe_convert.specs.Steps.{last_of}
+use Rattle.pipe_convert.proofs.JoinNodes.{under_sort}
 use Rattle.pipe_lines.specs.Cuts.{IsLegCut, AreLegsCut, next_of, place_node, place_of, stages_of}
 use Rattle.pipe_lines.specs.LegsMade.{IsLegOf, HasLegsOf}
 use Rattle.pipe_lines.specs.Made.{Specs, Sinks, IsOperatorAt, IsSinkSplit, AreStagesAt, settings_in, setting_at}

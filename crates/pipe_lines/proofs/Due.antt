@@ -2,20 +2,23 @@
 use Rattle.std.proofs.Common.{◌≡◌, ◌≤◌, ℕ, ◌+◌, Bool, true, false, if◌then◌else◌, List, [], ◌∷◌, length, Option, Some, None, refl, ap, subst, arith}
 use Rattle.std.specs.List.{AllByRecursion, flat_map}
 use Rattle.std.specs.Prelude.{Result, Ok, Err, OnOk}
-use Rattle.pipe_frame.specs.Weights.{total}
-use Rattle.pipe_frame.proofs.Weights.{SameBag, total-append}
+use Rattle.pipe_schema.specs.Weights.{total}
+use Rattle.pipe_schema.proofs.Weights.{SameBag, total-append}
 use Rattle.pipe_ops.specs.declared.context.PExecutionContext.{PExecutionContext}
 use Rattle.pipe_source.specs.declared.phys_source.PhysSource.{PhysSource}
-use Rattle.pipe_legs.specs.Legs.{Leg, Way, ways_of}
-use Rattle.pipe_legs.specs.Meaning.{Meaning}
-use Rattle.pipe_legs.specs.Ways.{AreLegs, IsWay, MayGoOn, starts_from, starts_of}
-use Rattle.pipe_legs.proofs.Whole.{are_chains, at_sources}
+use Rattle.pipe_driver.specs.Legs.{Leg, Way, ways_of}
+use Rattle.pipe_driver.specs.Meaning.{Meaning}
+use Rattle.pipe_driver.specs.Ways.{AreLegs, IsWay, MayGoOn, starts_from, starts_of}
+use Rattle.pipe_driver.proofs.Runnable.{are_chains, at_sources}
 use Rattle.pipe_driver.specs.Lines.{IsLine, SourceHas, Task, ways_as}
-use Rattle.pipe_driver.specs.Plans.{task_of, StandFor}
+use Rattle.pipe_driver.specs.Plans.{task_of}
+use Rattle.pipe_driver.specs.declared.sink_counts.SinkCounts.{SinkCounts}
 use Rattle.pipe_check.specs.Checked.{Checked}
-use Rattle.pipe_create.specs.Nodes.{plan_in, meaning_in}
-use Rattle.pipe_engine.specs.Drives.{Line, LineRun}
+use Rattle.pipe_convert.specs.Nodes.{plan_in, meaning_in}
+use Rattle.pipe_slots.specs.declared.slots.Slots.{Slots}
+use Rattle.pipe_engine.specs.Drives.{Line}
 use Rattle.pipe_engine.specs.Engine.{engine_words}
+use Rattle.pipe_engine.specs.Lent.{AreLent}
 use Rattle.pipe_engine.specs.Paced.{TakesPaced, most_of, rows_due_from, rows_due_of}
 use Rattle.pipe_engine.specs.Stands.{Settings}
 use Rattle.pipe_lines.specs.Standing.{ask_in, rows_scanned, scanned_at}
@@ -74,12 +77,12 @@ module _ {H : Type 0} (hash_of : H → List ℕ → ℕ) (x : Settings H) (k : T
   due_of o (p ∷ ps) lines = omega (arith, due_from p.start p.source lines.0.source, due_of o ps lines.1)
 
 -- the sources of a plan's pipelines have no fewer rows
-pub due_enough : {H : Type 0} (hash_of : H → List ℕ → ℕ) (x : Settings H) (plan : Checked) (run : LineRun H) (ps : List (Line H)) → StandFor (engine_words hash_of x) (ask_in plan) run ps → rows_scanned plan ≤ rows_due_of ps
-due_enough hash_of x plan run ps is =
+pub due_enough : {H : Type 0} (hash_of : H → List ℕ → ℕ) (x : Settings H) (plan : Checked) (context : PExecutionContext) (slots : Slots H) (counts : SinkCounts) (ps : List (Line H)) → AreLent hash_of x (ask_in plan) context slots counts ps → rows_scanned plan ≤ rows_due_of ps
+due_enough hash_of x plan context slots counts ps is =
     let k = task_of (ask_in plan) in
     let m = meaning_in plan in
     let ws = ways_of (plan_in plan) plan.root in
-    let due = due_of hash_of x k (length (plan_in plan).nodes) ps is.lines in
+    let due = due_of hash_of x k (length (plan_in plan).nodes) ps is.are in
     let begun = ap (rows_begun m) is.ways in
     let sources = at_sources (plan_in plan) plan.root is.well (scanned_at m) in
     let few = ways-few m ws (are_chains (plan_in plan) plan.root is.well) in

@@ -1,6 +1,6 @@
 -- A join's spec stands for the join in a run.
 use Rattle.std.proofs.Common.{◌≡◌, ℕ, Bool, true, false, cond, List, refl, ap, sym, subst, ◌∙◌}
-use Rattle.pipe_frame.specs.declared.field.Field.{Field}
+use Rattle.pipe_schema.specs.declared.field.Field.{Field}
 use Rattle.pipe_expr.specs.Joins.{join_fields, makes_pairs, pair_fields}
 use Rattle.pipe_expr.specs.declared.join_words.JoinType.{JoinType}
 use Rattle.pipe_expr.specs.declared.join_words.JoinType.TheVariants as how
@@ -10,12 +10,12 @@ use Rattle.pipe_probe.specs.Probed.{keeps_probed}
 use Rattle.pipe_slots.specs.Kinds.{kind_of}
 use Rattle.pipe_slots.specs.JoinWords.{takes_join, output_join}
 use Rattle.pipe_branches.specs.declared.branch.SinkAt.{SinkAt}
-use Rattle.pipe_sinks.specs.Sinks.{SinkSetting}
+use Rattle.pipe_slots.specs.Sinks.{SinkSetting}
 use Rattle.pipe_engine.specs.Stands.{IsJoinOf}
 use Rattle.pipe_check.specs.Checked.{Checked}
-use Rattle.pipe_create.specs.Joins.{IsSpecOf, spec_at}
+use Rattle.pipe_convert.specs.Joins.{IsSpecOf, spec_at}
 use Rattle.pipe_lines.specs.Made.{Specs, settings_with}
-use Rattle.pipe_create.specs.Nodes.{meaning_in}
+use Rattle.pipe_convert.specs.Nodes.{meaning_in}
 
 takes_by : (spec : JoinSpec) (s : List Field) (h : JoinType) (w : Bool) → spec.how ≡ h → spec.swapped ≡ w → fits_side h w ≡ true → s ≡ probed_schema spec → takes_join (kind_of h w) spec s
 takes_by spec s how.Inner w e f fits same = (ap (λ k. keeps_probed k spec.swapped) e, same)

@@ -3,12 +3,12 @@ use Rattle.std.proofs.Common.{◌≡◌, ℕ, ◌<◌, ◌≤◌, List, [], map,
 use Rattle.std.specs.Prelude.{OnOk, IfOk, Result, Ok, Err}
 use Rattle.std.proofs.lemmas.Nat.{mod_below}
 use Rattle.pipe_frame.specs.Frame.{Table}
-use Rattle.pipe_frame.specs.Rows.{Row, Same}
-use Rattle.pipe_frame.proofs.Weights.{SameBag-sym, SameBag-trans, SameBag-from_rows, Same-from_bag}
+use Rattle.pipe_schema.specs.Rows.{Row, Same}
+use Rattle.pipe_schema.proofs.Weights.{SameBag-sym, SameBag-trans, SameBag-from_rows, Same-from_bag}
 use Rattle.pipe_rows.specs.Equality.{equality_row}
 use Rattle.pipe_rows.specs.Partition.{IsPartitionCount}
 use Rattle.pipe_ops.specs.declared.context.PExecutionContext.{PExecutionContext}
-use Rattle.pipe_takings.specs.Paced.{KeepsPace}
+use Rattle.pipe_run.specs.Paced.{KeepsPace}
 use Rattle.pipe_plan.specs.PlanRows.{rows_of}
 use Rattle.pipe_events.specs.EventValues.{event_value}
 use Rattle.pipe_events.specs.PlanStages.{IsSound, Setting, stages_of}
@@ -17,15 +17,18 @@ use Rattle.pipe_events.specs.Worlds.{start}
 use Rattle.pipe_events.specs.declared.event.Event.{Event}
 use Rattle.pipe_events.proofs.PlanLemmas.{are_stages, stages_have_rows}
 use Rattle.pipe_events.proofs.Unfaulted.{without_fault}
-use Rattle.pipe_typing.specs.Fits.{FramesFit}
-use Rattle.pipe_typing.proofs.Plans.{sorts_sure}
+use Rattle.pipe_laws.specs.Fits.{FramesFit}
+use Rattle.pipe_laws.proofs.Plans.{sorts_sure}
 use Rattle.pipe_branches.proofs.Sound.{root-there, under-self}
 use Rattle.pipe_check.specs.Checked.{Checked}
-use Rattle.pipe_create.specs.Nodes.{plan_in, rows_in}
-use Rattle.pipe_engine.specs.Drives.{Line, LineRun}
-use Rattle.pipe_engine.specs.Journals.{JournalsPlan}
+use Rattle.pipe_convert.specs.Nodes.{plan_in, rows_in}
+use Rattle.pipe_driver.specs.declared.sink_counts.SinkCounts.{SinkCounts}
+use Rattle.pipe_slots.specs.declared.slots.Slots.{Slots}
+use Rattle.pipe_engine.proofs.Lending.{same_parts}
 use Rattle.pipe_lines.specs.Journals.{IsSettingOf, IsJournalOf}
-use Rattle.pipe_lines.specs.Standing.{ask_in, IsRunFor}
+use Rattle.pipe_lines.specs.Running.{ForEachPlan, HasWholeJournal}
+use Rattle.pipe_lines.specs.Standing.{asked_in, IsRunFor}
+use Rattle.pipe_lines.specs.declared.pipe_line.PipeLine.{PipeLine}
 
 same-sym : {a b : List Row} → Same a b → Same b a
 same-sym h = Same-from_bag (SameBag-sym (SameBag-from_rows h))
@@ -33,22 +36,15 @@ same-sym h = Same-from_bag (SameBag-sym (SameBag-from_rows h))
 same-trans : {a b c : List Row} → Same a b → Same b c → Same a c
 same-trans h k = Same-from_bag (SameBag-trans (SameBag-from_rows h) (SameBag-from_rows k))
 
--- ---- there is one number of partitions
-
-fewer-parts : (workers a b : ℕ) → IsPartitionCount workers a → IsPartitionCount workers b → a ≤ b
-fewer-parts workers a b h k = subst (λ p. a ≤ p) (sym k.is_power) (h.smallest k.exponent (subst (λ p. workers ≤ p) k.is_power k.enough))
-
-same-parts : (workers a b : ℕ) → IsPartitionCount workers a → IsPartitionCount workers b → a ≡ b
-same-parts workers a b h k = let low = fewer-parts workers a b h k in let high = fewer-parts workers b a k h in omega (arith, low, high)
-
 -- ---- the journal
 
-pub journaled : {H : Type 0} (hash_of : H → List ℕ → ℕ) (hash : List ℕ → ℕ) (plan : Checked) (now : LineRun H) (pipelines : List (Line H)) (workers : ℕ) (events : List Event) (frame : Table)
-    → FramesFit (plan_in plan) → 1 ≤ workers → IsRunFor hash_of plan now pipelines → now.runner.context.workers ≡ workers
-    → JournalsPlan hash_of now pipelines events → Same frame.rows (rows_in plan plan.root) → IsJournalOf (plan_in plan) plan.root hash workers events frame
-journaled hash_of hash plan now pipelines workers events frame fit some stand workers_are wrote rows = λ setting is.
+pub journaled : {H : Type 0} (hash_of : H → List ℕ → ℕ) (hash : List ℕ → ℕ) (plan : Checked) (context : PExecutionContext) (pipelines : List (PipeLine H)) (slots : Slots H) (counts : SinkCounts) (events : List Event) (frame : Table)
+    → FramesFit (plan_in plan) → 1 ≤ context.workers → IsRunFor hash_of plan context pipelines slots counts
+    → ForEachPlan hash_of context pipelines slots counts (HasWholeJournal context.workers pipelines events) → Same frame.rows (rows_in plan plan.root) → IsJournalOf (plan_in plan) plan.root hash context.workers events frame
+journaled hash_of hash plan context pipelines slots counts events frame fit some stand wrote rows = λ setting is.
     let p = plan_in plan in
-    let good = stand.stand.well in
+    let workers = context.workers in
+    let good = stand.stand.lent.well in
     let there = without_fault p plan.root good.faultless in
     let parts : 0 < setting.parts = (let enough = is.parts_are.enough in omega (arith, some, enough)) in
     let sound : IsSound p plan.root setting = record {
@@ -57,10 +53,9 @@ journaled hash_of hash plan now pipelines workers events frame fit some stand wo
       one_list = sorts_sure p plan.root good.faultless fit;
       parted = λ key. subst (λ part. part key < setting.parts) (sym is.part_is) (mod_below (hash (equality_row key)) setting.parts parts);
     } in
-    let K : ℕ → Type 0 = λ k. IsPartitionCount k stand.settings.parts in
-    let same = same-parts workers setting.parts stand.settings.parts is.parts_are (subst K workers_are stand.parts) in
-    let staged = stand.staged setting (are_stages p plan.root setting sound) (is.workers_are ∙ sym workers_are) same in
-    let whole = wrote (record { ask = ask_in plan; settings = stand.settings }) setting stand.stand stand.fresh (stand.listed setting) staged in
+    let same = same_parts workers setting.parts stand.settings.parts is.parts_are stand.stand.lent.parts in
+    let staged = stand.staged setting (are_stages p plan.root setting sound) is.workers_are same in
+    let whole = wrote (asked_in plan stand.settings) stand.stand setting (stand.listed setting) staged in
     let root_under = under-self p.nodes plan.root (root-there p plan.root good.faultless).0 in
     let B : List Row → Type 0 = Same ((run (stages_of p plan.root setting) start (map event_value events)).bag plan.root) in
     record {

@@ -7,26 +7,26 @@ use Rattle.pipe_branches.specs.declared.branch.SinkAt.{SinkAt}
 use Rattle.pipe_branches.specs.declared.branch.SinkAt.TheVariants as at
 use Rattle.pipe_branches.specs.declared.branch.SinkNode.{SinkNode}
 use Rattle.pipe_branches.specs.Texts.{arrow_word, operator_text, operator_texts, sink_word}
-use Rattle.pipe_legs.specs.Legs.{leg_of, sink_node}
-use Rattle.pipe_legs.specs.Numbers.{place_among, named_sinks}
+use Rattle.pipe_driver.specs.Legs.{leg_of, sink_node}
+use Rattle.pipe_driver.specs.Numbers.{place_among, named_sinks}
 use Rattle.pipe_driver.specs.declared.pipe_line.Leg.{Leg}
 use Rattle.pipe_driver.specs.Lines.{leg_as}
 use Rattle.pipe_run.specs.declared.stage.Basin.{Basin}
 use Rattle.pipe_run.specs.declared.stage.Stage.{Stage}
 use Rattle.pipe_slots.specs.declared.phys_operator.PhysOperator.{PhysOperator}
 use Rattle.pipe_convert.specs.Converted.{schema_in}
-use Rattle.pipe_sinks.specs.Sinks.{setting_in, sink_rows, sink_schema, sink_text}
+use Rattle.pipe_slots.specs.Sinks.{setting_in, sink_rows, sink_schema, sink_text}
 use Rattle.pipe_engine.specs.Stands.{AreStagesOf, EndsAt, IsSinkOf, KeepsOrder}
 use Rattle.pipe_engine.specs.declared.part.Part.{Part}
-use Rattle.pipe_sinks.specs.declared.phys_sink.PhysSink.{PhysSink}
+use Rattle.pipe_slots.specs.declared.phys_sink.PhysSink.{PhysSink}
 use Rattle.pipe_check.specs.Checked.{Checked}
 use Rattle.pipe_lines.specs.LegsMade.{Leads, IsLegOf}
 use Rattle.pipe_lines.specs.Lines.{stage_text}
 use Rattle.pipe_lines.specs.Made.{Specs, Sinks, settings_in, setting_at, setting_or_none, sink_at, IsOperatorAt, IsSinkAt, IsSomeSinkAt, IsSinkSplit, AreSinks, AreStagesAt}
-use Rattle.pipe_create.specs.Nodes.{plan_in, nodes_in, meaning_in}
-use Rattle.pipe_create.specs.Sources.{taken_at}
-use Rattle.pipe_create.specs.Steps.{GoesOn, GoesAlong, IsGiven, IsThere, last_of}
-use Rattle.pipe_create.proofs.ChainSteps.{chain_goes}
+use Rattle.pipe_convert.specs.Nodes.{plan_in, nodes_in, meaning_in}
+use Rattle.pipe_convert.specs.Sources.{taken_at}
+use Rattle.pipe_convert.specs.Steps.{GoesOn, GoesAlong, IsGiven, IsThere, last_of}
+use Rattle.pipe_convert.proofs.ChainSteps.{chain_goes}
 use Rattle.pipe_lines.proofs.RootOrder.{keeps_order}
 
 -- ---- where a leg ends

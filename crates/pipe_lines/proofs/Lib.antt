@@ -19,3 +19,5 @@ pub mod Complete
 pub mod Begun
 pub mod Staged
 pub mod Journaled
+pub mod MadeLines
+pub mod Handed

@@ -7,8 +7,8 @@ use Rattle.pipe_source.specs.declared.phys_source.PhysSource.{PhysSource}
 use Rattle.pipe_branches.specs.declared.branch.Branch.{Branch}
 use Rattle.pipe_branches.specs.declared.branch.SinkNode.{SinkNode}
 use Rattle.pipe_branches.specs.Texts.{arrow_word, between, node_word, operator_texts, sink_word, sink_texts}
-use Rattle.pipe_legs.specs.Legs.{leg_of, legs_from, sink_node, way_of, Way}
-use Rattle.pipe_legs.specs.Ways.{AreLegs}
+use Rattle.pipe_driver.specs.Legs.{leg_of, legs_from, sink_node, way_of, Way}
+use Rattle.pipe_driver.specs.Ways.{AreLegs}
 use Rattle.pipe_driver.specs.declared.pipe_line.Leg.{Leg}
 use Rattle.pipe_driver.specs.declared.pipe_line.PipeLine.{PipeLine}
 use Rattle.pipe_driver.specs.Lines.{leg_as, ways_as}
@@ -17,10 +17,10 @@ use Rattle.pipe_check.specs.Checked.{Checked}
 use Rattle.pipe_lines.specs.LegsMade.{Leads, IsLegOf, HasLegsOf}
 use Rattle.pipe_lines.specs.Lines.{leg_text, source_or_none, AreLegsMade, IsLineOf, AreLinesOf}
 use Rattle.pipe_lines.specs.Made.{Specs, Sinks}
-use Rattle.pipe_create.specs.Laws.{IsBranch, Numbered}
-use Rattle.pipe_create.specs.Nodes.{IsUnder, plan_in, nodes_in, meaning_in}
-use Rattle.pipe_create.specs.Sources.{IsSourceAt}
-use Rattle.pipe_create.proofs.JoinNodes.{under_sort}
+use Rattle.pipe_convert.specs.Laws.{IsBranch, Numbered}
+use Rattle.pipe_convert.specs.Nodes.{IsUnder, plan_in, nodes_in, meaning_in}
+use Rattle.pipe_convert.specs.Sources.{IsSourceAt}
+use Rattle.pipe_convert.proofs.JoinNodes.{under_sort}
 
 -- ---- where the next leg begins
 

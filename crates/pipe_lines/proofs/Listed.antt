@@ -2,7 +2,7 @@
 use Rattle.std.proofs.Common.{◌≡◌, ℕ, ◌+◌, ◌<◌, ◌==◌, Bool, true, false, List, [], ◌∷◌, length, map, Option, Some, None, refl, ap, sym, subst, ◌∙◌, arith}
 use Rattle.std.specs.List.{flat_map, AllByRecursion}
 use Rattle.pipe_frame.specs.Frame.{Table}
-use Rattle.pipe_frame.specs.declared.field.Field.{Field}
+use Rattle.pipe_schema.specs.declared.field.Field.{Field}
 use Rattle.pipe_ops.specs.Batches.{Left}
 use Rattle.pipe_plan.specs.Faults.{IsWellFormed}
 use Rattle.pipe_plan.specs.Node.{Node}
@@ -11,26 +11,26 @@ use Rattle.pipe_plan.specs.Schemas.{schemas_to}
 use Rattle.pipe_plan.specs.Under.{node_at}
 use Rattle.pipe_events.specs.Stages.{Stages, Scan}
 use Rattle.pipe_events.specs.PlanStages.{Setting, stage_of, stage_at, stages_of}
-use Rattle.pipe_journal.specs.Runs.{supply, supply_of}
+use Rattle.pipe_laws.specs.Runs.{supply, supply_of}
 use Rattle.pipe_source.specs.Supplies.{left_of}
 use Rattle.pipe_source.specs.declared.phys_source.PhysSource.{PhysSource}
 use Rattle.pipe_branches.specs.declared.branch.Branch.{Branch}
-use Rattle.pipe_legs.specs.Legs as plan_legs
-use Rattle.pipe_legs.specs.Legs.{Way, sink_node}
-use Rattle.pipe_legs.specs.Shape.{Kind, Begins, Each, Unites, Joins, Sorts, kind_of, kind_at, is_sorting}
-use Rattle.pipe_legs.specs.Ways.{one, occurs, AreLegs, IsWay, starts_from, starts_of}
-use Rattle.pipe_legs.proofs.Plans.{stage_is}
-use Rattle.pipe_legs.proofs.Tests.{and-cases, eq-true, occurs-append}
+use Rattle.pipe_driver.specs.Legs as plan_legs
+use Rattle.pipe_driver.specs.Legs.{Way, sink_node}
+use Rattle.pipe_driver.specs.Shape.{Kind, Begins, Each, Unites, Joins, Sorts, kind_of, kind_at, is_sorting}
+use Rattle.pipe_driver.specs.Ways.{one, occurs, AreLegs, IsWay, starts_from, starts_of}
+use Rattle.pipe_driver.proofs.PlanParts.{stage_is}
+use Rattle.pipe_driver.proofs.Tests.{and-cases, eq-true, occurs-append}
 use Rattle.pipe_driver.specs.declared.pipe_line.Leg.{Leg}
 use Rattle.pipe_driver.specs.Lines.{leg_as, way_as, ways_as}
-use Rattle.pipe_recording.specs.Boards.{held_at, may_hold, begins_leg, board_of}
-use Rattle.pipe_recording.proofs.Held.{all_held}
-use Rattle.pipe_takings.specs.Rounds.{AreSupplied}
+use Rattle.pipe_driver.specs.Boards.{held_at, may_hold, begins_leg, board_of}
+use Rattle.pipe_driver.proofs.Held.{all_held}
+use Rattle.pipe_run.specs.NotedRounds.{AreSupplied}
 use Rattle.pipe_convert.specs.Converted.{IsSourceOf}
 use Rattle.pipe_check.specs.Checked.{Checked}
-use Rattle.pipe_create.specs.Nodes.{IsUnder, plan_in, nodes_in, meaning_in}
-use Rattle.pipe_create.specs.Sources.{AreScansOf, IsSourceAt, taken_at}
-use Rattle.pipe_create.proofs.JoinNodes.{under_sort}
+use Rattle.pipe_convert.specs.Nodes.{IsUnder, plan_in, nodes_in, meaning_in}
+use Rattle.pipe_convert.specs.Sources.{AreScansOf, IsSourceAt, taken_at}
+use Rattle.pipe_convert.proofs.JoinNodes.{under_sort}
 use Rattle.pipe_engine.specs.Drives.{Line}
 use Rattle.pipe_engine.specs.Journals.{staging_of}
 use Rattle.pipe_engine.specs.Noted.{Staging, board_in, AreTold, IsTold, IsSupplied, IsListed}

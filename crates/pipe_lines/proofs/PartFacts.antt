@@ -8,13 +8,13 @@ use Rattle.pipe_branches.specs.declared.branch.SinkAt.{SinkAt}
 use Rattle.pipe_branches.specs.declared.branch.SinkAt.TheVariants as at
 use Rattle.pipe_branches.specs.declared.branch.SinkNode.{SinkNode}
 use Rattle.pipe_branches.specs.Texts.{between}
-use Rattle.pipe_legs.specs.Legs.{sink_node}
-use Rattle.pipe_legs.proofs.Tests.{all-append}
+use Rattle.pipe_driver.specs.Legs.{sink_node}
+use Rattle.pipe_driver.proofs.Tests.{all-append}
 use Rattle.pipe_check.specs.Checked.{Checked}
-use Rattle.pipe_create.specs.Nodes.{plan_in, nodes_in, meaning_in}
-use Rattle.pipe_create.specs.Sources.{AreScansOf}
-use Rattle.pipe_create.specs.Steps.{GoesAlong}
-use Rattle.pipe_create.proofs.ChainSteps.{chain_goes}
+use Rattle.pipe_convert.specs.Nodes.{plan_in, nodes_in, meaning_in}
+use Rattle.pipe_convert.specs.Sources.{AreScansOf}
+use Rattle.pipe_convert.specs.Steps.{GoesAlong}
+use Rattle.pipe_convert.proofs.ChainSteps.{chain_goes}
 use Rattle.pipe_slots.specs.declared.phys_operator.PhysOperator.{PhysOperator}
 use Rattle.pipe_lines.specs.Cuts.{EndWithin, IsMadeFor}
 use Rattle.pipe_lines.specs.Lines.{AreEnds}

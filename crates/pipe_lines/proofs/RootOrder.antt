@@ -2,7 +2,7 @@
 -- that begins at the root.
 use Rattle.std.proofs.Common.{◌≡◌, ℕ, ◌<◌, Bool, true, false, cond, ◌==◌, List, [], ◌∷◌, length, Option, Some, None, refl, ap, sym, subst, ◌∙◌}
 use Rattle.std.specs.Prelude.{codes}
-use Rattle.pipe_frame.specs.Rows.{Row}
+use Rattle.pipe_schema.specs.Rows.{Row}
 use Rattle.pipe_plan.specs.Faults.{IsWellFormed}
 use Rattle.pipe_plan.specs.Node.{Node}
 use Rattle.pipe_plan.specs.Node as node
@@ -15,14 +15,14 @@ use Rattle.pipe_source.specs.declared.phys_source.PhysSource.TheVariants.{Frame,
 use Rattle.pipe_branches.specs.declared.branch.SinkAt.{SinkAt}
 use Rattle.pipe_branches.specs.declared.branch.SinkAt.TheVariants as at
 use Rattle.pipe_branches.specs.Texts.{node_word}
-use Rattle.pipe_legs.specs.Shape.{below_sink, is_sorting, kind_at, kind_of}
-use Rattle.pipe_legs.proofs.Tests.{and-both, eq-true}
+use Rattle.pipe_driver.specs.Shape.{below_sink, is_sorting, kind_at, kind_of}
+use Rattle.pipe_driver.proofs.Tests.{and-both, eq-true}
 use Rattle.pipe_run.specs.declared.stage.Stage.{Stage}
 use Rattle.pipe_slots.specs.declared.phys_operator.PhysOperator.{PhysOperator}
 use Rattle.pipe_check.specs.Checked.{Checked}
-use Rattle.pipe_create.specs.Nodes.{IsUnder, plan_in, nodes_in, rows_in, meaning_in}
-use Rattle.pipe_create.specs.Sources.{IsSourceAt}
-use Rattle.pipe_create.specs.Steps.{GoesAlong, GoesThrough, IsGiven, last_of}
+use Rattle.pipe_convert.specs.Nodes.{IsUnder, plan_in, nodes_in, rows_in, meaning_in}
+use Rattle.pipe_convert.specs.Sources.{IsSourceAt}
+use Rattle.pipe_convert.specs.Steps.{GoesAlong, GoesThrough, IsGiven, last_of}
 use Rattle.pipe_engine.proofs.Wholes.{nil_right}
 use Rattle.pipe_engine.specs.Engine.{IsFrameOf}
 use Rattle.pipe_engine.specs.Stands.{BeginsInOrder, IsInOrder, KeepsOrder, Settings}

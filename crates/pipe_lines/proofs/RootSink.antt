@@ -1,15 +1,15 @@
 -- The sink of the root takes chunks of the root's schema.
 use Rattle.std.proofs.Common.{◌≡◌, ℕ, List, [], Option, Some, None, refl, ap}
-use Rattle.pipe_frame.specs.declared.field.Field.{Field}
+use Rattle.pipe_schema.specs.declared.field.Field.{Field}
 use Rattle.pipe_branches.specs.declared.branch.SinkAt.{SinkAt}
 use Rattle.pipe_branches.specs.declared.branch.SinkAt.TheVariants as at
 use Rattle.pipe_check.specs.Checked.{Checked}
 use Rattle.pipe_convert.specs.Converted.{schema_in}
-use Rattle.pipe_create.specs.Nodes.{meaning_in}
+use Rattle.pipe_convert.specs.Nodes.{meaning_in}
 use Rattle.pipe_engine.specs.Stands.{EndsAt}
-use Rattle.pipe_sinks.specs.Sinks.{BuiltBy, CrossedBy, OrderedBy, SinkSetting, SortedBy, setting_in, sink_schema}
-use Rattle.pipe_sinks.specs.declared.phys_sink.PhysSink.{PhysSink}
-use Rattle.pipe_sinks.specs.declared.phys_sink.PhysSink.TheVariants as phys
+use Rattle.pipe_slots.specs.Sinks.{BuiltBy, CrossedBy, OrderedBy, SinkSetting, SortedBy, setting_in, sink_schema}
+use Rattle.pipe_slots.specs.declared.phys_sink.PhysSink.{PhysSink}
+use Rattle.pipe_slots.specs.declared.phys_sink.PhysSink.TheVariants as phys
 use Rattle.pipe_lines.specs.Layouts.{IsLayout, layout_settings}
 use Rattle.pipe_lines.specs.Made.{IsSomeSinkAt, Specs, setting_or_none, settings_with, sink_at}
 use Rattle.pipe_lines.specs.declared.layout.Layout.{Layout}

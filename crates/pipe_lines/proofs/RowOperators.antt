@@ -1,8 +1,8 @@
 -- What is made of a node stands for the node in a run.
 use Rattle.std.proofs.Common.{◌≡◌, ℕ, Bool, true, false, cond, ◌==◌, ◌||◌, List, [], ◌∷◌, inl, inr, refl, ap, sym, subst, ◌∙◌}
 use Rattle.std.specs.Prelude.{codes}
-use Rattle.pipe_frame.specs.Rows.{Row}
-use Rattle.pipe_frame.specs.declared.field.Field.{Field}
+use Rattle.pipe_schema.specs.Rows.{Row}
+use Rattle.pipe_schema.specs.declared.field.Field.{Field}
 use Rattle.pipe_expr.specs.Formula.{Formula, NamedFormula}
 use Rattle.pipe_expr.specs.declared.join_words.FunctionIR.{FunctionIR}
 use Rattle.pipe_plan.specs.Faults.{IsWellFormed}
@@ -16,24 +16,24 @@ use Rattle.pipe_check.specs.Checked.{Checked}
 use Rattle.pipe_convert.specs.Converted.{IsNode, schema_in}
 use Rattle.pipe_convert.specs.Converted as convert
 use Rattle.pipe_convert.proofs.Granted.{granted}
-use Rattle.pipe_legs.specs.Chains.{goes_through}
-use Rattle.pipe_legs.specs.Shape.{kind_of, kind_at, is_joining}
-use Rattle.pipe_legs.proofs.Tests.{or-case, eq-is}
+use Rattle.pipe_driver.specs.Chains.{goes_through}
+use Rattle.pipe_driver.specs.Shape.{kind_of, kind_at, is_joining}
+use Rattle.pipe_driver.proofs.Tests.{or-case, eq-is}
 use Rattle.pipe_slots.specs.Places.{Place}
 use Rattle.pipe_slots.specs.PhysWords.{takes_of, output_of, work_of, text_of, each_work}
 use Rattle.pipe_slots.specs.declared.phys_operator.PhysOperator.{PhysOperator}
 use Rattle.pipe_slots.specs.declared.phys_operator.PhysOperator.TheVariants as op
 use Rattle.pipe_slots.specs.declared.slot.Slot.{Slot}
 use Rattle.pipe_branches.specs.declared.branch.SinkAt.{SinkAt}
-use Rattle.pipe_sinks.specs.Sinks.{SinkSetting}
+use Rattle.pipe_slots.specs.Sinks.{SinkSetting}
 use Rattle.pipe_engine.specs.Stands.{Settings, IsRowOf, IsOperatorOf}
 use Rattle.pipe_lines.specs.Made.{Specs, settings_with, IsOperatorAt, IsPlaceAt}
-use Rattle.pipe_create.specs.Nodes.{plan_in, nodes_in, meaning_in}
-use Rattle.pipe_create.specs.Steps.{GoesThrough, stage_in}
-use Rattle.pipe_create.proofs.JoinNodes.{join_node, no_join, no_union_join}
+use Rattle.pipe_convert.specs.Nodes.{plan_in, nodes_in, meaning_in}
+use Rattle.pipe_convert.specs.Steps.{GoesThrough, stage_in}
+use Rattle.pipe_convert.proofs.JoinNodes.{join_node, no_join, no_union_join}
 use Rattle.pipe_lines.proofs.JoinStands.{join_stands}
-use Rattle.pipe_create.proofs.SameFields.{union_schema}
-use Rattle.pipe_create.proofs.SpecFacts.{staged, probed_is}
+use Rattle.pipe_convert.proofs.SameFields.{union_schema}
+use Rattle.pipe_convert.proofs.SpecFacts.{staged, probed_is}
 
 one_read : (a b : ℕ) → ((a == b) || false) ≡ true → b ≡ a
 one_read a b h = elim (or-case (a == b) false h) [ inl e ↦ sym (eq-is a b e) | inr e ↦ absurd (let f : false ≡ true = e in cc) ]

@@ -8,13 +8,13 @@ use Rattle.pipe_branches.specs.declared.branch.SinkAt.{SinkAt}
 use Rattle.pipe_branches.specs.declared.branch.SinkAt.TheVariants as at
 use Rattle.pipe_check.specs.Checked.{Checked}
 use Rattle.pipe_convert.proofs.Granted.{granted}
-use Rattle.pipe_legs.specs.Shape.{kind_of, kind_at, is_joining, is_sorting}
-use Rattle.pipe_legs.proofs.Sounds.{are_sound}
-use Rattle.pipe_legs.proofs.Tests.{by_test, eq-is, eq-not}
-use Rattle.pipe_sinks.specs.declared.phys_sink.PhysSink.{PhysSink}
-use Rattle.pipe_create.specs.Nodes.{IsUnder, plan_in, nodes_in, meaning_in}
-use Rattle.pipe_create.specs.Steps.{IsThere}
-use Rattle.pipe_create.proofs.JoinNodes.{joins, sorts, not_sorting, union_not_sorting, no_join, no_union_join, under_sort, under_join, sized_next}
+use Rattle.pipe_driver.specs.Shape.{kind_of, kind_at, is_joining, is_sorting}
+use Rattle.pipe_driver.proofs.Sounds.{are_sound}
+use Rattle.pipe_driver.proofs.Tests.{by_test, eq-is, eq-not}
+use Rattle.pipe_slots.specs.declared.phys_sink.PhysSink.{PhysSink}
+use Rattle.pipe_convert.specs.Nodes.{IsUnder, plan_in, nodes_in, meaning_in}
+use Rattle.pipe_convert.specs.Steps.{IsThere}
+use Rattle.pipe_convert.proofs.JoinNodes.{joins, sorts, not_sorting, union_not_sorting, no_join, no_union_join, under_sort, under_join, sized_next}
 use Rattle.pipe_lines.specs.Made.{Specs, Sinks, IsSinkAt, IsSomeSinkAt, IsNodeSink, AreNodeSinks, AreSinks, own_sink, sink_at}
 
 -- ---- the sink of one node

@@ -1,7 +1,7 @@
 -- The sinks that are made stand for their places in a run.
 use Rattle.std.proofs.Common.{◌≡◌, ℕ, Bool, true, false, cond, ◌==◌, List, [], refl, ap, sym, subst, ◌∙◌}
-use Rattle.pipe_frame.specs.Rows.{Row, Same}
-use Rattle.pipe_frame.specs.declared.field.Field.{Field}
+use Rattle.pipe_schema.specs.Rows.{Row, Same}
+use Rattle.pipe_schema.specs.declared.field.Field.{Field}
 use Rattle.pipe_expr.specs.declared.join_words.JoinType.{JoinType}
 use Rattle.pipe_expr.specs.declared.join_words.JoinType.TheVariants as how
 use Rattle.pipe_plan.specs.Faults.{IsWellFormed}
@@ -20,18 +20,18 @@ use Rattle.pipe_probe.specs.Cross.{CrossRows}
 use Rattle.pipe_check.specs.Checked.{Checked}
 use Rattle.pipe_convert.specs.Converted.{IsNode, schema_in}
 use Rattle.pipe_convert.specs.Converted as convert
-use Rattle.pipe_legs.proofs.Tests.{eq-is}
-use Rattle.pipe_sinks.specs.declared.phys_sink.PhysSink.TheVariants.{Ordered as OfRoot, Sort as OfSort, Build as OfBuild, Cross as OfCross}
-use Rattle.pipe_create.specs.Joins.{IsSpecOf, spec_at, built_in}
+use Rattle.pipe_driver.proofs.Tests.{eq-is}
+use Rattle.pipe_slots.specs.declared.phys_sink.PhysSink.TheVariants.{Ordered as OfRoot, Sort as OfSort, Build as OfBuild, Cross as OfCross}
+use Rattle.pipe_convert.specs.Joins.{IsSpecOf, spec_at, built_in}
 use Rattle.pipe_lines.specs.Made.{Specs, IsSinkAt}
-use Rattle.pipe_create.specs.Nodes.{plan_in, nodes_in, rows_in, meaning_in}
-use Rattle.pipe_create.specs.Steps.{EndsIn, stage_in}
-use Rattle.pipe_create.proofs.JoinNodes.{join_node, sorts}
+use Rattle.pipe_convert.specs.Nodes.{plan_in, nodes_in, rows_in, meaning_in}
+use Rattle.pipe_convert.specs.Steps.{EndsIn, stage_in}
+use Rattle.pipe_convert.proofs.JoinNodes.{join_node, sorts}
 use Rattle.pipe_lines.proofs.JoinStands.{join_stands}
-use Rattle.pipe_create.proofs.NodeRows.{sort_rows as rows_sorted}
+use Rattle.pipe_convert.proofs.NodeRows.{sort_rows as rows_sorted}
 use Rattle.pipe_lines.proofs.RootOrder.{due_in_order}
 use Rattle.pipe_lines.proofs.SortRows.{below_sort}
-use Rattle.pipe_create.proofs.SpecFacts.{staged, built_is}
+use Rattle.pipe_convert.proofs.SpecFacts.{staged, built_is}
 
 -- ---- the root
 

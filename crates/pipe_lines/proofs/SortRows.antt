@@ -7,9 +7,9 @@ use Rattle.pipe_plan.specs.declared.ir.SortOptions.{SortOptions}
 use Rattle.pipe_check.specs.Checked.{Checked}
 use Rattle.pipe_convert.specs.Converted.{IsNode}
 use Rattle.pipe_convert.proofs.Granted.{granted}
-use Rattle.pipe_legs.specs.Shape.{kind_of, kind_at, below_sink}
-use Rattle.pipe_legs.proofs.Tests.{eq-false}
-use Rattle.pipe_create.specs.Nodes.{plan_in, nodes_in, meaning_in}
+use Rattle.pipe_driver.specs.Shape.{kind_of, kind_at, below_sink}
+use Rattle.pipe_driver.proofs.Tests.{eq-false}
+use Rattle.pipe_convert.specs.Nodes.{plan_in, nodes_in, meaning_in}
 
 pub below_sort : (plan : Checked) (n input : ℕ) (by : List (List ℕ)) (options : SortOptions) → IsWellFormed (plan_in plan) plan.root → IsNode plan n (node.Sort input by options) → (meaning_in plan).below n ≡ rows_of (plan_in plan) input
 below_sort plan n input by options good at_n =

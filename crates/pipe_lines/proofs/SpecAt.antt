@@ -7,20 +7,20 @@ use Rattle.pipe_plan.specs.Faults.{IsWellFormed}
 use Rattle.pipe_plan.specs.Node.{Node}
 use Rattle.pipe_plan.specs.Node as node
 use Rattle.pipe_plan.specs.Under.{node_at}
-use Rattle.pipe_legs.specs.Chains.{goes_through}
+use Rattle.pipe_driver.specs.Chains.{goes_through}
 use Rattle.pipe_expr.specs.declared.join_words.JoinType.{JoinType}
 use Rattle.pipe_expr.specs.declared.join_words.JoinType.TheVariants as how
 use Rattle.pipe_table.specs.declared.spec.JoinSpec.{JoinSpec}
 use Rattle.pipe_check.specs.Checked.{Checked}
 use Rattle.pipe_convert.proofs.Granted.{granted}
-use Rattle.pipe_create.specs.Joins.{AreSpecs, IsSpecOf, IsSomeSpecOf, spec_at, spec_or_none}
-use Rattle.pipe_create.specs.Nodes.{IsUnder, plan_in, nodes_in, meaning_in}
-use Rattle.pipe_create.specs.Steps.{GoesThrough, stage_in}
-use Rattle.pipe_create.proofs.JoinNodes.{not_sorting, union_not_sorting, same_at, some_spec, spec_of_some}
+use Rattle.pipe_convert.specs.Joins.{AreSpecs, IsSpecOf, IsSomeSpecOf, spec_at, spec_or_none}
+use Rattle.pipe_convert.specs.Nodes.{IsUnder, plan_in, nodes_in, meaning_in}
+use Rattle.pipe_convert.specs.Steps.{GoesThrough, stage_in}
+use Rattle.pipe_convert.proofs.JoinNodes.{not_sorting, union_not_sorting, same_at, some_spec, spec_of_some}
 use Rattle.pipe_branches.specs.declared.branch.SinkAt.{SinkAt}
-use Rattle.pipe_legs.specs.Legs.{sink_node}
-use Rattle.pipe_sinks.specs.declared.phys_sink.PhysSink.{PhysSink}
-use Rattle.pipe_create.specs.Steps.{IsThere}
+use Rattle.pipe_driver.specs.Legs.{sink_node}
+use Rattle.pipe_slots.specs.declared.phys_sink.PhysSink.{PhysSink}
+use Rattle.pipe_convert.specs.Steps.{IsThere}
 use Rattle.pipe_lines.specs.Layouts.{IsLayout}
 use Rattle.pipe_lines.specs.Made.{Specs, lets_through, sorts_rows, sink_at, IsSomeSinkAt}
 use Rattle.pipe_lines.specs.declared.layout.Layout.{Layout}

@@ -6,17 +6,17 @@ use Rattle.pipe_plan.specs.Faults.{IsWellFormed}
 use Rattle.pipe_events.specs.Stages.{JoinStage, Joined, IsStages, flushes, flushes_by}
 use Rattle.pipe_events.specs.PlanStages.{Setting, stage_at, stages_of}
 use Rattle.pipe_table.specs.declared.spec.JoinSpec.{JoinSpec}
-use Rattle.pipe_legs.specs.Shape.{kind_at, is_sorting}
-use Rattle.pipe_legs.proofs.Plans.{is_tree}
-use Rattle.pipe_legs.proofs.Tests.{and-cases}
-use Rattle.pipe_recording.specs.Boards.{IsBoard, may_hold, board_of}
-use Rattle.pipe_recording.proofs.Held.{all_held}
-use Rattle.pipe_recording.proofs.Plans.{boards}
-use Rattle.pipe_recording.proofs.Supplies.{supplied}
+use Rattle.pipe_driver.specs.Shape.{kind_at, is_sorting}
+use Rattle.pipe_driver.proofs.PlanParts.{is_tree}
+use Rattle.pipe_driver.proofs.Tests.{and-cases}
+use Rattle.pipe_driver.specs.Boards.{IsBoard, may_hold, board_of}
+use Rattle.pipe_driver.proofs.Held.{all_held}
+use Rattle.pipe_driver.proofs.PlanBoards.{boards}
+use Rattle.pipe_driver.proofs.Supplies.{supplied}
 use Rattle.pipe_check.specs.Checked.{Checked}
-use Rattle.pipe_create.specs.Joins.{IsSomeSpecOf, spec_or_none}
-use Rattle.pipe_create.specs.Nodes.{IsUnder, plan_in, nodes_in, meaning_in}
-use Rattle.pipe_create.proofs.JoinNodes.{under_sort}
+use Rattle.pipe_convert.specs.Joins.{IsSomeSpecOf, spec_or_none}
+use Rattle.pipe_convert.specs.Nodes.{IsUnder, plan_in, nodes_in, meaning_in}
+use Rattle.pipe_convert.proofs.JoinNodes.{under_sort}
 use Rattle.pipe_engine.specs.Journals.{staging_of}
 use Rattle.pipe_engine.specs.Noted.{IsStagingOf, IsOwnSource}
 use Rattle.pipe_lines.specs.Layouts.{IsLayout, layout_settings}

@@ -1,49 +1,49 @@
 -- The pipelines of a plan stand for its branches.
 use Rattle.std.proofs.Common.{◌≡◌, ℕ, ◌+◌, ◌<◌, ◌==◌, ◌≤◌, ◌^◌, true, List, [], ◌∷◌, length, Option, Some, None, refl, ap, sym, subst, ◌∙◌, arith, slice_index_or}
 use Rattle.std.specs.List.{flat_map, AllByRecursion}
-use Rattle.std.specs.declared.alloc.Global.{Global}
-use Rattle.std.specs.declared.sync.Arc.{Arc}
-use Rattle.pipe_frame.specs.Rows.{Row}
-use Rattle.pipe_frame.proofs.Weights.{SameBag}
-use Rattle.pipe_frame.specs.declared.field.Field.{Field}
+use Rattle.pipe_schema.specs.Rows.{Row}
+use Rattle.pipe_schema.proofs.Weights.{SameBag}
+use Rattle.pipe_schema.specs.declared.field.Field.{Field}
 use Rattle.pipe_ops.specs.Batches.{Left}
+use Rattle.pipe_ops.specs.declared.context.PExecutionContext.{PExecutionContext}
 use Rattle.pipe_plan.specs.Faults.{IsWellFormed}
 use Rattle.pipe_rows.specs.Partition.{IsPartitionCount}
 use Rattle.pipe_source.specs.Supplies.{left_of}
 use Rattle.pipe_source.specs.declared.phys_source.PhysSource.{PhysSource}
-use Rattle.pipe_table.specs.declared.spec.JoinSpec.{JoinSpec}
 use Rattle.pipe_branches.specs.Branches.{branches}
 use Rattle.pipe_branches.specs.declared.branch.Branch.{Branch}
-use Rattle.pipe_legs.specs.Legs as plan_legs
-use Rattle.pipe_legs.specs.Legs.{Way, sink_node, ways_of}
-use Rattle.pipe_legs.specs.Numbers.{named_sinks, sink_number}
-use Rattle.pipe_legs.specs.Ways.{one, occurs, feeds, passes, starts_from, starts_of, IsWay}
-use Rattle.pipe_legs.specs.Shape.{kind_at}
-use Rattle.pipe_legs.proofs.Plans.{is_tree}
-use Rattle.pipe_legs.proofs.Sounds.{are_sound}
-use Rattle.pipe_legs.proofs.Tests.{eq-true, occurs-append}
-use Rattle.pipe_legs.proofs.Whole.{can_run}
+use Rattle.pipe_driver.specs.Legs as plan_legs
+use Rattle.pipe_driver.specs.Legs.{Way, sink_node, ways_of}
+use Rattle.pipe_driver.specs.Ways.{one, occurs, starts_from, starts_of, IsWay}
+use Rattle.pipe_driver.specs.Shape.{kind_at}
+use Rattle.pipe_driver.proofs.PlanParts.{is_tree}
+use Rattle.pipe_driver.proofs.Tests.{eq-true, occurs-append}
+use Rattle.pipe_driver.proofs.Runnable.{can_run}
 use Rattle.pipe_driver.specs.declared.pipe_line.Leg.{Leg}
 use Rattle.pipe_driver.specs.Lines.{way_as, ways_as, IsLine, AreLegsOf, SourceHas}
-use Rattle.pipe_driver.specs.Plans.{task_of, at_start, StandFor}
-use Rattle.pipe_driver.specs.Tables.{number_at}
+use Rattle.pipe_driver.specs.Plans.{task_of}
+use Rattle.pipe_driver.specs.declared.sink_counts.SinkCounts.{SinkCounts}
 use Rattle.pipe_driver.specs.Words.{RunnerWords}
 use Rattle.pipe_driver.proofs.RunNodes.{begin_run}
-use Rattle.pipe_engine.specs.Drives.{Line, LineRun}
-use Rattle.pipe_engine.specs.Engine.{Brings, Fits, HasSchemaLeft, IsFresh, HasSpec, IsIdle, MayStart, engine_words}
+use Rattle.pipe_engine.specs.Drives.{Line}
+use Rattle.pipe_engine.specs.Engine.{Brings, HasSchemaLeft, IsFresh, engine_words}
+use Rattle.pipe_engine.specs.Lent.{AreFeeds, AreLent, AreUnfilled}
 use Rattle.pipe_engine.specs.Stands.{Settings}
 use Rattle.pipe_engine.specs.declared.engine.Engine.{Engine}
 use Rattle.pipe_engine.specs.declared.part.Part.{Part}
 use Rattle.pipe_check.specs.Checked.{Checked}
-use Rattle.pipe_create.specs.Joins.{AreSpecs, IsSomeSpecOf, spec_at, spec_or_none}
-use Rattle.pipe_create.specs.Nodes.{plan_in, nodes_in, meaning_in, rows_in}
-use Rattle.pipe_create.specs.Sources.{AreWhole, IsSourceAt}
+use Rattle.pipe_convert.specs.Nodes.{plan_in, nodes_in, meaning_in, rows_in}
+use Rattle.pipe_convert.specs.Sources.{AreWhole, IsSourceAt}
 use Rattle.pipe_convert.specs.Converted.{schema_in}
-use Rattle.pipe_lines.specs.Layouts.{IsLayout, IsLayoutFor, layout_settings}
+use Rattle.pipe_slots.specs.declared.slots.Slots.{Slots}
+use Rattle.pipe_lines.specs.Cuts.{IsLineFor}
+use Rattle.pipe_lines.specs.Layouts.{IsLayout, layout_settings}
 use Rattle.pipe_lines.specs.Lines.{AreLegsMade, AreLinesOf, HasSourceOf, IsLineOf}
+use Rattle.pipe_lines.specs.Running.{ways_in}
 use Rattle.pipe_lines.specs.Standing.{ask_in, IsRunFor}
+use Rattle.pipe_lines.specs.declared.pipe_line.PipeLine.{PipeLine}
 use Rattle.pipe_lines.specs.declared.layout.Layout.{Layout}
-use Rattle.pipe_recording.specs.Boards.{begins_leg}
+use Rattle.pipe_driver.specs.Boards.{begins_leg}
 use Rattle.pipe_lines.proofs.Begun.{starts_begin}
 use Rattle.pipe_lines.proofs.Listed.{lines_listed}
 use Rattle.pipe_lines.proofs.Staged.{staged}
@@ -117,36 +117,12 @@ module _ {H : Type 0} (hash_of : H → List ℕ → ℕ) (plan : Checked) (layou
         lines_stand bs lines are.1 ways.1 (λ n on. runs n (let a = occurs-append n (starts_of way) (flat_map starts_of (ways_to lines)) in omega arith)),
       )
 
-  -- ---- the engine
-
-  has_spec : (n : ℕ) (o : Option (Arc JoinSpec Global)) → IsSomeSpecOf plan n o → HasSpec (spec_or_none o) o
-  has_spec n None is = is
-  has_spec n (Some arc) is = refl
-
-  may_start : (workers : ℕ) (engine : Engine H) → IsWellFormed (plan_in plan) plan.root → IsLayout plan layout → IsPartitionCount workers layout.parts → 1 ≤ workers → workers ≤ 2 ^ 31
-      → engine.hasher ≡ layout.hasher → engine.parts ≡ layout.parts → engine.specs ≡ layout.specs → engine.nodes ≡ length (nodes_in plan) → MayStart engine (layout_settings plan layout) (meaning_in plan)
-  may_start workers engine good is parts some many hasher_is parts_are specs_are nodes_are =
-      record {
-        sound = are_sound (plan_in plan) plan.root good;
-        hasher = hasher_is;
-        parts = parts_are;
-        some = (let enough = parts.enough in omega arith);
-        few = (let low = parts.smallest 31 many in omega arith);
-        specs = λ j join. (
-            let each = has_spec j (slice_index_or layout.specs.items j None) (is.specs.each j join) in
-            rw specs_are each);
-        ordered = nodes_are;
-      }
-
   -- ---- all of it
 
-  pub stands : (run : LineRun H) (bs : List Branch) (lines : List (Line H)) → IsWellFormed (plan_in plan) plan.root → bs ≡ branches (plan_in plan) plan.root → AreLinesOf plan layout.specs.items layout.sinks.items layout.hasher layout.parts bs lines
-      → Fits hash_of run.runner (layout_settings plan layout) (meaning_in plan) at_start → IsIdle run.runner → run.parked.items ≡ []
-      → length run.counts.left.items ≡ length (named_sinks (plan_in plan) plan.root)
-      → ((s : ℕ) → number_at run.counts.left.items (sink_number (plan_in plan) plan.root s) ≡ feeds s (ways_of (plan_in plan) plan.root))
-      → ((n : ℕ) → number_at run.probers.left.items n ≡ passes n (ways_of (plan_in plan) plan.root))
-      → StandFor words (ask_in plan) run lines
-  stands run bs lines good cut are fits idle none many sinks probers =
+  pub stands : (context : PExecutionContext) (slots : Slots H) (counts : SinkCounts) (bs : List Branch) (lines : List (Line H)) → IsWellFormed (plan_in plan) plan.root → bs ≡ branches (plan_in plan) plan.root → AreLinesOf plan layout.specs.items layout.sinks.items layout.hasher layout.parts bs lines
+      → AreUnfilled (length (nodes_in plan)) context.workers slots → AreFeeds (ask_in plan) counts → IsPartitionCount context.workers layout.parts
+      → AreLent hash_of (layout_settings plan layout) (ask_in plan) context slots counts lines
+  stands context slots counts bs lines good cut are unfilled feeds_are parts =
       let A : List Branch → Type 0 = λ xs. AreLinesOf plan layout.specs.items layout.sinks.items layout.hasher layout.parts xs lines in
       let are_all = subst A cut are in
       let ways : ways_to lines ≡ ways_of (plan_in plan) plan.root = lines_ways plan layout.specs.items layout.sinks.items layout.hasher layout.parts (branches (plan_in plan) plan.root) lines are_all in
@@ -155,39 +131,28 @@ module _ {H : Type 0} (hash_of : H → List ℕ → ℕ) (plan : Checked) (layou
       record {
         well = good;
         ways = ways;
-        lines = lines_stand (branches (plan_in plan) plan.root) lines are_all (subst W (sym ways) (can_run (plan_in plan) plan.root good).ways) (subst S (sym ways) (λ n begun. begin_run (plan_in plan) plan.root n good begun));
-        fits = fits;
-        idle = idle;
-        parked = none;
-        many = many;
-        sinks = sinks;
-        probers = probers;
+        are = lines_stand (branches (plan_in plan) plan.root) lines are_all (subst W (sym ways) (can_run (plan_in plan) plan.root good).ways) (subst S (sym ways) (λ n begun. begin_run (plan_in plan) plan.root n good begun));
+        unfilled = unfilled;
+        feeds_are = feeds_are;
+        parts = parts;
       }
 
-  pub run_stands : (workers : ℕ) (run : LineRun H) (bs : List Branch) (lines : List (Line H)) → IsWellFormed (plan_in plan) plan.root → IsLayout plan layout → IsPartitionCount workers layout.parts → 1 ≤ workers → workers ≤ 2 ^ 31
-      → bs ≡ branches (plan_in plan) plan.root → AreLinesOf plan layout.specs.items layout.sinks.items layout.hasher layout.parts bs lines
-      → run.runner.hasher ≡ layout.hasher → run.runner.parts ≡ layout.parts → run.runner.specs ≡ layout.specs → run.runner.nodes ≡ length (nodes_in plan) → IsIdle run.runner
-      → ((h : H → List ℕ → ℕ) (x : Settings H) (m : _) → MayStart run.runner x m → Fits h run.runner x m at_start) → run.parked.items ≡ []
-      → length run.counts.left.items ≡ length (named_sinks (plan_in plan) plan.root)
-      → ((s : ℕ) → number_at run.counts.left.items (sink_number (plan_in plan) plan.root s) ≡ feeds s (ways_of (plan_in plan) plan.root))
-      → ((n : ℕ) → number_at run.probers.left.items n ≡ passes n (ways_of (plan_in plan) plan.root))
-      → run.runner.journal.items ≡ [] → run.runner.context.workers ≡ workers → IsRunFor hash_of plan run lines
-  run_stands workers run bs lines good is parts some low cut are hasher_is parts_are specs_are nodes_are idle fits none many sinks probers fresh workers_are =
+  pub run_stands : (context : PExecutionContext) (pipelines : List (PipeLine H)) (slots : Slots H) (counts : SinkCounts) (bs : List Branch) → IsWellFormed (plan_in plan) plan.root → IsLayout plan layout → IsPartitionCount context.workers layout.parts
+      → bs ≡ branches (plan_in plan) plan.root → AreLinesOf plan layout.specs.items layout.sinks.items layout.hasher layout.parts bs (ways_in pipelines) → AllByRecursion (IsLineFor context.workers) pipelines
+      → AreUnfilled (length (nodes_in plan)) context.workers slots → AreFeeds (ask_in plan) counts → IsRunFor hash_of plan context pipelines slots counts
+  run_stands context pipelines slots counts bs good is parts cut are made_for unfilled feeds_are =
+      let lines = ways_in pipelines in
       let A : List Branch → Type 0 = λ xs. AreLinesOf plan layout.specs.items layout.sinks.items layout.hasher layout.parts xs lines in
       let are_all = subst A cut are in
       let ways : ways_to lines ≡ ways_of (plan_in plan) plan.root = lines_ways plan layout.specs.items layout.sinks.items layout.hasher layout.parts (branches (plan_in plan) plan.root) lines are_all in
       let W : List Way → Type 0 = AllByRecursion (IsWay (meaning_in plan)) in
       let S : List Way → Type 0 = λ ws. (n : ℕ) → 0 < occurs n (flat_map starts_of ws) → (meaning_in plan).is_run n ≡ true in
       let B : List Way → Type 0 = λ ws. (n : ℕ) → 0 < occurs n (flat_map starts_of ws) → begins_leg (kind_at (nodes_in plan) n) ≡ true in
-      let K : ℕ → Type 0 = λ k. IsPartitionCount k layout.parts in
       record {
         settings = layout_settings plan layout;
-        stand = stands run bs lines good cut are
-            (fits hash_of (layout_settings plan layout) (meaning_in plan) (may_start workers run.runner good is parts some low hasher_is parts_are specs_are nodes_are))
-            idle none many sinks probers;
+        stand = record { lent = stands context slots counts bs lines good cut are unfilled feeds_are parts; made_for = made_for };
         root = root_setting plan layout is;
         order = refl;
-        fresh = fresh;
         listed = λ setting. record {
           parked = tt;
           todo = lines_listed plan setting good layout.specs.items layout.sinks.items layout.hasher layout.parts (branches (plan_in plan) plan.root) lines are_all
@@ -196,6 +161,5 @@ module _ {H : Type 0} (hash_of : H → List ℕ → ℕ) (plan : Checked) (layou
               (subst B (sym ways) (λ n begun. starts_begin (plan_in plan) plan.root n good begun))
               (is_tree (plan_in plan) plan.root good).run_under;
         };
-        parts = subst K (sym workers_are) parts;
-        staged = λ setting ok many are_parts. staged plan layout setting good ok run.runner.context.workers is many are_parts;
+        staged = λ setting ok many are_parts. staged plan layout setting good ok context.workers is many are_parts;
       }

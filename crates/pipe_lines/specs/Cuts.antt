@@ -8,13 +8,13 @@ use Rattle.std.specs.Prelude.{◌≡◌, ℕ, ◌≤◌, List, [], ◌∷◌, Bo
 use Rattle.pipe_branches.specs.declared.branch.SinkAt.{SinkAt}
 use Rattle.pipe_branches.specs.declared.branch.SinkAt.TheVariants as at
 use Rattle.pipe_branches.specs.Texts.{between}
-use Rattle.pipe_create.specs.Steps.{last_of}
+use Rattle.pipe_convert.specs.Steps.{last_of}
 use Rattle.pipe_driver.specs.declared.pipe_line.Leg.{Leg}
 use Rattle.pipe_engine.specs.Drives.{Line}
 use Rattle.pipe_engine.specs.declared.part.Part.{Part}
 use Rattle.pipe_run.specs.declared.stage.Stage.{Stage}
-use Rattle.pipe_sinks.specs.Sinks.{is_build}
-use Rattle.pipe_sinks.specs.declared.phys_sink.PhysSink.{PhysSink}
+use Rattle.pipe_slots.specs.Sinks.{is_build}
+use Rattle.pipe_slots.specs.declared.phys_sink.PhysSink.{PhysSink}
 use Rattle.pipe_slots.specs.declared.phys_operator.PhysOperator.{PhysOperator}
 use Rattle.pipe_lines.specs.declared.pipe_line.PipeLine.{PipeLine}
 use Rattle.pipe_lines.specs.declared.threaded_sink.ThreadedSink.{ThreadedSink}
@@ -22,6 +22,10 @@ use Rattle.pipe_lines.specs.declared.threaded_sink.ThreadedSink.{ThreadedSink}
 -- its source, and the legs that run
 abbrev pub way_in : {H : Type 0} → PipeLine H → Line H
 way_in line = line.way
+
+-- it is made for so many workers
+abbrev pub IsLineFor : {H : Type 0} → (workers : ℕ) → PipeLine H → Type 0
+IsLineFor workers line = line.workers ≡ workers
 
 -- ---- sinks
 

@@ -1,6 +1,6 @@
 -- What the journal of a run is: a complete list of events of its plan.
 use Rattle.std.specs.Prelude.{◌≡◌, ℕ, List, map}
-use Rattle.pipe_frame.specs.Rows.{Row, Same}
+use Rattle.pipe_schema.specs.Rows.{Row, Same}
 use Rattle.pipe_frame.specs.Frame.{Table}
 use Rattle.pipe_rows.specs.Partition.{IsPartitionCount, partition_of_key}
 use Rattle.pipe_events.specs.EventValues.{event_value}

@@ -3,7 +3,7 @@ use Rattle.std.specs.Prelude.{◌≡◌, ℕ, ◌<◌}
 use Rattle.pipe_rows.specs.Partition.{IsPartitionCount}
 use Rattle.pipe_engine.specs.Stands.{Settings}
 use Rattle.pipe_check.specs.Checked.{Checked}
-use Rattle.pipe_create.specs.Joins.{AreSpecs}
+use Rattle.pipe_convert.specs.Joins.{AreSpecs}
 use Rattle.pipe_lines.specs.Made.{AreSinks, settings_in}
 use Rattle.pipe_lines.specs.declared.layout.Layout.{Layout}
 

@@ -3,16 +3,16 @@ use Rattle.std.specs.Prelude.{◌≡◌, ℕ, List, ◌++◌, length, map}
 use Rattle.std.specs.List.{flat_map}
 use Rattle.pipe_branches.specs.declared.branch.SinkNode.{SinkNode}
 use Rattle.pipe_branches.specs.Texts.{arrow_word, operator_texts, sink_word, sink_texts}
-use Rattle.pipe_legs.specs.Legs.{leg_of, legs_from}
+use Rattle.pipe_driver.specs.Legs.{leg_of, legs_from}
 use Rattle.pipe_driver.specs.declared.pipe_line.Leg.{Leg}
 use Rattle.pipe_driver.specs.Lines.{leg_as}
 use Rattle.pipe_engine.specs.declared.part.Part.{Part}
 use Rattle.pipe_check.specs.Checked.{Checked}
 use Rattle.pipe_lines.specs.Lines.{IsLegMade, AreLegsMade, leg_text}
 use Rattle.pipe_lines.specs.Made.{Specs, Sinks}
-use Rattle.pipe_create.specs.Laws.{Numbered}
-use Rattle.pipe_create.specs.Nodes.{nodes_in}
-use Rattle.pipe_create.specs.Steps.{GoesOn}
+use Rattle.pipe_convert.specs.Laws.{Numbered}
+use Rattle.pipe_convert.specs.Nodes.{nodes_in}
+use Rattle.pipe_convert.specs.Steps.{GoesOn}
 
 -- nodes and a sink are those of a leg that begins at a node
 pub record Leads (plan : Checked) (start : ℕ) (operators : List ℕ) (sink : SinkNode) : Type 0 where

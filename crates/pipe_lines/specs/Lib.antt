@@ -10,6 +10,8 @@ pub mod Lines
 pub mod Layouts
 -- legs that are made of what a branch says
 pub mod LegsMade
+-- what pipelines that stand for the branches of a plan give
+pub mod Running
 -- a run that stands for a plan
 pub mod Standing
 -- what the journal of a run is

@@ -7,24 +7,24 @@ use Rattle.pipe_branches.specs.declared.branch.Branch.{Branch}
 use Rattle.pipe_branches.specs.declared.branch.SinkAt.{SinkAt}
 use Rattle.pipe_branches.specs.declared.branch.SinkNode.{SinkNode}
 use Rattle.pipe_branches.specs.Texts.{arrow_word, branch_text}
-use Rattle.pipe_legs.specs.Legs.{leg_of, legs_from, sink_node, way_of}
-use Rattle.pipe_legs.specs.Numbers.{named_sinks, HasNumber, place_among}
-use Rattle.pipe_legs.specs.Shape.{Begins, kind_at}
-use Rattle.pipe_legs.specs.Ways.{AreLegs}
+use Rattle.pipe_driver.specs.Legs.{leg_of, legs_from, sink_node, way_of}
+use Rattle.pipe_driver.specs.Numbers.{named_sinks, HasNumber, place_among}
+use Rattle.pipe_driver.specs.Shape.{Begins, kind_at}
+use Rattle.pipe_driver.specs.Ways.{AreLegs}
 use Rattle.pipe_driver.specs.declared.pipe_line.Leg.{Leg}
 use Rattle.pipe_driver.specs.declared.pipe_line.PipeLine.{PipeLine}
 use Rattle.pipe_driver.specs.Lines.{leg_as, way_as}
 use Rattle.pipe_run.specs.declared.stage.Stage.{Stage}
 use Rattle.pipe_slots.specs.PhysWords.{text_of}
 use Rattle.pipe_slots.specs.declared.phys_operator.PhysOperator.{PhysOperator}
-use Rattle.pipe_sinks.specs.Sinks.{sink_text}
+use Rattle.pipe_slots.specs.Sinks.{sink_text}
 use Rattle.pipe_engine.specs.Stands.{StandsFor}
 use Rattle.pipe_engine.specs.declared.part.Part.{Part}
 use Rattle.pipe_plan.specs.Under.{node_at}
 use Rattle.pipe_check.specs.Checked.{Checked}
 use Rattle.pipe_lines.specs.Made.{Specs, Sinks, settings_in}
-use Rattle.pipe_create.specs.Nodes.{IsUnder, plan_in, nodes_in, meaning_in}
-use Rattle.pipe_create.specs.Sources.{IsSourceAt, taken_at}
+use Rattle.pipe_convert.specs.Nodes.{IsUnder, plan_in, nodes_in, meaning_in}
+use Rattle.pipe_convert.specs.Sources.{IsSourceAt, taken_at}
 
 -- ---- the text of a pipeline
 

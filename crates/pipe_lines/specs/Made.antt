@@ -2,7 +2,7 @@
 use Rattle.std.specs.Prelude.{◌≡◌, ℕ, ◌<◌, ◌+◌, List, [], ◌∷◌, Bool, true, false, Option, Some, None, if◌then◌else◌, length, slice_index_or}
 use Rattle.std.specs.declared.alloc.Global.{Global}
 use Rattle.std.specs.declared.sync.Arc.{Arc}
-use Rattle.pipe_frame.specs.Rows.{Row}
+use Rattle.pipe_schema.specs.Rows.{Row}
 use Rattle.pipe_plan.specs.Node.{Node}
 use Rattle.pipe_plan.specs.Node as node
 use Rattle.pipe_plan.specs.Under.{node_at}
@@ -16,15 +16,15 @@ use Rattle.pipe_run.specs.declared.stage.Stage.{Stage}
 use Rattle.pipe_slots.specs.PhysWords.{text_of}
 use Rattle.pipe_slots.specs.Places.{Place}
 use Rattle.pipe_slots.specs.declared.phys_operator.PhysOperator.{PhysOperator}
-use Rattle.pipe_sinks.specs.Sinks.{SinkSetting, OrderedBy, setting_in, sink_rows, sink_schema, sink_text}
+use Rattle.pipe_slots.specs.Sinks.{SinkSetting, OrderedBy, setting_in, sink_rows, sink_schema, sink_text}
 use Rattle.pipe_engine.specs.Stands.{Settings, IsOperatorOf, EndsAt}
-use Rattle.pipe_sinks.specs.declared.phys_sink.PhysSink.{PhysSink}
+use Rattle.pipe_slots.specs.declared.phys_sink.PhysSink.{PhysSink}
 use Rattle.pipe_check.specs.Checked.{Checked}
 use Rattle.pipe_convert.specs.Converted.{IsNode, IsSinkOf as IsSortOf, schema_in}
-use Rattle.pipe_legs.specs.Legs.{sink_node}
-use Rattle.pipe_create.specs.Joins.{IsSpecOf, spec_at}
-use Rattle.pipe_create.specs.Nodes.{nodes_in, rows_in, meaning_in}
-use Rattle.pipe_create.specs.Steps.{GoesThrough, IsGiven, IsThere}
+use Rattle.pipe_driver.specs.Legs.{sink_node}
+use Rattle.pipe_convert.specs.Joins.{IsSpecOf, spec_at}
+use Rattle.pipe_convert.specs.Nodes.{nodes_in, rows_in, meaning_in}
+use Rattle.pipe_convert.specs.Steps.{GoesThrough, IsGiven, IsThere}
 
 abbrev pub Specs : Type 0
 Specs = List (Option (Arc JoinSpec Global))

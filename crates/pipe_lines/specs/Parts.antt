@@ -2,8 +2,8 @@
 use Rattle.std.specs.Prelude.{◌≡◌, ℕ, ◌<◌, List, [], ◌∷◌, Option}
 use Rattle.pipe_branches.specs.declared.branch.SinkNode.{SinkNode}
 use Rattle.pipe_check.specs.Checked.{Checked}
-use Rattle.pipe_create.specs.Nodes.{meaning_in}
-use Rattle.pipe_create.specs.Steps.{GoesThrough, IsThere}
+use Rattle.pipe_convert.specs.Nodes.{meaning_in}
+use Rattle.pipe_convert.specs.Steps.{GoesThrough, IsThere}
 use Rattle.pipe_slots.specs.declared.phys_operator.PhysOperator.{PhysOperator}
 use Rattle.pipe_lines.specs.Cuts.{place_node}
 use Rattle.pipe_lines.specs.Made.{Specs, Sinks, IsOperatorAt, IsSinkSplit}

@@ -1,50 +1,54 @@
 -- A run that stands for a checked plan.
 use Rattle.std.specs.Prelude.{◌≡◌, ℕ, List, [], length, if◌then◌else◌}
-use Rattle.pipe_frame.specs.Counts.{Rises}
-use Rattle.pipe_frame.specs.Weights.{total}
-use Rattle.pipe_rows.specs.Partition.{IsPartitionCount}
+use Rattle.pipe_schema.specs.Counts.{Rises}
+use Rattle.pipe_schema.specs.Weights.{total}
+use Rattle.pipe_ops.specs.declared.context.PExecutionContext.{PExecutionContext}
 use Rattle.pipe_events.specs.PlanStages.{Setting, stages_of}
 use Rattle.pipe_events.specs.Stages.{IsStages}
 use Rattle.pipe_check.specs.Checked.{Checked}
 use Rattle.pipe_branches.specs.declared.branch.SinkAt.TheVariants as at
 use Rattle.pipe_convert.specs.Converted.{schema_in}
-use Rattle.pipe_create.specs.Nodes.{plan_in, nodes_in, meaning_in}
-use Rattle.pipe_legs.specs.Meaning.{Meaning}
-use Rattle.pipe_legs.specs.Shape.{sources_of}
-use Rattle.pipe_driver.specs.Plans.{Ask, StandFor}
+use Rattle.pipe_convert.specs.Nodes.{plan_in, nodes_in, meaning_in}
+use Rattle.pipe_driver.specs.Meaning.{Meaning}
+use Rattle.pipe_driver.specs.Shape.{sources_of}
+use Rattle.pipe_driver.specs.Plans.{Ask}
+use Rattle.pipe_driver.specs.declared.sink_counts.SinkCounts.{SinkCounts}
 use Rattle.pipe_driver.specs.declared.error.RunError.{RunError}
 use Rattle.pipe_driver.specs.declared.error.RunError.TheVariants as error
-use Rattle.pipe_engine.specs.Drives.{Line, LineRun}
-use Rattle.pipe_engine.specs.Engine.{engine_words}
 use Rattle.pipe_engine.specs.Journals.{staging_of}
+use Rattle.pipe_engine.specs.Known.{Asked}
 use Rattle.pipe_engine.specs.Noted.{AreListed, IsStagingOf}
 use Rattle.pipe_engine.specs.Stands.{Settings}
-use Rattle.pipe_sinks.specs.Sinks.{OrderedBy}
+use Rattle.pipe_slots.specs.Sinks.{OrderedBy}
+use Rattle.pipe_slots.specs.declared.slots.Slots.{Slots}
 use Rattle.pipe_lines.specs.Made.{order_in}
+use Rattle.pipe_lines.specs.Running.{StandForBranches, ways_in}
+use Rattle.pipe_lines.specs.declared.pipe_line.PipeLine.{PipeLine}
 
 -- the rows of its root are asked for
 abbrev pub ask_in : Checked → Ask
 ask_in plan = record { plan = plan_in plan; root = plan.root }
 
--- pipelines stand for the branches of a plan, in order, and a run has all that they need: for the
--- settings of which both were made, of which the root's sink has the schema of the root, and its rows
+-- and the settings by which its pipelines are made
+abbrev pub asked_in : {H : Type 0} → Checked → Settings H → Asked H
+asked_in plan settings = record { ask = ask_in plan; settings = settings }
+
+-- pipelines stand for the branches of a plan, in order, with what is lent to their run: for the
+-- settings of which they were made, of which the root's sink has the schema of the root, and its rows
 -- their order, where it is a sort
-pub record IsRunFor {H : Type 0} (hash_of : H → List ℕ → ℕ) (plan : Checked) (run : LineRun H)
-    (pipelines : List (Line H)) : Type 0 where
+pub record IsRunFor {H : Type 0} (hash_of : H → List ℕ → ℕ) (plan : Checked)
+    (context : PExecutionContext) (pipelines : List (PipeLine H)) (slots : Slots H)
+    (counts : SinkCounts) : Type 0 where
   pub settings : Settings H
-  pub stand : StandFor (engine_words hash_of settings) (ask_in plan) run pipelines
+  pub stand : StandForBranches hash_of (asked_in plan settings) context pipelines slots counts
   pub root : settings.setting_at at.Ordered ≡ OrderedBy (schema_in plan plan.root)
   pub order : settings.order ≡ order_in plan
-  -- nothing is written yet, and the pipelines take what the events of a run take
-  pub fresh : run.runner.journal.items ≡ []
+  -- the pipelines take what the events of a run take, by as many workers and with as many partitions
   pub listed : (setting : Setting) →
-      AreListed (staging_of (ask_in plan) setting) (meaning_in plan) [] pipelines
-  -- by so many workers, with as many partitions as they ask for
-  pub parts : IsPartitionCount run.runner.context.workers settings.parts
+      AreListed (staging_of (ask_in plan) setting) (meaning_in plan) [] (ways_in pipelines)
   pub staged : (setting : Setting) → IsStages (stages_of (plan_in plan) plan.root setting) →
-      setting.workers ≡ run.runner.context.workers → setting.parts ≡ settings.parts →
-      IsStagingOf settings (meaning_in plan) run.runner.context.workers
-      (staging_of (ask_in plan) setting)
+      setting.workers ≡ context.workers → setting.parts ≡ settings.parts →
+      IsStagingOf settings (meaning_in plan) context.workers (staging_of (ask_in plan) setting)
 
 -- how many rows a node has, none where it is a sort, and how many the sources under a plan's root have
 -- together: its scans, and unions of scans alone, which have their scans' rows

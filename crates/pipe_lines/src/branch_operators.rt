@@ -2,7 +2,7 @@
 
 ghost use Rattle.std.specs.Prelude.{◌≤◌, IfOk};
 ghost use Rattle.std.specs.List.{AllByRecursion};
-ghost use Rattle.pipe_create.specs.Joins.{AreSpecs};
+ghost use Rattle.pipe_convert.specs.Joins.{AreSpecs};
 ghost use Rattle.pipe_lines.specs.Parts.{AreOperatorsAt, IsGoneThrough};
 
 use crate::operator::get_operator;

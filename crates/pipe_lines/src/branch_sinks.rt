@@ -2,9 +2,9 @@
 
 ghost use Rattle.std.specs.Prelude.{◌≡◌, length, IfOk};
 ghost use Rattle.std.specs.List.{AllByRecursion};
-ghost use Rattle.pipe_legs.specs.Legs.{sink_node};
-ghost use Rattle.pipe_create.specs.Nodes.{nodes_in, meaning_in};
-ghost use Rattle.pipe_create.specs.Steps.{IsThere};
+ghost use Rattle.pipe_driver.specs.Legs.{sink_node};
+ghost use Rattle.pipe_convert.specs.Nodes.{nodes_in, meaning_in};
+ghost use Rattle.pipe_convert.specs.Steps.{IsThere};
 ghost use Rattle.pipe_lines.specs.Layouts.{IsLayout};
 ghost use Rattle.pipe_lines.specs.Made.{IsSinkSplit};
 ghost use Rattle.pipe_lines.specs.Parts.{AreSinksMade, IsSinkThere};
@@ -13,10 +13,10 @@ use crate::layout::Layout;
 use crate::threaded_sink::ThreadedSink;
 use pipe_branches::{SinkAt, SinkNode};
 use pipe_check::CheckedPlan;
-use pipe_create::node_count;
+use pipe_convert::node_count;
 use pipe_ops::Sink;
 use pipe_rows::KeyHasher;
-use pipe_sinks::PhysSink;
+use pipe_slots::PhysSink;
 use std::alloc::{AllocError, Global};
 
 /// The node of a sink; of the root's sink the number of all nodes.

@@ -1,20 +1,19 @@
 //! A pipeline's operators and sinks leg by leg.
 
 ghost use Rattle.std.specs.Prelude.{◌≡◌, ◌≤◌, ◌∷◌, [], length, drop, IfOk, OnOk};
-ghost use Rattle.pipe_create.specs.Steps.{last_of};
+ghost use Rattle.pipe_convert.specs.Steps.{last_of};
 ghost use Rattle.pipe_lines.specs.Cuts.{AreLegsCut, EndWithin, IsLegCut, next_of, place_of, stages_of};
 
 use crate::pipe_nodes::PipeNodes;
 use crate::threaded_sink::ThreadedSink;
 use pipe_branches::SinkAt;
-use pipe_create::operators_between;
+use pipe_convert::operators_between;
 use pipe_driver::Leg;
 use pipe_engine::Part;
 use pipe_ops::Sink;
 use pipe_rows::KeyHasher;
 use pipe_run::{Basin, Stage};
-use pipe_sinks::PhysSink;
-use pipe_slots::PhysOperator;
+use pipe_slots::{PhysOperator, PhysSink};
 use std::alloc::{AllocError, Global};
 use std::collections::VecDeque;
 

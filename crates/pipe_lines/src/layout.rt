@@ -5,10 +5,10 @@ ghost use Rattle.pipe_lines.specs.Layouts.{IsLayoutFor};
 
 use crate::sinks::plan_sinks;
 use pipe_check::CheckedPlan;
-use pipe_create::join_specs;
+use pipe_convert::join_specs;
 use pipe_index::HashesKeys;
 use pipe_rows::{KeyHasher, partition_count};
-use pipe_sinks::PhysSink;
+use pipe_slots::PhysSink;
 use pipe_table::JoinSpec;
 use std::alloc::{AllocError, Global};
 use std::sync::Arc;

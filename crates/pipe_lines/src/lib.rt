@@ -8,6 +8,7 @@
 mod branch_operators;
 mod branch_sinks;
 mod cutting;
+mod executing;
 mod layout;
 mod operator;
 mod pipe_line;
@@ -20,6 +21,7 @@ mod sinks;
 mod text;
 mod threaded_sink;
 
+pub use executing::execute_pipeline;
 pub use layout::Layout;
 pub use operator::get_operator;
 pub use pipe_line::PipeLine;

@@ -1,20 +1,19 @@
 //! The operators of nodes.
 
 ghost use Rattle.std.specs.Prelude.{◌≡◌, ℕ, ◌≤◌, true, IfOk};
-ghost use Rattle.pipe_create.specs.Joins.{AreSpecs};
+ghost use Rattle.pipe_convert.specs.Joins.{AreSpecs};
 ghost use Rattle.pipe_lines.specs.Made.{IsOperatorAt, IsPlaceAt, lets_through};
 ghost use Rattle.pipe_plan.specs.Node.{node_of};
 ghost use Rattle.pipe_plan.specs.Under.{node_at};
-ghost use Rattle.pipe_create.specs.Nodes.{IsUnder, nodes_in, meaning_in};
-ghost use Rattle.pipe_create.specs.Steps.{GoesThrough};
+ghost use Rattle.pipe_convert.specs.Nodes.{IsUnder, nodes_in, meaning_in};
+ghost use Rattle.pipe_convert.specs.Steps.{GoesThrough};
 
 use crate::settings::settings_of;
 use pipe_check::CheckedPlan;
 use pipe_convert::{
-    filter_operator, function_operator, hstack_operator, projection_operator,
+    filter_operator, function_operator, hstack_operator, numbered, projection_operator,
     simple_projection_operator,
 };
-use pipe_create::numbered;
 use pipe_ops::Pass;
 use pipe_plan::IR;
 use pipe_rows::KeyHasher;

@@ -1,10 +1,11 @@
 //! The pipelines of branches.
 
 ghost use Rattle.std.specs.Prelude.{◌≡◌, ◌≤◌, map, IfOk};
+ghost use Rattle.std.specs.List.{AllByRecursion};
 ghost use Rattle.pipe_branches.specs.Branches.{branches as branches_of_plan};
-ghost use Rattle.pipe_create.specs.Laws.{IsBranch};
-ghost use Rattle.pipe_create.specs.Nodes.{plan_in};
-ghost use Rattle.pipe_lines.specs.Cuts.{way_in};
+ghost use Rattle.pipe_convert.specs.Laws.{IsBranch};
+ghost use Rattle.pipe_convert.specs.Nodes.{plan_in};
+ghost use Rattle.pipe_lines.specs.Cuts.{way_in, IsLineFor};
 ghost use Rattle.pipe_lines.specs.Layouts.{IsLayout};
 ghost use Rattle.pipe_lines.specs.Lines.{HasEnds, IsLineOf, AreLinesOf};
 
@@ -15,7 +16,7 @@ use crate::pipe_line::PipeLine;
 use crate::pipe_nodes::pipe_nodes;
 use pipe_branches::Branch;
 use pipe_check::CheckedPlan;
-use pipe_create::get_source;
+use pipe_convert::get_source;
 use pipe_engine::PlanLine;
 use pipe_rows::KeyHasher;
 use std::alloc::{AllocError, Global};
@@ -33,8 +34,9 @@ pub fn create_pipeline<H: KeyHasher>(
     requires ends { HasEnds branch.now }
     requires layout { IsLayout plan.now layout.now }
     requires workers { 1 ≤ workers }
-    ensures { IfOk result (λ line. IsLineOf plan.now layout.now.specs.items
+    ensures line { IfOk result (λ line. IsLineOf plan.now layout.now.specs.items
         layout.now.sinks.items layout.now.hasher layout.now.parts branch.now line.way) }
+    ensures workers { IfOk result (IsLineFor workers) }
 {
     let _ = plan.root();
     let source = get_source(alloc, plan, branch.source)?;
@@ -57,9 +59,10 @@ pub fn create_pipelines<H: KeyHasher>(
     requires cut { branches.now ≡ branches_of_plan (plan_in plan.now) plan.now.root }
     requires layout { IsLayout plan.now layout.now }
     requires workers { 1 ≤ workers }
-    ensures { IfOk result (λ lines. AreLinesOf plan.now layout.now.specs.items
+    ensures lines { IfOk result (λ lines. AreLinesOf plan.now layout.now.specs.items
         layout.now.sinks.items layout.now.hasher layout.now.parts branches.now
         (map way_in lines.items)) }
+    ensures workers { IfOk result (λ lines. AllByRecursion (IsLineFor workers) lines.items) }
 {
     let _ = plan.root();
     let mut lines = Vec::new(alloc);

@@ -1,44 +1,47 @@
 //! A plan's pipelines, with what runs them.
 
 ghost use Rattle.std.specs.Prelude.{◌≡◌, [], IfOk, IfErr, OnOk, Err, true};
-ghost use Rattle.pipe_frame.specs.Counts.{Counts, Rises};
-ghost use Rattle.pipe_frame.specs.Rows.{Same};
+ghost use Rattle.pipe_schema.specs.Counts.{Counts, Rises};
+ghost use Rattle.pipe_schema.specs.Rows.{Same};
 ghost use Rattle.pipe_convert.specs.Converted.{schema_in};
-ghost use Rattle.pipe_create.specs.Nodes.{nodes_in, plan_in, rows_in};
+ghost use Rattle.pipe_convert.specs.Nodes.{nodes_in, plan_in, rows_in};
 ghost use Rattle.pipe_driver.specs.Within.{AllWithin, EndsWith};
 ghost use Rattle.pipe_plan.specs.Under.{node_at};
 ghost use Rattle.pipe_engine.specs.Asked.{stops};
 ghost use Rattle.pipe_engine.specs.Paced.{TakesPaced, most_of};
-ghost use Rattle.pipe_takings.specs.Paced.{KeepsPace};
+ghost use Rattle.pipe_run.specs.Paced.{KeepsPace};
 ghost use Rattle.pipe_lines.specs.Journals.{IsJournalOf};
 ghost use Rattle.pipe_lines.specs.Made.{sorts_rows};
 ghost use Rattle.pipe_lines.specs.Standing.{IsRunFor, IsMemory, Stays, rows_scanned};
 
+use crate::executing::execute_pipeline;
 use crate::layout::Layout;
-use crate::pipeline::{create_pipelines, lines_to_run};
+use crate::pipe_line::PipeLine;
+use crate::pipeline::create_pipelines;
 use pipe_branches::cut;
 use pipe_check::CheckedPlan;
-use pipe_create::{branch_counts, node_count};
-use pipe_driver::{Run, RunError};
-use pipe_engine::{Engine, PlanLine, PlanRun, Tools, execute_branches};
+use pipe_convert::{LegCounts, branch_counts, node_count};
+use pipe_driver::{RunError, SinkCounts};
+use pipe_engine::Tools;
 use pipe_events::Event;
-use pipe_frame::{DataFrame, Gate, StopCheck};
+use pipe_frame::DataFrame;
+use pipe_laws::frames_fit;
 use pipe_ops::PExecutionContext;
 use pipe_rows::KeyHasher;
-use pipe_typing::frames_fit;
+use pipe_schema::{Gate, StopCheck};
+use pipe_slots::Slots;
 use std::alloc::{AllocError, Global};
 use std::thread::Threads;
 
-/// The pipelines of a checked plan's branches, in order, and what runs them: an engine to which no leg has come, and how
-/// many legs come to each sink and each node.
+/// The pipelines of a checked plan's branches, in order, and what is lent to their run: slots, none of which is filled,
+/// and how many legs come to each sink.
 pub fn create_run<H: KeyHasher>(
     alloc: Global,
     plan: &CheckedPlan,
     context: PExecutionContext,
     hasher: H,
-) -> Result<(PlanRun<H>, Vec<PlanLine<H>>), AllocError>
-    ensures stand { IfOk result (λ r. IsRunFor H.hash_of plan.now r.0 r.1.items) }
-    ensures context { IfOk result (λ r. r.0.runner.context ≡ context) }
+) -> Result<(Vec<PipeLine<H>>, Slots<H>, SinkCounts), AllocError>
+    ensures { IfOk result (λ r. IsRunFor H.hash_of plan.now context r.0.items r.1 r.2) }
 {
     let _ = plan.root();
     let workers = context.workers;
@@ -47,23 +50,9 @@ pub fn create_run<H: KeyHasher>(
     let counts = branch_counts(alloc, plan, all)?;
     let layout = Layout::new(alloc, plan, workers, hasher)?;
     let pipelines = create_pipelines(alloc, all, plan, &layout, workers)?;
-    let lines = lines_to_run(alloc, pipelines)?;
-    let Layout {
-        specs,
-        sinks,
-        parts,
-        hasher,
-    } = layout;
-    drop(sinks);
-    let runner = Engine::new(alloc, context, hasher, parts, specs, node_count(plan))?;
-    let parked = Vec::new(alloc);
-    let run = Run {
-        runner,
-        parked,
-        counts: counts.sinks,
-        probers: counts.probers,
-    };
-    Ok((run, lines))
+    let slots = Slots::new(alloc, node_count(plan), workers)?;
+    let LegCounts { sinks, probers: _ } = counts;
+    Ok((pipelines, slots, sinks))
 }
 
 /// Runs the pipelines of a checked plan: the rows of its root, under its schema, in their order where it is a sort. No
@@ -103,7 +92,9 @@ pub fn run_branches<R: Threads + Sync, H: KeyHasher, C: StopCheck, G: Gate + Syn
 {
     frames_fit(plan.arena().frames.as_slice());
     match create_run(alloc, plan, context, hasher) {
-        Ok((run, pipelines)) => execute_branches(alloc, tools, stop, run, pipelines, journal),
+        Ok((pipelines, slots, counts)) => execute_pipeline(
+            alloc, tools, &context, pipelines, slots, counts, stop, journal,
+        ),
         Err(_) => Err(RunError::Memory),
     }
 }

@@ -2,24 +2,23 @@
 
 ghost use Rattle.std.specs.Prelude.{◌≡◌, ◌<◌, true, IfOk};
 ghost use Rattle.pipe_branches.specs.declared.branch.SinkAt.TheVariants as at;
-ghost use Rattle.pipe_create.specs.Joins.{AreSpecs};
+ghost use Rattle.pipe_convert.specs.Joins.{AreSpecs};
 ghost use Rattle.pipe_lines.specs.Made.{IsSinkAt, IsSortAt, sorts_rows};
 ghost use Rattle.pipe_plan.specs.Node.{node_of};
 ghost use Rattle.pipe_plan.specs.Under.{node_at};
-ghost use Rattle.pipe_create.specs.Nodes.{IsUnder, nodes_in, meaning_in};
-ghost use Rattle.pipe_create.specs.Steps.{IsThere};
+ghost use Rattle.pipe_convert.specs.Nodes.{IsUnder, nodes_in, meaning_in};
+ghost use Rattle.pipe_convert.specs.Steps.{IsThere};
 
 use crate::settings::settings_of;
 use pipe_branches::SinkAt;
 use pipe_check::CheckedPlan;
-use pipe_convert::sort_sink;
-use pipe_create::numbered;
+use pipe_convert::{numbered, sort_sink};
 use pipe_expr::JoinType;
-use pipe_frame::TryClone;
 use pipe_plan::IR;
 use pipe_probe::CrossJoin;
 use pipe_rows::KeyHasher;
-use pipe_sinks::PhysSink;
+use pipe_schema::TryClone;
+use pipe_slots::PhysSink;
 use pipe_sort::SortSink;
 use pipe_source::OrderedSink;
 use pipe_table::{GenericBuild, JoinSpec};

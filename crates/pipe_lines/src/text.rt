@@ -4,7 +4,7 @@ ghost use Rattle.std.specs.Prelude.{◌≡◌, Some};
 ghost use Rattle.std.specs.List.{flat_map};
 ghost use Rattle.std.specs.Fmt.{WritesOnOk};
 ghost use Rattle.pipe_branches.specs.Texts.{arrow_word};
-ghost use Rattle.pipe_sinks.specs.Sinks.{sink_text};
+ghost use Rattle.pipe_slots.specs.Sinks.{sink_text};
 ghost use Rattle.pipe_slots.specs.PhysWords.{text_of};
 ghost use Rattle.pipe_lines.specs.Lines.{stage_text, part_text, leg_text, line_text, source_or_none};
 
@@ -14,8 +14,7 @@ use pipe_engine::Part;
 use pipe_index::HashesKeys;
 use pipe_ops::{Sink, Source};
 use pipe_run::Stage;
-use pipe_sinks::PhysSink;
-use pipe_slots::PhysOperator;
+use pipe_slots::{PhysOperator, PhysSink};
 use pipe_source::PhysSource;
 use std::fmt;
 

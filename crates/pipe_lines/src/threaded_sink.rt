@@ -4,7 +4,7 @@ ghost use Rattle.std.specs.Prelude.{◌≡◌, ◌<◌, IfOk};
 
 use pipe_index::HashesKeys;
 use pipe_rows::KeyHasher;
-use pipe_sinks::PhysSink;
+use pipe_slots::PhysSink;
 use std::alloc::AllocError;
 
 /// A sink of a pipeline, with its number, how many of the pipeline's operators stand before it, and for how many workers

@@ -3,13 +3,14 @@ use Rattle.std.proofs.Common.{◌≡◌, ℕ, suc, ◌+◌, ◌<◌, List, [], �
 use Rattle.std.specs.Prelude.{◌⊎◌}
 use Rattle.std.proofs.lemmas.List.{length-map, map-append}
 use Rattle.std.proofs.lemmas.List.Concat.{flat_map_single}
-use Rattle.pipe_frame.specs.Rows.{Row, Same}
-use Rattle.pipe_frame.specs.Series.{Cells}
-use Rattle.pipe_frame.specs.Schema.{IsSchema, place_of}
-use Rattle.pipe_frame.specs.Frame.{Table, AllOfHeight, field_of, cell_of_row, table_of, height_of, columns_from, columns_of}
-use Rattle.pipe_frame.specs.declared.any_value.AnyValue.{AnyValue}
-use Rattle.pipe_frame.specs.declared.field.Field.{Field}
-use Rattle.pipe_frame.proofs.NamePlaces.{some_field, place_of-name}
+use Rattle.pipe_schema.specs.Rows.{Row, Same}
+use Rattle.pipe_column.specs.Series.{Cells}
+use Rattle.pipe_schema.specs.Schema.{IsSchema, place_of}
+use Rattle.pipe_column.specs.Columns.{AllOfHeight, field_of, height_of}
+use Rattle.pipe_frame.specs.Frame.{Table, cell_of_row, table_of, columns_from, columns_of}
+use Rattle.pipe_schema.specs.declared.any_value.AnyValue.{AnyValue}
+use Rattle.pipe_schema.specs.declared.field.Field.{Field}
+use Rattle.pipe_schema.proofs.NamePlaces.{some_field, place_of-name}
 use Rattle.pipe_frame.proofs.Tables.{map_map, map_same}
 use Rattle.pipe_expr.specs.Values.{named_cell, cell_there}
 use Rattle.pipe_expr.specs.Projections.{expr_field, expr_cell, expr_named, new_exprs, replaced_field, stacked_field, hstack_fields, replaced_cell, stacked_cell, hstack_row}

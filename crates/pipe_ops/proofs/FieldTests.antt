@@ -3,9 +3,9 @@ use Rattle.std.proofs.Common.{◌≡◌, ℕ, Bool, true, false, cond, ◌||◌,
 use Rattle.std.specs.List.{list_all}
 use Rattle.std.specs.Str.{bytes_eq}
 use Rattle.std.proofs.lemmas.Bool.{and_from, and_parts}
-use Rattle.pipe_frame.specs.Schema.{has_name, names_of, first_unknown}
-use Rattle.pipe_frame.specs.declared.data_type.DataType.{DataType}
-use Rattle.pipe_frame.specs.declared.field.Field.{Field}
+use Rattle.pipe_schema.specs.Schema.{has_name, names_of, first_unknown}
+use Rattle.pipe_schema.specs.declared.data_type.DataType.{DataType}
+use Rattle.pipe_schema.specs.declared.field.Field.{Field}
 use Rattle.pipe_expr.specs.Types.{type_of_column}
 use Rattle.pipe_expr.specs.Projections.{known_type, field_named, fields_named}
 use Rattle.pipe_ops.specs.Each.{HasFields, has_type, has_field}

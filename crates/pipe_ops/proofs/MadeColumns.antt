@@ -3,12 +3,13 @@ use Rattle.std.proofs.Common.{◌≡◌, ℕ, zero, suc, ◌<◌, true, List, []
 use Rattle.std.proofs.lemmas.Bool.Decides.{Decides-eqb}
 use Rattle.std.proofs.lemmas.List.{length-map, get_or-map}
 use Rattle.std.proofs.lemmas.List.FromFn.{fill_by_all}
-use Rattle.pipe_frame.specs.Series.{Cells, cell_at}
-use Rattle.pipe_frame.specs.Schema.{IsSchema}
-use Rattle.pipe_frame.specs.Frame.{AllOfHeight, field_of, cell_in, row_at, column_rows, table_of, height_of, other_height, frame_fault, else_fault, differing}
-use Rattle.pipe_frame.specs.declared.any_value.AnyValue.{AnyValue}
-use Rattle.pipe_frame.specs.declared.any_value.AnyValue.TheVariants as cell
-use Rattle.pipe_frame.specs.declared.field.Field.{Field}
+use Rattle.pipe_column.specs.Series.{Cells, cell_at}
+use Rattle.pipe_schema.specs.Schema.{IsSchema}
+use Rattle.pipe_column.specs.Columns.{AllOfHeight, field_of, cell_in, row_at, column_rows, height_of, other_height}
+use Rattle.pipe_frame.specs.Frame.{table_of, frame_fault, else_fault, differing}
+use Rattle.pipe_schema.specs.declared.any_value.AnyValue.{AnyValue}
+use Rattle.pipe_schema.specs.declared.any_value.AnyValue.TheVariants as cell
+use Rattle.pipe_schema.specs.declared.field.Field.{Field}
 use Rattle.pipe_frame.proofs.Tables.{map_map, map_same}
 
 -- columns of one height do not differ

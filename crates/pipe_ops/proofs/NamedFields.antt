@@ -7,14 +7,15 @@ use Rattle.std.specs.Cmp.Lexicographic.{bytes_decides}
 use Rattle.std.proofs.lemmas.Option.{slice_get-get_or}
 use Rattle.std.proofs.lemmas.List.{length-map}
 use Rattle.std.proofs.lemmas.List.Concat.{flat_map_single}
-use Rattle.pipe_frame.specs.Rows.{Row, Same}
-use Rattle.pipe_frame.specs.Series.{Cells}
-use Rattle.pipe_frame.specs.Schema.{place_from, place_of, first_unknown, has_name, names_fault, names_of}
-use Rattle.pipe_frame.specs.Frame.{Table, cell_in, row_at, column_rows, at_places, places_named, row_at_places, selected, select_fault, else_fault}
-use Rattle.pipe_frame.specs.declared.any_value.AnyValue.TheVariants as cell
-use Rattle.pipe_frame.specs.declared.error.FrameError.{FrameError}
-use Rattle.pipe_frame.specs.declared.error.FrameError.TheVariants as fault
-use Rattle.pipe_frame.specs.declared.field.Field.{Field}
+use Rattle.pipe_schema.specs.Rows.{Row, Same}
+use Rattle.pipe_column.specs.Series.{Cells}
+use Rattle.pipe_schema.specs.Schema.{place_from, place_of, first_unknown, has_name, names_fault, names_of}
+use Rattle.pipe_column.specs.Columns.{cell_in, row_at, column_rows}
+use Rattle.pipe_frame.specs.Frame.{Table, at_places, places_named, row_at_places, selected, select_fault, else_fault}
+use Rattle.pipe_schema.specs.declared.any_value.AnyValue.TheVariants as cell
+use Rattle.pipe_schema.specs.declared.error.FrameError.{FrameError}
+use Rattle.pipe_schema.specs.declared.error.FrameError.TheVariants as fault
+use Rattle.pipe_schema.specs.declared.field.Field.{Field}
 use Rattle.pipe_frame.proofs.Tables.{map_map, map_same}
 use Rattle.pipe_expr.specs.Types.{type_of_column}
 use Rattle.pipe_expr.specs.Values.{named_cell, cell_there}

@@ -3,11 +3,12 @@ use Rattle.std.proofs.Common.{◌≡◌, ℕ, ◌<◌, ◌≤◌, List, [], leng
 use Rattle.std.specs.declared.sync.Arc.{Arc}
 use Rattle.std.proofs.lemmas.List.{length-map, take_all}
 use Rattle.std.proofs.lemmas.List.Concat.{flat_map_single}
-use Rattle.pipe_frame.specs.Rows.{Row, Same}
-use Rattle.pipe_frame.specs.Series.{Cells}
-use Rattle.pipe_frame.specs.Schema.{IsSchema}
-use Rattle.pipe_frame.specs.Frame.{Table, AllOfHeight, field_of, table_of, height_of}
-use Rattle.pipe_frame.proofs.NamePlaces.{some_field}
+use Rattle.pipe_schema.specs.Rows.{Row, Same}
+use Rattle.pipe_column.specs.Series.{Cells}
+use Rattle.pipe_schema.specs.Schema.{IsSchema}
+use Rattle.pipe_column.specs.Columns.{AllOfHeight, field_of, height_of}
+use Rattle.pipe_frame.specs.Frame.{Table, table_of}
+use Rattle.pipe_schema.proofs.NamePlaces.{some_field}
 use Rattle.pipe_frame.proofs.Tables.{map_map, map_same}
 use Rattle.pipe_expr.specs.Projections.{expr_field, expr_cell, select_fields, select_row}
 use Rattle.pipe_expr.specs.Formula.{NamedFormula}

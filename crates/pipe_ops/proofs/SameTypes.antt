@@ -1,8 +1,8 @@
 -- Types that are the same are equal.
 use Rattle.std.proofs.Common.{◌≡◌, true, refl}
-use Rattle.pipe_frame.specs.Cell.{eq_dtype}
-use Rattle.pipe_frame.specs.declared.data_type.DataType.{DataType}
-use Rattle.pipe_frame.specs.declared.data_type.DataType.TheVariants as dtype
+use Rattle.pipe_schema.specs.Cell.{eq_dtype}
+use Rattle.pipe_schema.specs.declared.data_type.DataType.{DataType}
+use Rattle.pipe_schema.specs.declared.data_type.DataType.TheVariants as dtype
 
 int32 : (b : DataType) → eq_dtype dtype.Int32 b ≡ true → dtype.Int32 ≡ b
 int32 dtype.Int32 h = refl

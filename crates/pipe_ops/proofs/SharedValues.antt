@@ -2,7 +2,7 @@
 use Rattle.std.proofs.Common.{◌≡◌, List, [], ◌∷◌, map, ap, subst, sym, ◌∙◌}
 use Rattle.std.specs.List.{AllByRecursion}
 use Rattle.std.specs.declared.sync.Arc.{Arc}
-use Rattle.pipe_frame.specs.declared.field.Field.{Field}
+use Rattle.pipe_schema.specs.declared.field.Field.{Field}
 use Rattle.pipe_frame.proofs.Tables.{map_map}
 use Rattle.pipe_expr.specs.Formula.{NamedFormula}
 use Rattle.pipe_ops.specs.Exprs.{exprs_in, IsMadeFor, value_in, values_in}

@@ -2,8 +2,8 @@
 use Rattle.std.proofs.Common.{◌≡◌, ℕ, ◌+◌, true, false, cond, List, [], ◌∷◌, Some, is_some, refl, ap}
 use Rattle.std.specs.Prelude.{not, ◌||◌}
 use Rattle.std.specs.Str.{bytes_eq}
-use Rattle.pipe_frame.specs.Schema.{has_name, names_of, place_from, place_of}
-use Rattle.pipe_frame.specs.declared.field.Field.{Field}
+use Rattle.pipe_schema.specs.Schema.{has_name, names_of, place_from, place_of}
+use Rattle.pipe_schema.specs.declared.field.Field.{Field}
 
 pub placed : (n : ℕ) (name : List ℕ) (fields : List Field) → has_name (names_of fields) name ≡ is_some (place_from n name fields)
 placed n name [] = refl

@@ -1,12 +1,12 @@
 -- What becomes of one row, operator by operator.
 use Rattle.std.specs.Prelude.{◌≡◌, ℕ, List, [], ◌∷◌, Bool, false, Option, Some, None, map, if◌then◌else◌}
 use Rattle.pipe_frame.specs.Frame.{Table}
-use Rattle.pipe_frame.specs.Rows.{Row}
-use Rattle.pipe_frame.specs.Cell.{eq_dtype}
-use Rattle.pipe_frame.specs.Schema.{names_of, first_unknown}
-use Rattle.pipe_frame.specs.declared.data_type.DataType.{DataType}
-use Rattle.pipe_frame.specs.declared.data_type.DataType.TheVariants as dtype
-use Rattle.pipe_frame.specs.declared.field.Field.{Field}
+use Rattle.pipe_schema.specs.Rows.{Row}
+use Rattle.pipe_schema.specs.Cell.{eq_dtype}
+use Rattle.pipe_schema.specs.Schema.{names_of, first_unknown}
+use Rattle.pipe_schema.specs.declared.data_type.DataType.{DataType}
+use Rattle.pipe_schema.specs.declared.data_type.DataType.TheVariants as dtype
+use Rattle.pipe_schema.specs.declared.field.Field.{Field}
 use Rattle.pipe_expr.specs.Types.{type_of, type_of_column}
 use Rattle.pipe_expr.specs.Projections.{passes, fields_named, row_named}
 use Rattle.pipe_expr.specs.Formula.{NamedFormula}

@@ -1,7 +1,7 @@
 -- What a sink ends as.
 use Rattle.std.specs.Prelude.{◌≡◌, ℕ, List, Bool, true, false, codes}
-use Rattle.pipe_frame.specs.Rows.{Row}
-use Rattle.pipe_frame.specs.declared.field.Field.{Field}
+use Rattle.pipe_schema.specs.Rows.{Row}
+use Rattle.pipe_schema.specs.declared.field.Field.{Field}
 use Rattle.pipe_ops.specs.declared.sink.FinalizedSink.{FinalizedSink}
 use Rattle.pipe_ops.specs.declared.sink.FinalizedSink.TheVariants.{Finished, Operator, Source}
 

@@ -3,10 +3,10 @@ use Rattle.std.specs.Prelude.{◌≡◌, ℕ, List, [], ◌∷◌, Option, Some,
 use Rattle.std.specs.List.{AllByRecursion}
 use Rattle.std.specs.declared.sync.Arc.{Arc}
 use Rattle.pipe_frame.specs.Frame.{Table, columns_of}
-use Rattle.pipe_frame.specs.Rows.{Row}
-use Rattle.pipe_frame.specs.Schema.{IsSchema}
-use Rattle.pipe_frame.specs.Series.{Cells}
-use Rattle.pipe_frame.specs.declared.field.Field.{Field}
+use Rattle.pipe_schema.specs.Rows.{Row}
+use Rattle.pipe_schema.specs.Schema.{IsSchema}
+use Rattle.pipe_column.specs.Series.{Cells}
+use Rattle.pipe_schema.specs.declared.field.Field.{Field}
 use Rattle.pipe_expr.specs.Physical.{expr_column}
 use Rattle.pipe_expr.specs.Projections.{select_fields, select_row, expr_named, new_exprs, hstack_fields, hstack_row}
 use Rattle.pipe_expr.specs.Formula.{NamedFormula}

@@ -2,8 +2,8 @@
 use Rattle.std.proofs.Common.{◌≡◌, Bool, true, false, List, [], ◌∷◌, refl, ap, subst}
 use Rattle.std.specs.List.{flat_map}
 use Rattle.pipe_frame.specs.Frame.{Table}
-use Rattle.pipe_frame.specs.Rows.{Row, Same}
-use Rattle.pipe_frame.proofs.Weights.{Same-from_bag, SameBag-from_equal}
+use Rattle.pipe_schema.specs.Rows.{Row, Same}
+use Rattle.pipe_schema.proofs.Weights.{Same-from_bag, SameBag-from_equal}
 use Rattle.pipe_ops.specs.Each.{passed_row}
 use Rattle.pipe_ops.specs.Pieces.{all_of}
 

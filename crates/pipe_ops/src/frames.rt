@@ -1,10 +1,13 @@
 //! Frames of columns that were made for one schema.
 
 ghost use Rattle.std.specs.Prelude.{◌≡◌, map, IfOk};
-ghost use Rattle.pipe_frame.specs.Frame.{AllOfHeight, field_of, height_of, table_of};
-ghost use Rattle.pipe_frame.specs.Schema.{IsSchema};
+ghost use Rattle.pipe_column.specs.Columns.{AllOfHeight, field_of, height_of};
+ghost use Rattle.pipe_frame.specs.Frame.{table_of};
+ghost use Rattle.pipe_schema.specs.Schema.{IsSchema};
 
-use pipe_frame::{DataFrame, FrameError, Series};
+use pipe_column::Series;
+use pipe_frame::DataFrame;
+use pipe_schema::FrameError;
 use std::alloc::{AllocError, Global};
 
 /// The frame of columns of one height with distinct names.

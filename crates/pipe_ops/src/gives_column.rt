@@ -2,15 +2,17 @@
 
 ghost use Rattle.std.specs.Prelude.{◌≡◌, IfOk};
 
+use pipe_column::Series;
 use pipe_expr::PhysicalPipedExpr;
-use pipe_frame::{DataChunk, Series, Text};
+use pipe_frame::DataChunk;
+use pipe_schema::Text;
 use std::alloc::{AllocError, Global};
 
 /// What gives a column over a chunk: each expression that was made for a schema.
 pub(crate) trait GivesColumn {
     ghost use Rattle.std.specs.Prelude.{List};
     ghost use Rattle.pipe_frame.specs.Chunks.{HasSchema};
-    ghost use Rattle.pipe_frame.specs.declared.field.Field.{Field};
+    ghost use Rattle.pipe_schema.specs.declared.field.Field.{Field};
     ghost use Rattle.pipe_expr.specs.Physical.{expr_column};
     ghost use Rattle.pipe_expr.specs.Formula.{NamedFormula};
 

@@ -8,7 +8,8 @@ use crate::operator::{Operator, OperatorResult};
 use crate::shared::shared_again;
 use crate::stacked::{add_new_columns, replaced_columns};
 use pipe_expr::PhysicalPipedExpr;
-use pipe_frame::{DataChunk, List, Schema, TryClone};
+use pipe_frame::DataChunk;
+use pipe_schema::{List, Schema, TryClone};
 use std::alloc::{AllocError, Global};
 use std::sync::Arc;
 

@@ -1,7 +1,7 @@
 //! Laws of offsets.
 
 ghost use Rattle.std.specs.Prelude.{◌≡◌, ℕ, ◌≤◌, List, length};
-ghost use Rattle.pipe_frame.specs.Rows.{Row as Cells};
+ghost use Rattle.pipe_schema.specs.Rows.{Row as Cells};
 ghost use Rattle.pipe_ops.specs.Offsets.{split_pieces, joined_pieces, Covers, rows_in};
 
 /// The pieces of a split cover their rows, one after another.

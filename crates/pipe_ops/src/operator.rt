@@ -2,9 +2,9 @@
 
 ghost use Rattle.std.specs.Prelude.{◌≡◌, ℕ, ◌≤◌, List, length, IfOk, Bool, true, false};
 ghost use Rattle.pipe_frame.specs.Frame.{Table};
-ghost use Rattle.pipe_frame.specs.Rows.{Row, Same};
+ghost use Rattle.pipe_schema.specs.Rows.{Row, Same};
 ghost use Rattle.pipe_frame.specs.declared.chunk.DataChunk as chunk;
-ghost use Rattle.pipe_frame.specs.declared.field.Field.{Field};
+ghost use Rattle.pipe_schema.specs.declared.field.Field.{Field};
 ghost use Rattle.pipe_ops.specs.Pieces.{IsPieceOf, AnswersUnder, Gives, Flushes, is_more, all_of};
 ghost use Rattle.pipe_ops.specs.declared.operator.OperatorResult as answer;
 

@@ -4,7 +4,8 @@ ghost use Rattle.std.specs.Prelude.{◌≡◌, ℕ, List};
 
 use crate::context::PExecutionContext;
 use crate::operator::{Operator, OperatorResult};
-use pipe_frame::{DataChunk, TryClone};
+use pipe_frame::DataChunk;
+use pipe_schema::TryClone;
 use std::alloc::{AllocError, Global};
 
 /// Lets chunks through as they are (polars-pipe's `operators::Pass`).

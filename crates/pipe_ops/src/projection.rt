@@ -7,7 +7,8 @@ use crate::frames::frame_of;
 use crate::operator::{Operator, OperatorResult};
 use crate::shared::shared_again;
 use pipe_expr::PhysicalPipedExpr;
-use pipe_frame::{DataChunk, List};
+use pipe_frame::DataChunk;
+use pipe_schema::List;
 use std::alloc::{AllocError, Global};
 use std::sync::Arc;
 

@@ -2,11 +2,12 @@
 
 ghost use Rattle.std.specs.Prelude.{◌≡◌, true, IfOk, OnOk, OnErr};
 ghost use Rattle.std.specs.List.{list_all};
-ghost use Rattle.pipe_frame.specs.Schema.{names_of};
+ghost use Rattle.pipe_schema.specs.Schema.{names_of};
 ghost use Rattle.pipe_ops.specs.Each.{HasFields, has_field, reprojected};
 
 use pipe_expr::column_type;
-use pipe_frame::{DataChunk, Field, FrameError, List, Schema, Text, TryClone};
+use pipe_frame::DataChunk;
+use pipe_schema::{Field, FrameError, List, Schema, Text, TryClone};
 use std::alloc::{AllocError, Global};
 
 /// The names of some fields.

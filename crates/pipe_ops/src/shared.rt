@@ -3,7 +3,7 @@
 ghost use Rattle.std.specs.Prelude.{◌≡◌, IfOk};
 ghost use Rattle.pipe_ops.specs.Exprs.{values_in};
 
-use pipe_frame::List;
+use pipe_schema::List;
 use std::alloc::{AllocError, Global};
 use std::sync::Arc;
 

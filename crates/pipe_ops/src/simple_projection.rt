@@ -5,7 +5,8 @@ ghost use Rattle.pipe_frame.specs.Frame.{select_fault};
 
 use crate::context::PExecutionContext;
 use crate::operator::{Operator, OperatorResult};
-use pipe_frame::{DataChunk, FrameError, List, Schema, Text, TryClone};
+use pipe_frame::DataChunk;
+use pipe_schema::{FrameError, List, Schema, Text, TryClone};
 use std::alloc::{AllocError, Global};
 
 /// The named columns, in the order of the names (polars-pipe's `SimpleProjectionOperator`).

@@ -2,8 +2,8 @@
 
 ghost use Rattle.std.specs.Prelude.{◌≡◌, ℕ, ◌+◌, ◌≤◌, List, [], ◌++◌, length, Bool, true, IfOk};
 ghost use Rattle.pipe_frame.specs.Chunks.{HasSchema};
-ghost use Rattle.pipe_frame.specs.Rows.{Row, Same};
-ghost use Rattle.pipe_frame.specs.declared.field.Field.{Field};
+ghost use Rattle.pipe_schema.specs.Rows.{Row, Same};
+ghost use Rattle.pipe_schema.specs.declared.field.Field.{Field};
 ghost use Rattle.pipe_ops.specs.Endings.{Ends, ending_text};
 
 use crate::context::PExecutionContext;

@@ -2,11 +2,13 @@
 
 ghost use Rattle.std.specs.Prelude.{◌≡◌, ◌++◌, not, IfOk, OnOk};
 ghost use Rattle.std.specs.List.{AllByRecursion};
-ghost use Rattle.pipe_frame.specs.Schema.{has_name, names_of};
+ghost use Rattle.pipe_schema.specs.Schema.{has_name, names_of};
 ghost use Rattle.pipe_ops.specs.Exprs.{exprs_in, IsMadeFor, made_named, replaced, new_columns};
 
 use crate::gives_column::GivesColumn;
-use pipe_frame::{DataChunk, Schema, Series, Text, TryClone};
+use pipe_column::Series;
+use pipe_frame::DataChunk;
+use pipe_schema::{Schema, Text, TryClone};
 use std::alloc::{AllocError, Global};
 use std::sync::Arc;
 

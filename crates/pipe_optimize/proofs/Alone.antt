@@ -5,18 +5,18 @@ use Rattle.std.proofs.lemmas.Bool.{cases_lt}
 use Rattle.std.proofs.lemmas.List.{drop_more}
 use Rattle.std.proofs.lemmas.List.Folds.{list_any_at}
 use Rattle.pipe_frame.specs.Frame.{Table}
-use Rattle.pipe_frame.specs.Schema.{has_name}
-use Rattle.pipe_frame.specs.declared.field.Field.{Field}
+use Rattle.pipe_schema.specs.Schema.{has_name}
+use Rattle.pipe_schema.specs.declared.field.Field.{Field}
 use Rattle.pipe_expr.specs.declared.join_words.FunctionIR.TheVariants as function
 use Rattle.pipe_plan.specs.Node.{Node, node_of}
 use Rattle.pipe_plan.specs.Node as node
 use Rattle.pipe_plan.specs.declared.ir.IR.{IR}
 use Rattle.pipe_plan.specs.Under.{node_at}
 use Rattle.pipe_plan.specs.Schemas.{schema_of}
-use Rattle.pipe_opt.specs.Grown.{over}
-use Rattle.pipe_opt.proofs.Readings.{map-long, read-at}
-use Rattle.pipe_opt.proofs.Growing.{node-before, node-new}
-use Rattle.pipe_needs.specs.Narrowed.{narrow_node}
+use Rattle.pipe_rules.specs.Grown.{over}
+use Rattle.pipe_rules.proofs.Readings.{map-long, read-at}
+use Rattle.pipe_rules.proofs.Growing.{node-before, node-new}
+use Rattle.pipe_rules.specs.Narrowed.{narrow_node}
 use Rattle.pipe_optimize.specs.Narrow.{AreNarrowed, is_renaming}
 use Rattle.pipe_optimize.specs.Lists.{names_at}
 use Rattle.pipe_optimize.specs.Sides.{narrow_by}

@@ -4,8 +4,8 @@ use Rattle.std.specs.Prelude.{filter}
 use Rattle.std.specs.List.{list_any}
 use Rattle.std.specs.Str.{bytes_eq}
 use Rattle.pipe_frame.specs.Frame.{Table}
-use Rattle.pipe_frame.specs.Schema.{name_of, has_name, names_of}
-use Rattle.pipe_frame.specs.declared.field.Field.{Field}
+use Rattle.pipe_schema.specs.Schema.{name_of, has_name, names_of}
+use Rattle.pipe_schema.specs.declared.field.Field.{Field}
 use Rattle.pipe_expr.specs.Formula.{Formula}
 use Rattle.pipe_expr.specs.Projections.{expr_name, renamed}
 use Rattle.pipe_expr.specs.Joins.{Join, makes_pairs, column_names, is_kept, suffixed_name, suffixed, pair_fields, join_fields}
@@ -19,10 +19,10 @@ use Rattle.pipe_rules.specs.Placed.{is_input}
 use Rattle.pipe_rules.proofs.Filters.{all-always, filter-same, filter-map, filter-constant}
 use Rattle.std.proofs.lemmas.Bool.Decides.{Decides-eqb}
 use Rattle.pipe_rules.proofs.Down.{or-first, or-second}
-use Rattle.pipe_opt.proofs.Renumber.{two}
-use Rattle.pipe_needs.specs.Needs.{Names, need, keys_read, right_need, left_need, sort_need}
-use Rattle.pipe_needs.specs.Narrowed.{is_existing, narrow_node}
-use Rattle.pipe_needs.proofs.Kept.{kept-has, has-kept, names-named}
+use Rattle.pipe_rules.proofs.Renumber.{two}
+use Rattle.pipe_rules.specs.Needs.{Names, need, keys_read, right_need, left_need, sort_need}
+use Rattle.pipe_rules.specs.Narrowed.{is_existing, narrow_node}
+use Rattle.pipe_rules.proofs.Kept.{kept-has, has-kept, names-named}
 use Rattle.pipe_optimize.specs.Needed.{is_first, or_first, need_of}
 use Rattle.pipe_optimize.specs.Lists.{first_only, or_head}
 use Rattle.pipe_optimize.specs.Sides.{joined_names_of, paired_names_of, is_fresh, keeps_name, suffixed_by, is_either, is_needed_anew, right_needed, kept_right_of, kept_left_of, kept_sorted_of, output_by, kept_by, need_by, narrow_by, has_existing}

@@ -3,10 +3,10 @@ use Rattle.std.proofs.Common.{◌≡◌, ℕ, true, eqb, List, [], ◌∷◌, ma
 use Rattle.std.specs.Prelude.{filter}
 use Rattle.std.specs.List.{AllByRecursion, list_any}
 use Rattle.pipe_frame.specs.Frame.{Table}
-use Rattle.pipe_frame.specs.Rows.{Row, Same}
-use Rattle.pipe_frame.specs.Schema.{has_name, names_of}
-use Rattle.pipe_frame.specs.declared.field.Field.{Field}
-use Rattle.pipe_frame.proofs.Weights.{SameBag, SameBag-sym, SameBag-trans, SameBag-map, SameBag-from_equal, SameBag-from_rows, Same-from_bag}
+use Rattle.pipe_schema.specs.Rows.{Row, Same}
+use Rattle.pipe_schema.specs.Schema.{has_name, names_of}
+use Rattle.pipe_schema.specs.declared.field.Field.{Field}
+use Rattle.pipe_schema.proofs.Weights.{SameBag, SameBag-sym, SameBag-trans, SameBag-map, SameBag-from_equal, SameBag-from_rows, Same-from_bag}
 use Rattle.pipe_expr.specs.Types.{type_of_column}
 use Rattle.pipe_expr.specs.Projections.{fields_named, row_named}
 use Rattle.pipe_expr.specs.declared.join_words.FunctionIR.TheVariants as function
@@ -16,18 +16,18 @@ use Rattle.pipe_plan.specs.Under.{inputs_of}
 use Rattle.pipe_plan.specs.Schemas.{frame_at, scan_fields, node_schema}
 use Rattle.pipe_plan.specs.PlanRows.{node_rows}
 use Rattle.pipe_plan.specs.Faults.{repeats}
-use Rattle.pipe_typing.specs.Fits.{FitsRow, FitRows}
-use Rattle.pipe_typing.proofs.Rows.{named-row}
-use Rattle.pipe_typing.proofs.Lists.{all-map}
+use Rattle.pipe_laws.specs.Fits.{FitsRow, FitRows}
+use Rattle.pipe_laws.proofs.Rows.{named-row}
+use Rattle.pipe_laws.proofs.Lists.{all-map}
 use Rattle.pipe_rules.specs.Placed.{is_input, IsReady}
 use Rattle.pipe_rules.proofs.Filters.{all-of, all-both, all-always}
-use Rattle.pipe_needs.specs.Needs.{Names, is_needed}
-use Rattle.pipe_needs.specs.Narrowed.{kept_names, is_existing, narrow_row, narrow_schema, narrow_rows, narrow_node}
-use Rattle.pipe_needs.specs.Laws.{AreMet, IsWanted, HasSameType, AreSameAt}
-use Rattle.pipe_needs.proofs.Kept.{kept-has, has-kept, all-in, names-named, same-fields}
-use Rattle.pipe_needs.proofs.Served.{needs-serve}
-use Rattle.pipe_opt.proofs.Renumber.{own-inputs, schema-renumbered, rows-renumbered}
-use Rattle.pipe_opt.proofs.Granted.{map-members}
+use Rattle.pipe_rules.specs.Needs.{Names, is_needed}
+use Rattle.pipe_rules.specs.Narrowed.{kept_names, is_existing, narrow_row, narrow_schema, narrow_rows, narrow_node}
+use Rattle.pipe_rules.specs.NeedLaws.{AreMet, IsWanted, HasSameType, AreSameAt}
+use Rattle.pipe_rules.proofs.Kept.{kept-has, has-kept, all-in, names-named, same-fields}
+use Rattle.pipe_rules.proofs.Served.{needs-serve}
+use Rattle.pipe_rules.proofs.Renumber.{own-inputs, schema-renumbered, rows-renumbered}
+use Rattle.pipe_rules.proofs.Granted.{map-members}
 use Rattle.pipe_optimize.proofs.NameLists.{first-is, filter-twice, filter-again, all-kept}
 use Rattle.pipe_optimize.proofs.Cut.{IsCut}
 use Rattle.pipe_optimize.proofs.Over.{IsOver, IsServed, met-true}

@@ -3,8 +3,8 @@ use Rattle.std.proofs.Common.{◌≡◌, ℕ, Bool, true, false, cond, ◌&&◌,
 use Rattle.std.specs.Prelude.{filter}
 use Rattle.std.specs.Str.{bytes_eq}
 use Rattle.std.specs.List.{AllByRecursion, list_any}
-use Rattle.pipe_frame.specs.Schema.{has_name, names_of, first_repeated, first_unknown}
-use Rattle.pipe_frame.specs.declared.field.Field.{Field}
+use Rattle.pipe_schema.specs.Schema.{has_name, names_of, first_repeated, first_unknown}
+use Rattle.pipe_schema.specs.declared.field.Field.{Field}
 use Rattle.pipe_expr.specs.Formula.{Formula}
 use Rattle.pipe_expr.specs.Types.{columns_in, type_of, type_of_column}
 use Rattle.pipe_expr.specs.Projections.{fields_named}
@@ -12,8 +12,8 @@ use Rattle.pipe_rules.proofs.Filters.{all-of}
 use Rattle.pipe_rules.proofs.Renamed.{type-same}
 use Rattle.pipe_rules.proofs.Under.{own-name}
 use Rattle.pipe_rules.proofs.Down.{and-first, and-second}
-use Rattle.pipe_needs.specs.Needs.{Names}
-use Rattle.pipe_needs.proofs.Kept.{has-kept, kept-has, all-in, all-known, all-true, own-types, named-own, same-fields, IsThere}
+use Rattle.pipe_rules.specs.Needs.{Names}
+use Rattle.pipe_rules.proofs.Kept.{has-kept, kept-has, all-in, all-known, all-true, own-types, named-own, same-fields, IsThere}
 use Rattle.pipe_optimize.specs.Needed.{is_first, or_first}
 use Rattle.pipe_optimize.proofs.NameLists.{and-true, or-left, clash, never, some-needed, any-name, Begins, filter-twice}
 

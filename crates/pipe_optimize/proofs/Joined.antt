@@ -3,8 +3,8 @@ use Rattle.std.proofs.Common.{◌≡◌, ℕ, Bool, true, false, not, cond, eqb,
 use Rattle.std.specs.Prelude.{filter, is_none}
 use Rattle.std.specs.List.{AllByRecursion, list_any}
 use Rattle.pipe_frame.specs.Frame.{Table}
-use Rattle.pipe_frame.specs.Schema.{name_of, has_name, names_of, first_repeated, first_unknown}
-use Rattle.pipe_frame.specs.declared.field.Field.{Field}
+use Rattle.pipe_schema.specs.Schema.{name_of, has_name, names_of, first_repeated, first_unknown}
+use Rattle.pipe_schema.specs.declared.field.Field.{Field}
 use Rattle.pipe_expr.specs.Formula.{Formula}
 use Rattle.pipe_expr.specs.Types.{columns_in, type_of}
 use Rattle.pipe_expr.specs.Joins.{Join, makes_pairs, column_names, is_kept, suffixed_name, suffixed, pair_fields, join_fields}
@@ -17,10 +17,10 @@ use Rattle.pipe_rules.specs.Placed.{is_input}
 use Rattle.pipe_rules.proofs.Filters.{all-of, all-left, all-right, all-always, filter-same, filter-map, filter-append, filter-both}
 use Rattle.pipe_rules.proofs.Down.{and-first, and-second, or-first}
 use Rattle.pipe_check.proofs.Walks.{itself}
-use Rattle.pipe_opt.proofs.Renumber.{heads, two}
-use Rattle.pipe_needs.specs.Needs.{Names, need, keys_read, is_shown, right_need, left_need}
-use Rattle.pipe_needs.specs.Narrowed.{narrow_node}
-use Rattle.pipe_needs.proofs.Kept.{kept-has, has-kept, kept-once, all-in, IsThere, there-all}
+use Rattle.pipe_rules.proofs.Renumber.{heads, two}
+use Rattle.pipe_rules.specs.Needs.{Names, need, keys_read, is_shown, right_need, left_need}
+use Rattle.pipe_rules.specs.Narrowed.{narrow_node}
+use Rattle.pipe_rules.proofs.Kept.{kept-has, has-kept, kept-once, all-in, IsThere, there-all}
 use Rattle.pipe_optimize.proofs.NameLists.{first-is, next-is, second-one, and-true, or-left, or-right, clash, never, head-has, Begins, all-kept, has-first, has-second, has-either, once-right, once-clash, once-both, has-map, map-from, once-map, map-apart}
 use Rattle.pipe_optimize.proofs.Cut.{IsCut, cut-there, cut-has, cut-known, cut-type, cut-narrower}
 use Rattle.pipe_optimize.proofs.Over.{IsOver, IsServed, met-true, out-once, none-first, none-second}

@@ -17,3 +17,6 @@ pub mod Passing
 pub mod Optimized
 pub mod Alone
 pub mod Whole
+pub mod Noted
+pub mod Runs
+pub mod Fronts

@@ -3,17 +3,17 @@ use Rattle.std.proofs.Common.{◌≡◌, ℕ, suc, ◌<◌, Bool, true, false, c
 use Rattle.std.specs.Prelude.{filter}
 use Rattle.std.specs.List.{list_all}
 use Rattle.pipe_frame.specs.Frame.{Table}
-use Rattle.pipe_frame.specs.declared.field.Field.{Field}
+use Rattle.pipe_schema.specs.declared.field.Field.{Field}
 use Rattle.pipe_plan.specs.Node.{Node}
 use Rattle.pipe_plan.specs.Node as node
 use Rattle.pipe_plan.specs.Under.{node_at}
 use Rattle.pipe_plan.specs.Schemas.{schema_of}
-use Rattle.pipe_opt.specs.Sorts.{sorting_of}
-use Rattle.pipe_opt.specs.Literals.{LiteralTest, named_literals_pass, node_literals_pass, AddsNoLiteral}
-use Rattle.pipe_opt.specs.Grown.{over}
-use Rattle.pipe_opt.proofs.Literals.{both-pass, first-passes, second-passes, node-passes}
-use Rattle.pipe_needs.specs.Needs.{Names, is_needed}
-use Rattle.pipe_needs.specs.Narrowed.{narrow_node}
+use Rattle.pipe_rules.specs.Sorts.{sorting_of}
+use Rattle.pipe_rules.specs.Literals.{LiteralTest, named_literals_pass, node_literals_pass, AddsNoLiteral}
+use Rattle.pipe_rules.specs.Grown.{over}
+use Rattle.pipe_rules.proofs.Literals.{both-pass, first-passes, second-passes, node-passes}
+use Rattle.pipe_rules.specs.Needs.{Names, is_needed}
+use Rattle.pipe_rules.specs.Narrowed.{narrow_node}
 use Rattle.pipe_optimize.specs.Narrow.{AreNarrowed}
 
 pass-filter : {A : Type 0} (p q : A → Bool) (xs : List A) → list_all p xs ≡ true → list_all p (filter q xs) ≡ true

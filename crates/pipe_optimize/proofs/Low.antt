@@ -2,8 +2,8 @@
 use Rattle.std.proofs.Common.{◌≡◌, ℕ, Bool, true, false, not, ◌&&◌, List, [], ◌∷◌, refl, ap, ◌∙◌}
 use Rattle.std.specs.List.{AllByRecursion, list_all}
 use Rattle.pipe_frame.specs.Frame.{Table}
-use Rattle.pipe_frame.specs.Schema.{has_name, names_of}
-use Rattle.pipe_frame.specs.declared.field.Field.{Field}
+use Rattle.pipe_schema.specs.Schema.{has_name, names_of}
+use Rattle.pipe_schema.specs.declared.field.Field.{Field}
 use Rattle.pipe_expr.specs.Formula.{Formula, Column, Literal, Add, Sub, Mul, Eq, NotEq, Lt, LtEq, Gt, GtEq, And, Or, Not, IsNull, IsNotNull}
 use Rattle.pipe_expr.specs.Types.{columns_in}
 use Rattle.pipe_expr.specs.Joins.{Join}
@@ -13,18 +13,18 @@ use Rattle.pipe_expr.specs.declared.join_words.FunctionIR.TheVariants as functio
 use Rattle.pipe_plan.specs.Node.{Node}
 use Rattle.pipe_plan.specs.Node as node
 use Rattle.pipe_plan.specs.Schemas.{join_over, node_schema}
-use Rattle.pipe_typing.proofs.Lists.{all-append}
+use Rattle.pipe_laws.proofs.Lists.{all-append}
 use Rattle.pipe_rules.specs.Conjuncts.{conjuncts_of}
 use Rattle.pipe_rules.specs.Names.{with_names}
 use Rattle.pipe_rules.specs.Placing.{Placing, Above, OnInputs, OnLeft, OnRight, reads_only, on_inputs_if, column_under, is_there, is_plain, plain_name, is_replacing, is_passed_on, is_not_in, right_name, on_left_or, on_right_or, on_left, on_right, below_join}
 use Rattle.pipe_rules.specs.Placed.{placing_at}
 use Rattle.pipe_rules.proofs.Filters.{all-of, all-left, all-right}
-use Rattle.pipe_opt.specs.Low.{is_filter}
-use Rattle.pipe_opt.proofs.Renumber.{two}
-use Rattle.pipe_needs.specs.Needs.{Names, needed_exprs, columns_read}
-use Rattle.pipe_needs.specs.Narrowed.{narrow_node}
-use Rattle.pipe_needs.specs.Laws.{IsWanted}
-use Rattle.pipe_needs.proofs.Exprs.{expr-kept}
+use Rattle.pipe_rules.specs.Low.{is_filter}
+use Rattle.pipe_rules.proofs.Renumber.{two}
+use Rattle.pipe_rules.specs.Needs.{Names, needed_exprs, columns_read}
+use Rattle.pipe_rules.specs.Narrowed.{narrow_node}
+use Rattle.pipe_rules.specs.NeedLaws.{IsWanted}
+use Rattle.pipe_rules.proofs.Exprs.{expr-kept}
 use Rattle.pipe_optimize.specs.Needed.{is_scan}
 use Rattle.pipe_optimize.proofs.NameLists.{first-is, or-left}
 use Rattle.pipe_optimize.proofs.Cut.{cut-has}

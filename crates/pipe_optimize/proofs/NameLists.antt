@@ -4,11 +4,11 @@ use Rattle.std.specs.Prelude.{filter}
 use Rattle.std.specs.Str.{bytes_eq}
 use Rattle.std.specs.List.{AllByRecursion, list_any}
 use Rattle.std.proofs.lemmas.Bool.Decides.{Decides-eqb}
-use Rattle.pipe_frame.specs.Schema.{has_name, first_repeated}
+use Rattle.pipe_schema.specs.Schema.{has_name, first_repeated}
 use Rattle.pipe_rules.proofs.Under.{own-name, same-name, once-first, once-rest}
 use Rattle.pipe_rules.proofs.Filters.{all-always}
-use Rattle.pipe_fields.proofs.Names.{text_there, text_missing, renamed_there, renamed_missing}
-use Rattle.pipe_needs.specs.Needs.{Names}
+use Rattle.pipe_check.proofs.Names.{text_there, text_missing, renamed_there, renamed_missing}
+use Rattle.pipe_rules.specs.Needs.{Names}
 
 -- ---- truth values
 

@@ -4,13 +4,13 @@ use Rattle.std.specs.Prelude.{nat_le}
 use Rattle.std.specs.List.{list_any}
 use Rattle.std.proofs.lemmas.Bool.{leb-false, cases_lt}
 use Rattle.pipe_frame.specs.Frame.{Table}
-use Rattle.pipe_frame.specs.Rows.{Same}
-use Rattle.pipe_frame.specs.declared.field.Field.{Field}
+use Rattle.pipe_schema.specs.Rows.{Same}
+use Rattle.pipe_schema.specs.declared.field.Field.{Field}
 use Rattle.pipe_plan.specs.Walk.{walk}
 use Rattle.pipe_plan.specs.Node.{Node, node_of}
 use Rattle.pipe_plan.specs.declared.ir.IR.{IR}
-use Rattle.pipe_typing.specs.Fitting.{TablesFit}
-use Rattle.pipe_opt.proofs.Readings.{map-long}
+use Rattle.pipe_laws.specs.Fitting.{TablesFit}
+use Rattle.pipe_rules.proofs.Readings.{map-long}
 use Rattle.pipe_plan.specs.Node as node
 use Rattle.pipe_plan.specs.Plan.{Plan}
 use Rattle.pipe_plan.specs.Under.{inputs_of, node_at, reaches_at, is_under}
@@ -21,14 +21,14 @@ use Rattle.pipe_check.specs.Checking.{IsFrameFull, AreFull as AreSchemasFull}
 use Rattle.pipe_check.proofs.Full.{node_full}
 use Rattle.pipe_check.proofs.Walks.{member, none-member, itself}
 use Rattle.pipe_check.proofs.WellFormed.{root_there}
-use Rattle.pipe_typing.specs.Fits.{FramesFit}
-use Rattle.pipe_opt.specs.Low.{is_sort, AreLow}
-use Rattle.pipe_opt.specs.Sorts.{sorting_of}
-use Rattle.pipe_opt.specs.Literals.{AddsNoLiteral}
-use Rattle.pipe_opt.specs.Grown.{over, AreWithin, AreUnder}
-use Rattle.pipe_opt.proofs.Bounded.{is-sorted}
-use Rattle.pipe_opt.proofs.Granted.{granted, first_false}
-use Rattle.pipe_opt.proofs.Growing.{walk-same}
+use Rattle.pipe_laws.specs.Fits.{FramesFit}
+use Rattle.pipe_rules.specs.Low.{is_sort, AreLow}
+use Rattle.pipe_rules.specs.Sorts.{sorting_of}
+use Rattle.pipe_rules.specs.Literals.{AddsNoLiteral}
+use Rattle.pipe_rules.specs.Grown.{over, AreWithin, AreUnder}
+use Rattle.pipe_rules.proofs.Bounded.{is-sorted}
+use Rattle.pipe_rules.proofs.Granted.{granted, first_false}
+use Rattle.pipe_rules.proofs.Growing.{walk-same}
 use Rattle.pipe_optimize.specs.Needed.{IsTrimmed}
 use Rattle.pipe_optimize.specs.Full.{AreFull}
 use Rattle.pipe_optimize.specs.Put.{AreTree, IsTrimOf}

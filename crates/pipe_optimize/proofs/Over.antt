@@ -3,14 +3,14 @@ use Rattle.std.proofs.Common.{◌≡◌, ℕ, true, false, List, ◌∷◌, Opti
 use Rattle.std.specs.Prelude.{filter}
 use Rattle.std.specs.List.{list_any}
 use Rattle.pipe_frame.specs.Frame.{Table}
-use Rattle.pipe_frame.specs.Schema.{has_name, names_of, first_repeated}
-use Rattle.pipe_frame.specs.declared.field.Field.{Field}
+use Rattle.pipe_schema.specs.Schema.{has_name, names_of, first_repeated}
+use Rattle.pipe_schema.specs.declared.field.Field.{Field}
 use Rattle.pipe_plan.specs.Node.{Node}
 use Rattle.pipe_plan.specs.Under.{inputs_of}
 use Rattle.pipe_plan.specs.Schemas.{node_schema}
 use Rattle.pipe_plan.specs.Faults.{or_else, repeats, is_void, is_empty, unknown_in, duplicate_in, once_names, is_mistyped, is_bad_join, is_bad_sort}
 use Rattle.pipe_rules.specs.Placed.{is_input}
-use Rattle.pipe_needs.specs.Needs.{Names, need}
+use Rattle.pipe_rules.specs.Needs.{Names, need}
 use Rattle.pipe_optimize.specs.Needed.{need_of}
 use Rattle.pipe_optimize.proofs.NameLists.{Begins}
 use Rattle.pipe_optimize.proofs.Cut.{IsCut, or-first-has}

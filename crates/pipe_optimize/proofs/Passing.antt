@@ -4,22 +4,22 @@ use Rattle.std.proofs.lemmas.Bool.{cases_lt}
 use Rattle.std.proofs.lemmas.Bool.Decides.{Decides-eqb}
 use Rattle.std.proofs.lemmas.List.{length-set}
 use Rattle.pipe_frame.specs.Frame.{Table}
-use Rattle.pipe_frame.specs.Schema.{has_name, names_of}
-use Rattle.pipe_frame.specs.declared.field.Field.{Field}
+use Rattle.pipe_schema.specs.Schema.{has_name, names_of}
+use Rattle.pipe_schema.specs.declared.field.Field.{Field}
 use Rattle.pipe_plan.specs.Node.{Node, node_of}
 use Rattle.pipe_plan.specs.declared.ir.IR.{IR}
-use Rattle.pipe_opt.proofs.Readings.{map-long, read-at}
+use Rattle.pipe_rules.proofs.Readings.{map-long, read-at}
 use Rattle.pipe_plan.specs.Plan.{Plan}
 use Rattle.pipe_plan.specs.Under.{node_at, inputs_of, is_under}
 use Rattle.pipe_plan.specs.Schemas.{node_schema, schemas_to, schema_of}
 use Rattle.pipe_check.proofs.Agree.{Agree, agree-members, schema-agree}
 use Rattle.pipe_check.proofs.Walks.{member, schema-own, schema-below, under-there}
 use Rattle.pipe_rules.specs.Placed.{is_input}
-use Rattle.pipe_opt.specs.Grown.{over}
-use Rattle.pipe_opt.proofs.Growing.{node-before, node-new, schema-stays, schema-new}
-use Rattle.pipe_opt.proofs.Counted.{any-last}
-use Rattle.pipe_opt.proofs.Granted.{first_false, second_false}
-use Rattle.pipe_needs.specs.Narrowed.{narrow_node}
+use Rattle.pipe_rules.specs.Grown.{over}
+use Rattle.pipe_rules.proofs.Growing.{node-before, node-new, schema-stays, schema-new}
+use Rattle.pipe_rules.proofs.Counted.{any-last}
+use Rattle.pipe_rules.proofs.Granted.{first_false, second_false}
+use Rattle.pipe_rules.specs.Narrowed.{narrow_node}
 use Rattle.pipe_optimize.specs.Needed.{AreNeeds}
 use Rattle.pipe_optimize.specs.Narrow.{AreNarrowed}
 use Rattle.pipe_optimize.specs.Lists.{names_at, AreOrdered, AreNames, HasNames}

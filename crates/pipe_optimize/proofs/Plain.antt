@@ -4,10 +4,10 @@ use Rattle.std.specs.Prelude.{filter, is_none, nat_le}
 use Rattle.std.specs.Str.{bytes_eq}
 use Rattle.std.specs.List.{AllByRecursion, list_any}
 use Rattle.pipe_frame.specs.Frame.{Table}
-use Rattle.pipe_frame.specs.Schema.{has_name, names_of, first_repeated, first_unknown}
-use Rattle.pipe_frame.specs.declared.data_type.DataType.{DataType}
-use Rattle.pipe_frame.specs.declared.data_type.DataType.TheVariants as dtype
-use Rattle.pipe_frame.specs.declared.field.Field.{Field}
+use Rattle.pipe_schema.specs.Schema.{has_name, names_of, first_repeated, first_unknown}
+use Rattle.pipe_schema.specs.declared.data_type.DataType.{DataType}
+use Rattle.pipe_schema.specs.declared.data_type.DataType.TheVariants as dtype
+use Rattle.pipe_schema.specs.declared.field.Field.{Field}
 use Rattle.pipe_expr.specs.Formula.{Formula, NamedFormula}
 use Rattle.pipe_expr.specs.Types.{columns_in, type_of_column}
 use Rattle.pipe_expr.specs.Projections.{expr_name, expr_field, fields_named, select_fields, expr_named, is_new, new_exprs, stacked_field, replaced_field, hstack_fields, renamed, renamed_field, function_fields}
@@ -19,19 +19,19 @@ use Rattle.pipe_plan.specs.Schemas.{frame_at, scan_fields, node_schema}
 use Rattle.pipe_plan.specs.Faults.{is_empty, is_void, names_nothing, eq_types, on_differ, is_named_untyped, has_no_type, existing_of, expr_columns}
 use Rattle.pipe_plan.specs.declared.ir.SortOptions.{SortOptions}
 use Rattle.pipe_plan.specs.declared.ir.PlanSlice.{PlanSlice}
-use Rattle.pipe_typing.proofs.Lists.{all-filter}
+use Rattle.pipe_laws.proofs.Lists.{all-filter}
 use Rattle.pipe_rules.specs.Placed.{is_input}
 use Rattle.pipe_rules.proofs.Filters.{all-of, all-left, all-right, all-always, filter-same, filter-map, filter-append, filter-swap}
 use Rattle.pipe_rules.proofs.Under.{same-name, each-known}
 use Rattle.pipe_rules.proofs.Columns.{named-expr}
 use Rattle.pipe_rules.proofs.Down.{or-first, or-second}
-use Rattle.pipe_needs.specs.Needs.{Names, need, is_needed, needed_exprs, columns_read, sort_need}
-use Rattle.pipe_needs.specs.Narrowed.{kept_names, is_existing, narrow_node}
-use Rattle.pipe_needs.proofs.Kept.{kept-has, kept-once, all-in, all-known, names-named, IsThere, there-all}
-use Rattle.pipe_needs.proofs.Exprs.{kept-read}
+use Rattle.pipe_rules.specs.Needs.{Names, need, is_needed, needed_exprs, columns_read, sort_need}
+use Rattle.pipe_rules.specs.Narrowed.{kept_names, is_existing, narrow_node}
+use Rattle.pipe_rules.proofs.Kept.{kept-has, kept-once, all-in, all-known, names-named, IsThere, there-all}
+use Rattle.pipe_rules.proofs.Exprs.{kept-read}
 use Rattle.pipe_optimize.proofs.NameLists.{first-is, only-one, or-left, or-right, clash, head-has, Begins, first-kept, filter-again, all-kept, has-append, has-first, has-second, has-either, once-right, once-clash, once-both, has-map, map-from, once-map, map-apart}
 use Rattle.pipe_optimize.proofs.Cut.{IsCut, cut-has, cut-known, cut-type, cut-narrower, cut-none}
-use Rattle.pipe_opt.proofs.Renumber.{heads}
+use Rattle.pipe_rules.proofs.Renumber.{heads}
 use Rattle.pipe_optimize.proofs.Over.{IsOver, IsServed, met-true, out-once, out-single}
 
 only-input : (i : ℕ) → list_any (λ m. eqb m i) (i ∷ []) ≡ true

@@ -3,11 +3,11 @@ use Rattle.std.proofs.Common.{◌≡◌, ℕ, zero, suc, ◌<◌, Bool, true, fa
 use Rattle.std.specs.Prelude.{filter}
 use Rattle.std.specs.List.{AllByRecursion, list_any}
 use Rattle.pipe_frame.specs.Frame.{Table}
-use Rattle.pipe_frame.specs.Rows.{Row, Same}
-use Rattle.pipe_frame.specs.Schema.{has_name, names_of, first_repeated}
-use Rattle.pipe_frame.specs.declared.field.Field.{Field}
-use Rattle.pipe_frame.specs.Weights.{total}
-use Rattle.pipe_frame.proofs.Weights.{SameBag, SameBag-sym, SameBag-trans, SameBag-from_equal, SameBag-from_rows, Same-from_bag}
+use Rattle.pipe_schema.specs.Rows.{Row, Same}
+use Rattle.pipe_schema.specs.Schema.{has_name, names_of, first_repeated}
+use Rattle.pipe_schema.specs.declared.field.Field.{Field}
+use Rattle.pipe_schema.specs.Weights.{total}
+use Rattle.pipe_schema.proofs.Weights.{SameBag, SameBag-sym, SameBag-trans, SameBag-from_equal, SameBag-from_rows, Same-from_bag}
 use Rattle.pipe_expr.specs.Types.{columns_in}
 use Rattle.pipe_expr.specs.Projections.{row_named}
 use Rattle.pipe_plan.specs.Node.{Node}
@@ -23,21 +23,21 @@ use Rattle.pipe_check.specs.Checking.{fault_with}
 use Rattle.pipe_check.proofs.Agree.{Agree, agree-members, schema-agree}
 use Rattle.pipe_check.proofs.Walks.{member, none-member, schema-own, schema-below, under-there}
 use Rattle.pipe_check.proofs.WellFormed.{root_there}
-use Rattle.pipe_typing.specs.Fits.{FitRows, FramesFit}
-use Rattle.pipe_typing.proofs.Plans.{rows_fit}
+use Rattle.pipe_laws.specs.Fits.{FitRows, FramesFit}
+use Rattle.pipe_laws.proofs.Plans.{rows_fit}
 use Rattle.pipe_rules.specs.Conjuncts.{conjuncts_of}
 use Rattle.pipe_rules.specs.Placed.{is_input, placing_at}
 use Rattle.pipe_rules.proofs.Filters.{all-of, all-both}
 use Rattle.pipe_rules.proofs.Under.{own-name}
-use Rattle.pipe_opt.specs.Low.{is_filter, is_sort, Stays, IsLow, AreLow}
-use Rattle.pipe_opt.specs.Grown.{over, AreWithin, AreUnder, IsSound, AreSound}
-use Rattle.pipe_opt.proofs.Granted.{Granted, granted, rows-granted}
-use Rattle.pipe_opt.proofs.Faultless.{no-fault}
-use Rattle.pipe_opt.proofs.Whole.{whole-plan}
-use Rattle.pipe_needs.specs.Needs.{Names, need}
-use Rattle.pipe_needs.specs.Narrowed.{narrow_node}
-use Rattle.pipe_needs.specs.Laws.{IsWanted}
-use Rattle.pipe_needs.proofs.Kept.{kept-has, has-kept, all-in, all-true, IsThere, there-all, whole-rows, names-named}
+use Rattle.pipe_rules.specs.Low.{is_filter, is_sort, Stays, IsLow, AreLow}
+use Rattle.pipe_rules.specs.Grown.{over, AreWithin, AreUnder, IsSound, AreSound}
+use Rattle.pipe_rules.proofs.Granted.{Granted, granted, rows-granted}
+use Rattle.pipe_rules.proofs.Faultless.{no-fault}
+use Rattle.pipe_rules.proofs.Whole.{whole-plan}
+use Rattle.pipe_rules.specs.Needs.{Names, need}
+use Rattle.pipe_rules.specs.Narrowed.{narrow_node}
+use Rattle.pipe_rules.specs.NeedLaws.{IsWanted}
+use Rattle.pipe_rules.proofs.Kept.{kept-has, has-kept, all-in, all-true, IsThere, there-all, whole-rows, names-named}
 use Rattle.pipe_optimize.specs.Needed.{or_first, is_scan, AreNeeds, IsTrimmed}
 use Rattle.pipe_optimize.specs.Narrow.{AreNarrowed}
 use Rattle.pipe_optimize.proofs.NameLists.{first-is, or-left, or-right, clash, never, some-needed}

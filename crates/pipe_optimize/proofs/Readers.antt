@@ -8,7 +8,7 @@ use Rattle.pipe_plan.specs.Node.{Node}
 use Rattle.pipe_plan.specs.Under.{inputs_of, node_at, reaches_at, is_under}
 use Rattle.pipe_plan.specs.Faults.{has_input}
 use Rattle.pipe_check.proofs.Walks.{member, itself, walk-past, under-input, under-at, under-below, under-self, under-trans}
-use Rattle.pipe_opt.proofs.Granted.{first_false, second_false}
+use Rattle.pipe_rules.proofs.Granted.{first_false, second_false}
 
 -- what follows from a member that passes
 any-member-is : (p : ℕ → Bool) (xs : List ℕ) (Q : Type 0) → ((j : ℕ) → member j xs ≡ true → p j ≡ true → Q) → list_any p xs ≡ true → Q

@@ -2,17 +2,17 @@
 use Rattle.std.proofs.Common.{◌≡◌, ℕ, List, map, refl, ap, sym, ◌∙◌}
 use Rattle.std.specs.Prelude.{filter}
 use Rattle.pipe_frame.specs.Frame.{Table}
-use Rattle.pipe_frame.specs.Schema.{has_name, names_of, first_repeated}
-use Rattle.pipe_frame.specs.declared.field.Field.{Field}
+use Rattle.pipe_schema.specs.Schema.{has_name, names_of, first_repeated}
+use Rattle.pipe_schema.specs.declared.field.Field.{Field}
 use Rattle.pipe_expr.specs.declared.join_words.FunctionIR.TheVariants as function
 use Rattle.pipe_plan.specs.Node.{Node}
 use Rattle.pipe_plan.specs.Node as node
 use Rattle.pipe_plan.specs.Schemas.{union_fields}
-use Rattle.pipe_needs.specs.Needs.{Names}
-use Rattle.pipe_needs.specs.Narrowed.{narrow_node}
-use Rattle.pipe_opt.proofs.Renumber.{schema-renumbered}
-use Rattle.pipe_opt.proofs.Faultless.{differ-same}
-use Rattle.pipe_opt.proofs.Granted.{map-members}
+use Rattle.pipe_rules.specs.Needs.{Names}
+use Rattle.pipe_rules.specs.Narrowed.{narrow_node}
+use Rattle.pipe_rules.proofs.Renumber.{schema-renumbered}
+use Rattle.pipe_rules.proofs.Faultless.{differ-same}
+use Rattle.pipe_rules.proofs.Granted.{map-members}
 use Rattle.pipe_optimize.proofs.Cut.{cut-whole}
 use Rattle.pipe_optimize.proofs.Over.{IsOver, IsServed, met-true, out-once}
 use Rattle.pipe_optimize.proofs.Plain.{scan-node, filter-node, projection-node, select-node, hstack-node, unpivot-node, rename-node, sort-node}

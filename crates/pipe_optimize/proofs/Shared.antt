@@ -4,7 +4,7 @@ use Rattle.std.proofs.Common.{◌≡◌, ◌<◌, ℕ, zero, suc, ◌+◌, Bool,
 use Rattle.std.specs.Prelude.{filter}
 use Rattle.std.specs.List.{AllByRecursion}
 use Rattle.std.specs.Str.{bytes_eq}
-use Rattle.pipe_frame.specs.Schema.{has_name}
+use Rattle.pipe_schema.specs.Schema.{has_name}
 use Rattle.pipe_expr.specs.declared.expr.Expr.{Expr}
 use Rattle.pipe_expr.specs.Formula.{NamedFormula, formula_of}
 use Rattle.pipe_expr.specs.Projections.{expr_name, renamed}
@@ -14,11 +14,11 @@ use Rattle.pipe_plan.specs.Node.{node_of}
 use Rattle.pipe_plan.specs.declared.ir.IR.{IR}
 use Rattle.pipe_plan.specs.declared.ir.IR.TheVariants as ir
 use Rattle.pipe_plan.specs.declared.ir.JoinOptions.{JoinOptions}
-use Rattle.pipe_typing.proofs.Lists.{all-filter}
+use Rattle.pipe_laws.proofs.Lists.{all-filter}
 use Rattle.pipe_rules.proofs.Filters.{all-of, filter-same, filter-constant}
 use Rattle.pipe_rules.proofs.Under.{own-name}
-use Rattle.pipe_needs.specs.Needs.{needed_exprs, columns_read, is_needed}
-use Rattle.pipe_needs.proofs.Kept.{has-kept, kept-has, all-in, map-all, all-true}
+use Rattle.pipe_rules.specs.Needs.{needed_exprs, columns_read, is_needed}
+use Rattle.pipe_rules.proofs.Kept.{has-kept, kept-has, all-in, map-all, all-true}
 use Rattle.pipe_optimize.specs.Sides.{is_fresh, fresh_names, is_either, is_needed_anew, has_existing, keeps_name, suffixed_by, right_needed, kept_right_of, kept_left_of, kept_by}
 use Rattle.pipe_optimize.proofs.NameLists.{clash, never, or-left, or-right, has-map}
 use Rattle.pipe_optimize.proofs.Steps.{take-next}
@@ -30,21 +30,29 @@ same-left left right name e =
       | false ↦ λ h. never (has_name (filter (has_name right) left) name) (λ f. clash (has_name left name) (kept-has (has_name right) left name f).0 h)
     ] in split (has_name left name) refl
 
+-- those of some names that the left ones have tell of each of them
+same-right : (left right : List (List ℕ)) (name : List ℕ) → has_name right name ≡ true → has_name (filter (has_name left) right) name ≡ has_name left name
+same-right left right name e =
+    let split : (b : Bool) → has_name left name ≡ b → has_name (filter (has_name left) right) name ≡ b = elim [
+      | true ↦ λ h. has-kept (has_name left) right name e h
+      | false ↦ λ h. never (has_name (filter (has_name left) right) name) (λ f. clash (has_name left name) (kept-has (has_name left) right name f).1 h)
+    ] in split (has_name left name) refl
+
 -- the right names as they are shown
-pub shown-shared : (left right : List (List ℕ)) (suffix : List ℕ) (p : List ℕ → Bool) (old new : List (List ℕ)) → new ≡ old ++ map (suffixed_by (filter (has_name right) left) suffix) (filter p right) → new ≡ old ++ map (suffixed_by left suffix) (filter p right)
+pub shown-shared : (left right : List (List ℕ)) (suffix : List ℕ) (p : List ℕ → Bool) (old new : List (List ℕ)) → new ≡ old ++ map (suffixed_by (filter (has_name left) right) suffix) (filter p right) → new ≡ old ++ map (suffixed_by left suffix) (filter p right)
 shown-shared left right suffix p old new made =
-    let shared = filter (has_name right) left in
+    let shared = filter (has_name left) right in
     made ∙ ap (λ l. old ++ l) (map-all (suffixed_by shared suffix) (suffixed_by left suffix) (filter p right)
-    (all-of (λ n. has_name right n ≡ true) (λ n. suffixed_by shared suffix n ≡ suffixed_by left suffix n) (λ n e. ap (λ b. cond b (n ++ suffix) n) (same-left left right n e)) (filter p right)
+    (all-of (λ n. has_name right n ≡ true) (λ n. suffixed_by shared suffix n ≡ suffixed_by left suffix n) (λ n e. ap (λ b. cond b (n ++ suffix) n) (same-right left right n e)) (filter p right)
     (all-filter (λ n. has_name right n ≡ true) p right (all-in right))))
 
 -- the right names that are needed
-pub needed-shared : (left right keys read needed : List (List ℕ)) (options : JoinOptions) (kept : List (List ℕ)) → kept ≡ filter (right_needed (filter (has_name right) left) keys read needed options) right → kept ≡ filter (right_needed left keys read needed options) right
+pub needed-shared : (left right keys read needed : List (List ℕ)) (options : JoinOptions) (kept : List (List ℕ)) → kept ≡ filter (right_needed (filter (has_name left) right) keys read needed options) right → kept ≡ filter (right_needed left keys read needed options) right
 needed-shared left right keys read needed options kept made =
-    let shared = filter (has_name right) left in
+    let shared = filter (has_name left) right in
     made ∙ filter-same (right_needed shared keys read needed options) (right_needed left keys read needed options) right
     (all-of (λ n. has_name right n ≡ true) (λ n. right_needed shared keys read needed options n ≡ right_needed left keys read needed options n)
-    (λ n e. ap (λ b. makes_pairs options.how && keeps_name keys options n && has_name needed (cond b (n ++ options.suffix) n) || has_name read n) (same-left left right n e)) right (all-in right))
+    (λ n e. ap (λ b. makes_pairs options.how && keeps_name keys options n && has_name needed (cond b (n ++ options.suffix) n) || has_name read n) (same-right left right n e)) right (all-in right))
 
 pub ruleset shared_rules = (shown-shared, needed-shared)
 
@@ -89,11 +97,11 @@ read-shared needed exprs read made =
     (all-of (λ e. has_name (map expr_name exprs) e.name ≡ true) (λ e. is_needed (has_name wanted) e ≡ is_needed (has_name needed) e) (λ e h. same-left needed (map expr_name exprs) e.name h) exprs (own-names exprs)))
 
 -- the names of expressions that an input lacks
-pub fresh-shared : (input : List (List ℕ)) (exprs : List NamedFormula) (old new : List (List ℕ)) → new ≡ old ++ fresh_names (filter (has_name (map expr_name exprs)) input) exprs → new ≡ old ++ fresh_names input exprs
+pub fresh-shared : (input : List (List ℕ)) (exprs : List NamedFormula) (old new : List (List ℕ)) → new ≡ old ++ fresh_names (filter (has_name input) (map expr_name exprs)) exprs → new ≡ old ++ fresh_names input exprs
 fresh-shared input exprs old new made =
-    let shared = filter (has_name (map expr_name exprs)) input in
+    let shared = filter (has_name input) (map expr_name exprs) in
     made ∙ ap (λ l. old ++ map expr_name l) (filter-same (is_fresh shared) (is_fresh input) exprs
-    (all-of (λ e. has_name (map expr_name exprs) e.name ≡ true) (λ e. is_fresh shared e ≡ is_fresh input e) (λ e h. ap not (same-left input (map expr_name exprs) e.name h)) exprs (own-names exprs)))
+    (all-of (λ e. has_name (map expr_name exprs) e.name ≡ true) (λ e. is_fresh shared e ≡ is_fresh input e) (λ e h. ap not (same-right input (map expr_name exprs) e.name h)) exprs (own-names exprs)))
 
 -- ---- names at the start of others
 

@@ -5,7 +5,7 @@ use Rattle.std.specs.Str.{bytes_eq}
 use Rattle.std.proofs.lemmas.Bool.Decides.{Decides-eqb}
 use Rattle.std.proofs.lemmas.List.{length-set, length-replicate}
 use Rattle.pipe_frame.specs.Frame.{Table}
-use Rattle.pipe_frame.specs.Schema.{has_name, names_of}
+use Rattle.pipe_schema.specs.Schema.{has_name, names_of}
 use Rattle.pipe_expr.specs.Formula.{Formula, Column, Literal, Add, Sub, Mul, Eq, NotEq, Lt, LtEq, Gt, GtEq, And, Or, Not, IsNull, IsNotNull}
 use Rattle.pipe_expr.specs.Types.{columns_in}
 use Rattle.pipe_expr.specs.Projections.{renamed}
@@ -21,10 +21,10 @@ use Rattle.pipe_plan.specs.declared.ir.PlanSlice.{PlanSlice}
 use Rattle.pipe_rules.specs.Placed.{is_input}
 use Rattle.pipe_rules.proofs.Down.{and-first, and-second}
 use Rattle.pipe_rules.proofs.Filters.{all-of}
-use Rattle.pipe_opt.specs.Grown.{over}
-use Rattle.pipe_opt.proofs.Readings.{map-long, read-at}
-use Rattle.pipe_needs.specs.Needs.{Names, needed_exprs, columns_read, keys_read}
-use Rattle.pipe_needs.proofs.Kept.{has-kept, all-in, all-true}
+use Rattle.pipe_rules.specs.Grown.{over}
+use Rattle.pipe_rules.proofs.Readings.{map-long, read-at}
+use Rattle.pipe_rules.specs.Needs.{Names, needed_exprs, columns_read, keys_read}
+use Rattle.pipe_rules.proofs.Kept.{has-kept, all-in, all-true}
 use Rattle.pipe_optimize.specs.Lists.{names_at, or_head, AreOrdered, HasNames}
 use Rattle.pipe_optimize.specs.Needed.{is_scan}
 use Rattle.pipe_optimize.specs.Put.{HasPut, ArePassed, AreTree}

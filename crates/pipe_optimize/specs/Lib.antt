@@ -10,3 +10,9 @@ pub mod Put
 -- needs of all that a node gives
 pub mod Whole
 pub mod Full
+-- names found by their first places
+pub mod Noted
+-- lists of names in runs
+pub mod Runs
+-- outputs in two parts
+pub mod Fronts

@@ -1,11 +1,11 @@
 -- Lists of names, by the numbers of nodes.
 use Rattle.std.specs.Prelude.{◌≡◌, ◌<◌, ℕ, List, [], ◌∷◌, true, length, slice_index_or}
 use Rattle.pipe_frame.specs.Frame.{Table}
-use Rattle.pipe_frame.specs.Schema.{names_of}
+use Rattle.pipe_schema.specs.Schema.{names_of}
 use Rattle.pipe_plan.specs.Node.{Node}
 use Rattle.pipe_plan.specs.Schemas.{schema_of}
 use Rattle.pipe_plan.specs.Faults.{has_input}
-use Rattle.pipe_opt.specs.Grown.{over}
+use Rattle.pipe_rules.specs.Grown.{over}
 
 -- the names that are kept for a node
 abbrev pub names_at : List (List (List ℕ)) → ℕ → List (List ℕ)

@@ -7,9 +7,9 @@ use Rattle.pipe_plan.specs.Node.{Node}
 use Rattle.pipe_plan.specs.Node as node
 use Rattle.pipe_plan.specs.Under.{node_at}
 use Rattle.pipe_plan.specs.Schemas.{schema_of}
-use Rattle.pipe_opt.specs.Grown.{over}
-use Rattle.pipe_needs.specs.Needs.{Names}
-use Rattle.pipe_needs.specs.Narrowed.{narrow_node}
+use Rattle.pipe_rules.specs.Grown.{over}
+use Rattle.pipe_rules.specs.Needs.{Names}
+use Rattle.pipe_rules.specs.Narrowed.{narrow_node}
 
 -- each node is narrowed to what is needed of it, over the nodes below it
 pub record AreNarrowed

@@ -2,15 +2,15 @@
 use Rattle.std.specs.Prelude.{◌≡◌, ℕ, List, [], ◌∷◌, Bool, true, false, ◌&&◌, if◌then◌else◌}
 use Rattle.std.specs.List.{list_any}
 use Rattle.std.specs.Str.{bytes_eq}
-use Rattle.pipe_frame.specs.Schema.{has_name, names_of}
-use Rattle.pipe_frame.specs.declared.field.Field.{Field}
+use Rattle.pipe_schema.specs.Schema.{has_name, names_of}
+use Rattle.pipe_schema.specs.declared.field.Field.{Field}
 use Rattle.pipe_plan.specs.Node.{Node}
 use Rattle.pipe_plan.specs.Node as node
 use Rattle.pipe_plan.specs.Plan.{Plan}
 use Rattle.pipe_plan.specs.Under.{node_at, is_under}
 use Rattle.pipe_plan.specs.Schemas.{schema_of}
 use Rattle.pipe_plan.specs.Faults.{has_input}
-use Rattle.pipe_needs.specs.Needs.{Names, need}
+use Rattle.pipe_rules.specs.Needs.{Names, need}
 
 abbrev pub is_first : List (List ℕ) → Names
 is_first [] name = false

@@ -2,14 +2,14 @@
 use Rattle.std.specs.Prelude.{◌≡◌, ◌<◌, ◌≤◌, ◌==◌, ℕ, List, Bool, true, false, length}
 use Rattle.std.specs.List.{list_any}
 use Rattle.pipe_frame.specs.Frame.{Table}
-use Rattle.pipe_frame.specs.Schema.{has_name}
+use Rattle.pipe_schema.specs.Schema.{has_name}
 use Rattle.pipe_plan.specs.Node.{Node}
 use Rattle.pipe_plan.specs.Under.{node_at}
 use Rattle.pipe_plan.specs.Schemas.{schema_of}
 use Rattle.pipe_plan.specs.Faults.{has_input}
-use Rattle.pipe_opt.specs.Grown.{over}
-use Rattle.pipe_needs.specs.Needs.{Names}
-use Rattle.pipe_needs.specs.Narrowed.{narrow_node}
+use Rattle.pipe_rules.specs.Grown.{over}
+use Rattle.pipe_rules.specs.Needs.{Names}
+use Rattle.pipe_rules.specs.Narrowed.{narrow_node}
 use Rattle.pipe_optimize.specs.Needed.{AreNeeds}
 use Rattle.pipe_optimize.specs.Narrow.{AreNarrowed}
 use Rattle.pipe_optimize.specs.Lists.{names_at, AreNames}

@@ -1,7 +1,7 @@
 -- Outputs, needs and narrowed nodes, over the names of inputs alone.
 use Rattle.std.specs.Prelude.{ℕ, List, [], ◌∷◌, ◌++◌, Bool, not, ◌&&◌, ◌||◌, ◌==◌, if◌then◌else◌, map, filter, Option, Some, None}
 use Rattle.pipe_frame.specs.Frame.{Table}
-use Rattle.pipe_frame.specs.Schema.{has_name, names_of}
+use Rattle.pipe_schema.specs.Schema.{has_name, names_of}
 use Rattle.pipe_expr.specs.Formula.{Formula, NamedFormula}
 use Rattle.pipe_expr.specs.Types.{columns_in}
 use Rattle.pipe_expr.specs.Joins.{coalesces, makes_pairs, column_names}
@@ -14,7 +14,7 @@ use Rattle.pipe_plan.specs.Node as node
 use Rattle.pipe_plan.specs.Schemas.{frame_at, scan_fields}
 use Rattle.pipe_plan.specs.declared.ir.JoinOptions.{JoinOptions}
 use Rattle.pipe_plan.specs.declared.ir.PlanSlice.{PlanSlice}
-use Rattle.pipe_needs.specs.Needs.{Names, needed_exprs, columns_read, keys_read}
+use Rattle.pipe_rules.specs.Needs.{Names, needed_exprs, columns_read, keys_read}
 use Rattle.pipe_optimize.specs.Lists.{or_head}
 
 -- ---- outputs

@@ -8,12 +8,13 @@ ghost use Rattle.pipe_optimize.specs.Narrow.{renames};
 ghost use Rattle.pipe_optimize.specs.Sides.{need_by};
 ghost use Rattle.pipe_optimize.specs.Whole.{need_or, needs_over, need_at, sort_needs_all as needed_by_sort, needs_all as needed_whole, AreAllOf};
 
+use crate::name_lists::NameLists;
 use crate::names::names_at;
 use crate::needed::input_need;
 use crate::outputs::is_pairing;
 use crate::unrenamed::is_rename;
-use pipe_frame::{List, Text};
 use pipe_plan::{IR, SortOptions};
+use pipe_schema::{List, Text};
 use std::alloc::{AllocError, Global};
 
 /// What is needed of so many nodes, if it is all that each gives.
@@ -50,7 +51,7 @@ pub(crate) fn put_need(needs: &mut [Option<List<Text>>], n: usize, need: Option<
 /// The names that are needed of a node, all that it gives or those that are kept for it.
 #[tactic(auto, using(crate::proofs::Whole::over_rules))]
 pub(crate) fn needed_at<'a>(
-    lists: &'a [List<Text>],
+    lists: &'a NameLists,
     needs: &'a [Option<List<Text>>],
     n: u32,
 ) -> &'a [Text]
@@ -115,7 +116,7 @@ fn needs_all(whole: bool, node: &IR, input: u32) -> bool
 /// What a node needs of an input, where some names of its own are needed, which may be all.
 pub(crate) fn need_of_input(
     alloc: Global,
-    lists: &[List<Text>],
+    lists: &NameLists,
     node: &IR,
     whole: bool,
     needed: &[Text],

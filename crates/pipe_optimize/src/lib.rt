@@ -2,7 +2,10 @@
 #![tactic(auto)]
 
 mod all_needed;
+mod first_places;
 mod full;
+mod name_lists;
+mod name_run;
 mod names;
 mod narrowing;
 mod needed;
@@ -13,4 +16,4 @@ mod trimming;
 mod unrenamed;
 
 pub use passes::optimize;
-pub use pipe_opt::Rewritten;
+pub use pipe_rules::Rewritten;

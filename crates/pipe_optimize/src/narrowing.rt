@@ -2,19 +2,21 @@
 
 ghost use Rattle.std.specs.Prelude.{◌≡◌, ◌<◌, ◌++◌, ◌∷◌, [], true, map, filter, length, IfOk, OnOk};
 ghost use Rattle.std.specs.List.{AllByRecursion};
-ghost use Rattle.pipe_frame.specs.Schema.{has_name};
+ghost use Rattle.pipe_schema.specs.Schema.{has_name};
 ghost use Rattle.pipe_expr.specs.Formula.{named_formula_of};
 ghost use Rattle.pipe_plan.specs.Node.{node_of};
-ghost use Rattle.pipe_needs.specs.Needs.{needed_exprs};
+ghost use Rattle.pipe_rules.specs.Needs.{needed_exprs};
 ghost use Rattle.pipe_optimize.specs.Lists.{names_at as kept_names_at};
 ghost use Rattle.pipe_optimize.specs.Sides.{has_existing, narrow_function_by, narrow_by};
 
+use crate::name_lists::NameLists;
 use crate::names::{has, kept_among, names_at};
 use crate::outputs::scanned_names;
+use pipe_check::NameIndex;
 use pipe_expr::{FunctionIR, NamedExpr, RenamePair};
-use pipe_fields::NameIndex;
-use pipe_frame::{DataFrame, List, Text};
+use pipe_frame::DataFrame;
 use pipe_plan::IR;
+use pipe_schema::{List, Text};
 use std::alloc::{AllocError, Global};
 
 /// Adds an expression, where its name is needed.
@@ -167,7 +169,7 @@ fn narrow_function(
 pub(crate) fn narrow(
     alloc: Global,
     frames: &[DataFrame],
-    lists: &[List<Text>],
+    lists: &NameLists,
     needed: &[Text],
     node: IR,
 ) -> Result<IR, AllocError>

@@ -2,22 +2,23 @@
 
 ghost use Rattle.std.specs.Prelude.{◌≡◌, true, map, filter, IfOk};
 ghost use Rattle.std.specs.List.{AllByRecursion};
-ghost use Rattle.pipe_frame.specs.Schema.{has_name};
+ghost use Rattle.pipe_schema.specs.Schema.{has_name};
 ghost use Rattle.std.specs.Str.{bytes_eq};
 ghost use Rattle.pipe_expr.specs.Formula.{formula_of};
 ghost use Rattle.pipe_expr.specs.Projections.{renamed};
 ghost use Rattle.pipe_plan.specs.Node.{node_of};
-ghost use Rattle.pipe_needs.specs.Needs.{keys_read as read_by_keys};
+ghost use Rattle.pipe_rules.specs.Needs.{keys_read as read_by_keys};
 ghost use Rattle.pipe_optimize.specs.Lists.{names_at as kept_names_at, or_head};
 ghost use Rattle.pipe_optimize.specs.Sides.{is_either, is_needed_anew, right_needed, kept_right_of, kept_left_of, kept_sorted_of, kept_function_of, kept_by, need_by};
 
-use crate::names::{copied, has, kept_among, names_at};
+use crate::name_lists::NameLists;
+use crate::names::{FEW, copied, has, is_among, kept_among, names_at, shared_names};
 use crate::outputs::{is_kept, is_pairing, push_shown_names, suffixed};
 use crate::reads::{columns_of, columns_read, keys_read};
+use pipe_check::{NameIndex, plain_names};
 use pipe_expr::{Expr, FunctionIR, RenamePair};
-use pipe_fields::{NameIndex, plain_names};
-use pipe_frame::{List, Text, TryClone};
 use pipe_plan::{IR, JoinOptions, SortOptions};
+use pipe_schema::{List, Text, TryClone};
 use std::alloc::{AllocError, Global};
 
 /// Whether a name is needed, or read.
@@ -60,7 +61,32 @@ fn begins_with(others: &[Text], names: &[Text]) -> bool
     true
 }
 
-/// Those of some names that are needed, or read, by indices.
+/// Whether a name stands among a few needed names, or among a few that are read.
+fn is_among_either(needed: &[Text], read: &[Text], name: &Text) -> bool
+    ensures { result ≡ is_either needed.now read.now name.now }
+{
+    is_among(needed, name) || is_among(read, name)
+}
+
+/// Those of some names that stand among a few needed ones, or among a few that are read.
+fn kept_of_few(
+    alloc: Global,
+    names: &[Text],
+    needed: &[Text],
+    read: &[Text],
+) -> Result<List<Text>, AllocError>
+    ensures { IfOk result (λ kept. kept ≡ filter (is_either needed.now read.now) names.now) }
+{
+    let mut kept = List::new(alloc);
+    for name in names {
+        if is_among_either(needed, read, name) {
+            kept.push(name.try_clone()?)?;
+        }
+    }
+    Ok(kept)
+}
+
+/// Those of some names that are needed, or read, by indices where these are many.
 fn kept_of_some(
     alloc: Global,
     names: &[Text],
@@ -69,6 +95,9 @@ fn kept_of_some(
 ) -> Result<List<Text>, AllocError>
     ensures { IfOk result (λ kept. kept ≡ filter (is_either needed.now read.now) names.now) }
 {
+    if needed.len() <= FEW && read.len() <= FEW {
+        return kept_of_few(alloc, names, needed, read);
+    }
     let needed = NameIndex::of(alloc, needed)?;
     let read = NameIndex::of(alloc, read)?;
     kept_of_either(alloc, names, &needed, &read)
@@ -256,16 +285,17 @@ fn kept_shown(
 #[tactic(auto, using(crate::proofs::Shared::shared_rules))]
 fn kept_right(
     alloc: Global,
-    left: &[Text],
+    lists: &NameLists,
+    left: u32,
     right: &[Text],
     right_on: &[Expr],
     needed: &[Text],
     options: &JoinOptions,
 ) -> Result<List<Text>, AllocError>
-    ensures { IfOk result (λ kept. kept
-        ≡ kept_right_of left.now right.now (map formula_of right_on.now) needed.now options.now) }
+    ensures { let left = kept_names_at lists.now left in IfOk result (λ kept. kept
+        ≡ kept_right_of left right.now (map formula_of right_on.now) needed.now options.now) }
 {
-    let shared = kept_among(alloc, left, right)?;
+    let shared = shared_names(alloc, lists, left, right)?;
     let left = NameIndex::of(alloc, shared.as_slice())?;
     let plain = plain_names(alloc, right_on)?;
     let keys = NameIndex::of(alloc, plain.as_slice())?;
@@ -294,19 +324,21 @@ fn kept_left(
 /// Those of a join's left names that are needed, over its right names.
 fn kept_left_beside(
     alloc: Global,
-    left: &[Text],
+    lists: &NameLists,
+    left: u32,
     right: &[Text],
     left_on: &[Expr],
     right_on: &[Expr],
     needed: &[Text],
     options: &JoinOptions,
 ) -> Result<List<Text>, AllocError>
-    ensures { let kept_right = kept_right_of left.now right.now (map formula_of right_on.now)
+    ensures { let names = kept_names_at lists.now left in
+        let kept_right = kept_right_of names right.now (map formula_of right_on.now)
         needed.now options.now in IfOk result (λ kept.
-        kept ≡ kept_left_of left.now (map formula_of left_on.now) needed.now kept_right) }
+        kept ≡ kept_left_of names (map formula_of left_on.now) needed.now kept_right) }
 {
-    let kept = kept_right(alloc, left, right, right_on, needed, options)?;
-    kept_left(alloc, left, left_on, needed, kept)
+    let kept = kept_right(alloc, lists, left, right, right_on, needed, options)?;
+    kept_left(alloc, names_at(lists, left), left_on, needed, kept)
 }
 
 /// What a sort needs of its input: with a slice all, else what is needed, and its keys.
@@ -352,7 +384,7 @@ fn kept_function(
 /// The columns that a node needs of an input, where some of its own are needed.
 fn raw_need(
     alloc: Global,
-    lists: &[List<Text>],
+    lists: &NameLists,
     node: &IR,
     needed: &[Text],
     input: u32,
@@ -394,14 +426,16 @@ fn raw_need(
             right_on,
             options,
         } => {
-            let lefts = names_at(lists, *left);
+            let left = *left;
             let right_on = right_on.as_slice();
-            if input == *left {
+            if input == left {
                 let rights = names_at(lists, *right);
                 let left_on = left_on.as_slice();
-                kept_left_beside(alloc, lefts, rights, left_on, right_on, needed, options)
+                kept_left_beside(
+                    alloc, lists, left, rights, left_on, right_on, needed, options,
+                )
             } else {
-                kept_right(alloc, lefts, names, right_on, needed, options)
+                kept_right(alloc, lists, left, names, right_on, needed, options)
             }
         }
         IR::Sort {
@@ -428,7 +462,7 @@ fn or_first(kept: List<Text>, names: &[Text]) -> Result<List<Text>, AllocError>
 /// The columns that a node needs of an input, where some of its own are needed; its first where it needs none.
 pub(crate) fn input_need(
     alloc: Global,
-    lists: &[List<Text>],
+    lists: &NameLists,
     node: &IR,
     needed: &[Text],
     input: u32,

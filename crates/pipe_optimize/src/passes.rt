@@ -1,26 +1,26 @@
 //! A plan with its filters as low as they can stand, and without the columns that nobody needs.
 
 ghost use Rattle.std.specs.Prelude.{◌≡◌, ◌≤◌, ◌+◌, ◌*◌, ℕ, true, map, length, IfOk, IfErr, OnOk};
-ghost use Rattle.pipe_frame.specs.Rows.{Same};
+ghost use Rattle.pipe_schema.specs.Rows.{Same};
 ghost use Rattle.pipe_plan.specs.Node.{node_of};
 ghost use Rattle.pipe_plan.specs.Plan.{plan_of};
 ghost use Rattle.pipe_plan.specs.Under.{node_at};
 ghost use Rattle.pipe_plan.specs.Schemas.{schema_of};
 ghost use Rattle.pipe_plan.specs.PlanRows.{rows_of};
 ghost use Rattle.pipe_plan.specs.Faults.{IsWellFormed};
-ghost use Rattle.pipe_opt.specs.Low.{is_sort, AreLow};
-ghost use Rattle.pipe_opt.specs.Sorts.{sorting_of};
-ghost use Rattle.pipe_opt.specs.Literals.{AddsNoLiteral};
-ghost use Rattle.pipe_opt.specs.Sizes.{count_under as nodes_counted, IsTooLarge};
-ghost use Rattle.pipe_opt.specs.Grown.{over, AreWithin, AreUnder};
+ghost use Rattle.pipe_rules.specs.Low.{is_sort, AreLow};
+ghost use Rattle.pipe_rules.specs.Sorts.{sorting_of};
+ghost use Rattle.pipe_rules.specs.Literals.{AddsNoLiteral};
+ghost use Rattle.pipe_rules.specs.Sizes.{count_under as nodes_counted, IsTooLarge};
+ghost use Rattle.pipe_rules.specs.Grown.{over, AreWithin, AreUnder};
 ghost use Rattle.pipe_optimize.specs.Needed.{IsTrimmed};
 
 use crate::full::frames_full;
 use crate::trimming::trim;
 use pipe_check::CheckedPlan;
-use pipe_opt::{Rewritten, push_filters};
+use pipe_laws::frames_fit;
 use pipe_plan::PipeError;
-use pipe_typing::frames_fit;
+use pipe_rules::{Rewritten, push_filters};
 use std::alloc::Global;
 
 /// The plan rewritten over its frames: first each conjunct of each filter goes as low as it may, then each scan is cut to

@@ -1,16 +1,16 @@
 //! The columns that expressions read.
 
 ghost use Rattle.std.specs.Prelude.{◌≡◌, ◌++◌, ◌∷◌, [], map, IfOk, OnOk};
-ghost use Rattle.pipe_frame.specs.Schema.{has_name};
+ghost use Rattle.pipe_schema.specs.Schema.{has_name};
 ghost use Rattle.pipe_expr.specs.Formula.{formula_of, named_formula_of};
 ghost use Rattle.pipe_expr.specs.Types.{columns_in};
-ghost use Rattle.pipe_needs.specs.Needs.{columns_read as read_by, needed_exprs, keys_read as read_by_keys};
+ghost use Rattle.pipe_rules.specs.Needs.{columns_read as read_by, needed_exprs, keys_read as read_by_keys};
 
 use crate::names::{has, kept_among};
 use crate::outputs::expr_names;
+use pipe_check::NameIndex;
 use pipe_expr::{Expr, NamedExpr};
-use pipe_fields::NameIndex;
-use pipe_frame::{List, Text, TryClone};
+use pipe_schema::{List, Text, TryClone};
 use std::alloc::{AllocError, Global};
 
 /// Adds the columns that an expression reads.

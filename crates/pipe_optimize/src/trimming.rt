@@ -12,28 +12,25 @@ ghost use Rattle.pipe_optimize.specs.Narrow.{AreNarrowed};
 ghost use Rattle.pipe_optimize.specs.Whole.{need_or, needs_over, AreAllOf, AreOutputs};
 
 use crate::all_needed::{need_of_input, needed_at, put_need, take_need, whole_needs};
+use crate::name_lists::NameLists;
 use crate::names::names_in;
 use crate::narrowing::narrow;
-use crate::outputs::output_names;
+use crate::outputs::push_names;
 use crate::unrenamed::{has_renaming, narrow_unrenamed};
-use pipe_frame::{DataFrame, List, Text};
-use pipe_opt::inputs;
+use pipe_frame::DataFrame;
 use pipe_plan::IR;
+use pipe_rules::inputs;
+use pipe_schema::{List, Text};
 use std::alloc::{AllocError, Global};
 
 /// The names of the outputs of some nodes.
-fn node_names(
-    alloc: Global,
-    frames: &[DataFrame],
-    nodes: &[IR],
-) -> Result<List<List<Text>>, AllocError>
+fn node_names(alloc: Global, frames: &[DataFrame], nodes: &[IR]) -> Result<NameLists, AllocError>
     requires { AreOrdered (map node_of nodes.now) }
     ensures { IfOk result (HasNames frames.now (map node_of nodes.now)) }
 {
-    let mut lists = List::new(alloc);
+    let mut lists = NameLists::new(alloc);
     for node in nodes {
-        let names = output_names(alloc, frames, lists.as_slice(), node)?;
-        lists.push(names)?;
+        push_names(alloc, frames, &mut lists, node)?;
     }
     Ok(lists)
 }
@@ -41,7 +38,7 @@ fn node_names(
 /// Puts what a node needs of its inputs, where some names of its own are needed, which may be all.
 fn put_needs(
     alloc: Global,
-    lists: &[List<Text>],
+    lists: &NameLists,
     node: &IR,
     whole: bool,
     needed: &[Text],
@@ -66,7 +63,7 @@ fn put_needs(
 /// Puts what a node needs of its inputs, where all names of its own are needed, or those that are kept for it.
 fn hand_down(
     alloc: Global,
-    lists: &[List<Text>],
+    lists: &NameLists,
     names: &[Text],
     node: &IR,
     need: &Option<List<Text>>,
@@ -89,7 +86,7 @@ fn hand_down(
 /// Hands down what is needed, from the last node to the first.
 fn pass_needs(
     alloc: Global,
-    lists: &[List<Text>],
+    lists: &NameLists,
     nodes: &[IR],
     root: u32,
     needs: &mut [Option<List<Text>>],
@@ -115,7 +112,7 @@ fn pass_needs(
 /// The columns that are needed of each node under the root.
 fn node_needs(
     alloc: Global,
-    lists: &[List<Text>],
+    lists: &NameLists,
     nodes: &[IR],
     root: u32,
 ) -> Result<Vec<Option<List<Text>>>, AllocError>
@@ -134,7 +131,7 @@ fn node_needs(
 fn narrow_over_names(
     alloc: Global,
     frames: &[DataFrame],
-    lists: &[List<Text>],
+    lists: &NameLists,
     nodes: List<IR>,
     needs: &[Option<List<Text>>],
 ) -> Result<List<IR>, AllocError>
@@ -143,14 +140,13 @@ fn narrow_over_names(
     ensures { IfOk result (λ made. AreNarrowed frames.now (map node_of nodes)
         (map node_of made) (needs_in (needs_over lists.now needs.now))) }
 {
-    let mut left = List::new(alloc);
+    let mut left = NameLists::new(alloc);
     let mut made = List::new(alloc);
     for node in nodes.into_vec() {
         let needed = needed_at(lists, needs, made.len() as u32);
-        let narrowed = narrow(alloc, frames, left.as_slice(), needed, node)?;
-        let names = output_names(alloc, frames, left.as_slice(), &narrowed)?;
+        let narrowed = narrow(alloc, frames, &left, needed, node)?;
+        push_names(alloc, frames, &mut left, &narrowed)?;
         made.push(narrowed)?;
-        left.push(names)?;
     }
     Ok(made)
 }
@@ -159,7 +155,7 @@ fn narrow_over_names(
 fn narrow_nodes(
     alloc: Global,
     frames: &[DataFrame],
-    lists: &[List<Text>],
+    lists: &NameLists,
     nodes: List<IR>,
     needs: &[Option<List<Text>>],
 ) -> Result<List<IR>, AllocError>
@@ -191,6 +187,6 @@ pub(crate) fn trim(
         IsTrimOf frames.now (map node_of nodes) (map node_of made) root) }
 {
     let lists = node_names(alloc, frames, nodes.as_slice())?;
-    let needs = node_needs(alloc, lists.as_slice(), nodes.as_slice(), root)?;
-    narrow_nodes(alloc, frames, lists.as_slice(), nodes, needs.as_slice())
+    let needs = node_needs(alloc, &lists, nodes.as_slice(), root)?;
+    narrow_nodes(alloc, frames, &lists, nodes, needs.as_slice())
 }

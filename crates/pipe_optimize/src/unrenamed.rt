@@ -9,10 +9,12 @@ ghost use Rattle.pipe_optimize.specs.Put.{needs_in};
 ghost use Rattle.pipe_optimize.specs.Whole.{needs_over};
 
 use crate::all_needed::needed_at;
+use crate::name_lists::NameLists;
 use crate::narrowing::narrow;
 use pipe_expr::FunctionIR;
-use pipe_frame::{DataFrame, List, Text};
+use pipe_frame::DataFrame;
 use pipe_plan::IR;
+use pipe_schema::{List, Text};
 use std::alloc::{AllocError, Global};
 
 /// Whether a function is a renaming.
@@ -82,7 +84,7 @@ pub(crate) fn has_renaming(nodes: &[IR]) -> bool
 pub(crate) fn narrow_unrenamed(
     alloc: Global,
     frames: &[DataFrame],
-    lists: &[List<Text>],
+    lists: &NameLists,
     nodes: List<IR>,
     needs: &[Option<List<Text>>],
 ) -> Result<List<IR>, AllocError>
@@ -91,10 +93,11 @@ pub(crate) fn narrow_unrenamed(
     ensures { IfOk result (λ made. AreNarrowed frames.now (map node_of nodes)
         (map node_of made) (needs_in (needs_over lists.now needs.now))) }
 {
+    let none = NameLists::new(alloc);
     let mut made = List::new(alloc);
     for node in nodes.into_vec() {
         let needed = needed_at(lists, needs, made.len() as u32);
-        let narrowed = narrow(alloc, frames, &[], needed, node)?;
+        let narrowed = narrow(alloc, frames, &none, needed, node)?;
         made.push(narrowed)?;
     }
     Ok(made)

@@ -3,7 +3,7 @@ use Rattle.std.proofs.Common.{◌≡◌, ◌≤◌, ◌<◌, ℕ, List, [], ◌+
 use Rattle.std.proofs.lemmas.Option.{same_Some, none-some}
 use Rattle.std.specs.Prelude.{IfSome}
 use Rattle.std.proofs.Math.Seq.{take-add}
-use Rattle.pipe_frame.specs.Counts.{Counts, Rises}
+use Rattle.pipe_schema.specs.Counts.{Counts, Rises}
 use Rattle.pipe_outside.specs.Outside.{Appends, AtEnd, Counted, CountedAbove, HasRead, InputSeen, OutputSeen, Takes, Took, Writes, WritesFront}
 use Rattle.pipe_outside.specs.Whole.{IsAll, IsLong, Reads}
 

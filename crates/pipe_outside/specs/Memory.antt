@@ -2,7 +2,7 @@
 use Rattle.std.specs.Prelude.{ℕ, ◌+◌, ◌==◌, min, Bool, List, [], ◌∷◌, slice_index_or, unwrap_or, Option, Some, None, if◌then◌else◌}
 use Rattle.std.specs.List.{list_any}
 use Rattle.std.specs.Str.{bytes_eq}
-use Rattle.pipe_frame.specs.Counts.{last_count}
+use Rattle.pipe_schema.specs.Counts.{last_count}
 use Rattle.pipe_outside.specs.Outside.{InputSeen, OutputSeen}
 use Rattle.pipe_outside.specs.declared.shelf.NamedBytes.{NamedBytes}
 

@@ -1,7 +1,7 @@
 -- What a job is read from and what its rows are written to. What a reader has left and what a writer
 -- holds are told or not: nothing is said of the bytes of one that doesn't tell.
 use Rattle.std.specs.Prelude.{ℕ, ◌≡◌, ◌<◌, ◌≤◌, ◌+◌, ◌⊎◌, List, [], ◌++◌, take, drop, Option, Some, None, IfSome, IsSomeAnd}
-use Rattle.pipe_frame.specs.Counts.{Counts, Rises, last_count}
+use Rattle.pipe_schema.specs.Counts.{Counts, Rises, last_count}
 
 -- what is known of a reader
 pub record InputSeen : Type 0 where

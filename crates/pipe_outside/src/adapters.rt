@@ -1,7 +1,7 @@
 //! The trusted edge: readers and writers over the system's streams and files, which tell nothing of content.
 
 ghost use Rattle.std.specs.Prelude.{◌≡◌, ◌≤◌};
-ghost use Rattle.pipe_frame.specs.Counts.{Rises};
+ghost use Rattle.pipe_schema.specs.Counts.{Rises};
 ghost use Rattle.pipe_outside.specs.Outside.{untold_input, untold_output};
 
 use crate::outside::{JobReader, ReadFailed, RowWriter, WriteFailed};

@@ -1,10 +1,10 @@
 //! Calls of which some are to fail: what readers and writers in memory count.
 
 ghost use Rattle.std.specs.Prelude.{◌≡◌, ◌≤◌, IsTrue};
-ghost use Rattle.pipe_frame.specs.Counts.{Rises};
+ghost use Rattle.pipe_schema.specs.Counts.{Rises};
 ghost use Rattle.pipe_outside.specs.Memory.{call_number, is_listed};
 
-use pipe_frame::List;
+use pipe_schema::List;
 
 /// Calls, counted from 1, of which those with given numbers fail.
 #[derive(Debug, Drop)]

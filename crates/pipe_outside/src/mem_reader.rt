@@ -1,14 +1,14 @@
 //! A reader in memory, some calls of which fail as they are told.
 
 ghost use Rattle.std.specs.Prelude.{◌≡◌, ◌≤◌, ◌<◌, ◌||◌, Some, length, IfOk, IfSome, OnOk, OnErr, is_err, is_none};
-ghost use Rattle.pipe_frame.specs.Counts.{Counts, Rises};
+ghost use Rattle.pipe_schema.specs.Counts.{Counts, Rises};
 ghost use Rattle.pipe_outside.specs.Outside.{Took};
 ghost use Rattle.pipe_outside.specs.Memory.{bytes_named, call_number, is_listed, scripted_input};
 
 use crate::calls::Calls;
 use crate::outside::{JobReader, ReadFailed};
 use crate::shelf::{NamedBytes, Shelf};
-use pipe_frame::{Bytes, List};
+use pipe_schema::{Bytes, List};
 use std::marker::Model;
 
 /// A reader over bytes in memory, some calls of which fail.

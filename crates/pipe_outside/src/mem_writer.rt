@@ -1,12 +1,12 @@
 //! A writer in memory, some calls of which fail as they are told.
 
 ghost use Rattle.std.specs.Prelude.{◌≡◌, ◌≤◌, ◌<◌, ◌++◌, [], Some, take, length, IfOk, OnErr, IsTrue, is_err};
-ghost use Rattle.pipe_frame.specs.Counts.{Rises};
+ghost use Rattle.pipe_schema.specs.Counts.{Rises};
 ghost use Rattle.pipe_outside.specs.Memory.{call_number, is_listed, scripted_output};
 
 use crate::calls::Calls;
 use crate::outside::{RowWriter, WriteFailed};
-use pipe_frame::List;
+use pipe_schema::List;
 use std::alloc::Global;
 use std::cmp::min;
 use std::marker::Model;

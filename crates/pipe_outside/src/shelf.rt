@@ -3,7 +3,7 @@
 ghost use Rattle.std.specs.Prelude.{◌≤◌, length};
 ghost use Rattle.pipe_outside.specs.Memory.{source_bytes};
 
-use pipe_frame::{Bytes, List};
+use pipe_schema::{Bytes, List};
 
 /// A file's name and content.
 #[derive(Debug, Drop)]

@@ -6,7 +6,7 @@ ghost use Rattle.pipe_outside.specs.Memory.{bytes_named, named_at, source_bytes}
 ghost use Rattle.pipe_outside.specs.Shelves.{left_of};
 
 use crate::shelf::{NamedBytes, Shelf};
-use pipe_frame::{Bytes, List};
+use pipe_schema::{Bytes, List};
 use std::cmp::min;
 
 /// The place of the first file of this name.

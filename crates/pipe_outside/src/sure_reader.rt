@@ -6,7 +6,7 @@ ghost use Rattle.pipe_outside.specs.Shelves.{left_of};
 
 use crate::outside::{JobReader, ReadFailed};
 use crate::shelf::{NamedBytes, Shelf};
-use pipe_frame::{Bytes, List};
+use pipe_schema::{Bytes, List};
 
 /// A reader over bytes in memory that never fails.
 #[derive(Debug, Drop)]

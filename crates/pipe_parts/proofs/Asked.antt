@@ -4,10 +4,10 @@ use Rattle.std.specs.Prelude.{filter}
 use Rattle.std.specs.Str.{bytes_eq}
 use Rattle.std.specs.List.{flat_map, list_any}
 use Rattle.std.specs.Cmp.Lexicographic.{pointwise}
-use Rattle.pipe_frame.specs.Rows.{Row, Same}
-use Rattle.pipe_frame.specs.declared.data_type.DataType.{DataType}
-use Rattle.pipe_frame.specs.declared.field.Field.{Field}
-use Rattle.pipe_frame.proofs.Weights.{SameBag-from_equal, SameBag-from_rows}
+use Rattle.pipe_schema.specs.Rows.{Row, Same}
+use Rattle.pipe_schema.specs.declared.data_type.DataType.{DataType}
+use Rattle.pipe_schema.specs.declared.field.Field.{Field}
+use Rattle.pipe_schema.proofs.Weights.{SameBag-from_equal, SameBag-from_rows}
 use Rattle.pipe_rows.specs.SortOrder.{SortBy, sorted}
 use Rattle.pipe_rows.proofs.SortLaw.{sorted-same}
 use Rattle.pipe_expr.specs.Formula.{Formula}
@@ -18,8 +18,8 @@ use Rattle.pipe_plan.specs.PlanRows.{slice_rows}
 use Rattle.pipe_plan.specs.Faults.{eq_field, inputs_differ}
 use Rattle.pipe_plan.specs.declared.ir.PlanSlice.{PlanSlice}
 use Rattle.pipe_events.specs.PlanStages.{one_row, filtered_row}
-use Rattle.pipe_typing.specs.Fits.{FitRows}
-use Rattle.pipe_typing.proofs.Rows.{same-dtype}
+use Rattle.pipe_laws.specs.Fits.{FitRows}
+use Rattle.pipe_laws.proofs.Rows.{same-dtype}
 use Rattle.pipe_rules.proofs.Under.{same-name}
 use Rattle.pipe_parts.specs.Wishes.{wishes_below, alone, alike, slice_ways}
 use Rattle.pipe_parts.specs.declared.wish.Wish.{Wish}
@@ -28,7 +28,7 @@ use Rattle.pipe_parts.specs.Choices.{IsIn}
 use Rattle.pipe_parts.specs.Parts.{Parted, LieAs}
 use Rattle.pipe_parts.specs.Laws.{HasKey}
 use Rattle.pipe_parts.proofs.Lying.{lie-same, lie-none, lie-append, lie-made}
-use Rattle.pipe_parts.proofs.Columns.{ColumnsGoDown, wish-goes}
+use Rattle.pipe_parts.proofs.ColumnsBelow.{ColumnsGoDown, wish-goes}
 
 -- ---- lists of ways
 
@@ -97,7 +97,7 @@ module _ (parted : Parted) (s : ℕ → List Field) (rows : ℕ → List Row) (p
         lies = λ lying. lie-made parted w up (s i) out f (rows i) (parts i) goes.0 fit lying.0;
       })
 
-  -- the same by a list that is equal
+  -- a good way stays one where lists are exchanged for equal ones
   pub good-as : (up : Wish) (out : List Field) (a b : List Row) (x y : ℕ → List Row) (inputs : List ℕ) (way : List Wish) → a ≡ b → ((p : ℕ) → x p ≡ y p) → IsGood up out a x inputs way → IsGood up out b y inputs way
   good-as up out a b x y inputs way e parts_e g = record {
     asks = g.asks;

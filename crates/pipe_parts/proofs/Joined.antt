@@ -4,11 +4,11 @@ use Rattle.std.specs.Prelude.{filter}
 use Rattle.std.specs.Str.{bytes_eq}
 use Rattle.std.specs.List.{AllByRecursion, flat_map, list_all}
 use Rattle.std.specs.Cmp.Lexicographic.{pointwise}
-use Rattle.pipe_frame.specs.Rows.{Row, Same}
-use Rattle.pipe_frame.specs.Schema.{has_name, names_of, first_unknown}
-use Rattle.pipe_frame.specs.declared.any_value.AnyValue.{AnyValue}
-use Rattle.pipe_frame.specs.declared.field.Field.{Field}
-use Rattle.pipe_frame.proofs.Weights.{SameBag, SameBag-from_rows, Same-from_bag}
+use Rattle.pipe_schema.specs.Rows.{Row, Same}
+use Rattle.pipe_schema.specs.Schema.{has_name, names_of, first_unknown}
+use Rattle.pipe_schema.specs.declared.any_value.AnyValue.{AnyValue}
+use Rattle.pipe_schema.specs.declared.field.Field.{Field}
+use Rattle.pipe_schema.proofs.Weights.{SameBag, SameBag-from_rows, Same-from_bag}
 use Rattle.pipe_expr.specs.Formula.{Formula, Column}
 use Rattle.pipe_expr.specs.Types.{columns_in}
 use Rattle.pipe_expr.specs.Values.{named_cell}
@@ -19,8 +19,8 @@ use Rattle.pipe_expr.specs.declared.join_words.JoinType.{JoinType}
 use Rattle.pipe_expr.specs.declared.join_words.JoinType.TheVariants as how
 use Rattle.pipe_plan.specs.Node.{Node}
 use Rattle.pipe_plan.specs.Faults.{is_column}
-use Rattle.pipe_typing.specs.Fits.{FitsRow, FitRows}
-use Rattle.pipe_typing.proofs.Lists.{all-append, all-map, all-flat, all-filter}
+use Rattle.pipe_laws.specs.Fits.{FitsRow, FitRows}
+use Rattle.pipe_laws.proofs.Lists.{all-append, all-map, all-flat, all-filter}
 use Rattle.pipe_rules.proofs.Filters.{all-always, all-of, all-both, all-right}
 use Rattle.pipe_rules.proofs.Under.{named-under, same-name, each-known}
 use Rattle.pipe_rules.proofs.Columns.{of-left}

@@ -1,12 +1,12 @@
 -- Rows that lie in parts as wished: the same rows, none, more of them, and what is made of each row.
 use Rattle.std.proofs.Common.{◌≡◌, ℕ, ◌<◌, List, [], ◌++◌, refl, ap, subst, ◌∙◌}
 use Rattle.std.specs.List.{AllByRecursion, flat_map}
-use Rattle.pipe_frame.specs.Rows.{Row, Same}
-use Rattle.pipe_frame.specs.declared.field.Field.{Field}
-use Rattle.pipe_frame.proofs.Weights.{SameBag, SameBag-refl, SameBag-sym, SameBag-trans, SameBag-from_equal, SameBag-append, SameBag-flat_map, SameBag-from_rows, Same-from_bag}
+use Rattle.pipe_schema.specs.Rows.{Row, Same}
+use Rattle.pipe_schema.specs.declared.field.Field.{Field}
+use Rattle.pipe_schema.proofs.Weights.{SameBag, SameBag-refl, SameBag-sym, SameBag-trans, SameBag-from_equal, SameBag-append, SameBag-flat_map, SameBag-from_rows, Same-from_bag}
 use Rattle.pipe_expr.specs.Projections.{row_named}
-use Rattle.pipe_typing.specs.Fits.{FitsRow, FitRows}
-use Rattle.pipe_typing.proofs.Lists.{all-append, all-flat}
+use Rattle.pipe_laws.specs.Fits.{FitsRow, FitRows}
+use Rattle.pipe_laws.proofs.Lists.{all-append, all-flat}
 use Rattle.pipe_rules.proofs.Filters.{all-of, all-both}
 use Rattle.pipe_parts.specs.declared.wish.Wish.{Wish}
 use Rattle.pipe_parts.specs.declared.wish.Wish.TheVariants.{Split, Key, Whole}
@@ -35,7 +35,7 @@ module _ (parted : Parted) where
   split-same a b x y same parts h =
       Same-from_bag (SameBag-trans (together-same n x y parts) (SameBag-trans (SameBag-from_rows h) (SameBag-sym same)))
 
-  -- the same rows lie alike
+  -- equal rows lie alike
   pub lie-same : (wish : Wish) (s : List Field) (a b : List Row) (x y : ℕ → List Row) → SameBag a b → ((p : ℕ) → p < n → SameBag (x p) (y p)) → LieAs parted wish s b y → LieAs parted wish s a x
   lie-same Split s a b x y same parts h = split-same a b x y same parts h
   lie-same (Key key columns) s a b x y same parts h = record {

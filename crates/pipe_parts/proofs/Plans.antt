@@ -3,9 +3,9 @@ use Rattle.std.proofs.Common.{◌≡◌, ℕ, zero, suc, ◌<◌, Bool, true, fa
 use Rattle.std.specs.List.{AllByRecursion, flat_map}
 use Rattle.std.proofs.lemmas.Bool.Decides.{Decides-eqb}
 use Rattle.pipe_frame.specs.Frame.{Table}
-use Rattle.pipe_frame.specs.Rows.{Row, Same}
-use Rattle.pipe_frame.specs.declared.field.Field.{Field}
-use Rattle.pipe_frame.proofs.Weights.{SameBag-refl, SameBag-from_equal}
+use Rattle.pipe_schema.specs.Rows.{Row, Same}
+use Rattle.pipe_schema.specs.declared.field.Field.{Field}
+use Rattle.pipe_schema.proofs.Weights.{SameBag-refl, SameBag-from_equal}
 use Rattle.pipe_rows.specs.SortOrder.{sorted}
 use Rattle.pipe_expr.specs.Projections.{fields_named, row_named, select_fields, select_row, hstack_fields, hstack_row, function_fields, function_rows}
 use Rattle.pipe_expr.specs.Joins.{join_rows}
@@ -19,8 +19,8 @@ use Rattle.pipe_plan.specs.PlanRows.{node_rows, rows_at, rows_to, rows_of, scan_
 use Rattle.pipe_plan.specs.Faults.{or_else, unknown_in, unknown_scanned, IsWellFormed}
 use Rattle.pipe_check.proofs.Agree.{agree-members, schema-agree}
 use Rattle.pipe_check.proofs.Walks.{member, itself, walk-at, walk-below, schema-own, schema-below}
-use Rattle.pipe_typing.specs.Fits.{FitRows, FramesFit}
-use Rattle.pipe_typing.proofs.Plans.{rows_fit, sorts_sure}
+use Rattle.pipe_laws.specs.Fits.{FitRows, FramesFit}
+use Rattle.pipe_laws.proofs.Plans.{rows_fit, sorts_sure}
 use Rattle.pipe_rules.specs.Placed.{first_input}
 use Rattle.pipe_rules.proofs.Filters.{all-left, all-right}
 use Rattle.pipe_parts.proofs.Granted.{Granted, granted}
@@ -31,7 +31,7 @@ use Rattle.pipe_parts.specs.Choices.{Choice, IsIn, before_each, choices_for, nod
 use Rattle.pipe_parts.specs.Parts.{Parted, LieAs, unframed, frame_in, scanned, IsScanCut}
 use Rattle.pipe_parts.specs.Laws.{part_rows, HasKey, NodesLieAsWished}
 use Rattle.pipe_parts.proofs.Lying.{lie-same}
-use Rattle.pipe_parts.proofs.Columns.{filter-down, projection-down, select-down, hstack-down, unpivot-down, rename-down}
+use Rattle.pipe_parts.proofs.ColumnsBelow.{filter-down, projection-down, select-down, hstack-down, unpivot-down, rename-down}
 use Rattle.pipe_parts.proofs.Asked.{in-map, in-flat, the-one, AskKeys, Lying, IsGood, flat-good, mapped-good, filtered-good, union-good, sort-good}
 use Rattle.pipe_parts.proofs.Joined.{join-good}
 

@@ -1,7 +1,7 @@
 -- The root of a plan in parts, and the plan that gathers.
 use Rattle.std.proofs.Common.{◌≡◌, ℕ, ◌<◌, true, List, [], ◌∷◌, refl, ap, sym, subst, ◌∙◌}
-use Rattle.pipe_frame.specs.Rows.{Row, Same}
-use Rattle.pipe_frame.specs.declared.field.Field.{Field}
+use Rattle.pipe_schema.specs.Rows.{Row, Same}
+use Rattle.pipe_schema.specs.declared.field.Field.{Field}
 use Rattle.pipe_rows.specs.SortOrder.{sorted}
 use Rattle.pipe_plan.specs.Node.{Node}
 use Rattle.pipe_plan.specs.Node as node
@@ -13,7 +13,7 @@ use Rattle.pipe_plan.specs.Faults.{IsWellFormed}
 use Rattle.pipe_plan.specs.declared.ir.SortOptions.{SortOptions}
 use Rattle.pipe_check.proofs.Walks.{member, itself, schema-below, under-self}
 use Rattle.pipe_check.proofs.WellFormed.{root_there}
-use Rattle.pipe_typing.proofs.Plans.{sorts_sure}
+use Rattle.pipe_laws.proofs.Plans.{sorts_sure}
 use Rattle.pipe_parts.proofs.Granted.{Granted, granted}
 use Rattle.pipe_parts.specs.declared.wish.Wish.TheVariants.{Split}
 use Rattle.pipe_parts.specs.Parts.{below_sort, parts_root, gather_nodes}

@@ -2,9 +2,9 @@
 use Rattle.std.proofs.Common.{◌≡◌, ℕ, ◌<◌, Bool, true, false, ◌&&◌, not, List, [], ◌++◌, map, append-nil, refl, ap, sym, ◌∙◌}
 use Rattle.std.specs.Prelude.{filter}
 use Rattle.std.specs.List.{AllByRecursion, flat_map}
-use Rattle.pipe_frame.specs.Rows.{Row, eq_row}
-use Rattle.pipe_frame.specs.declared.any_value.AnyValue.{AnyValue}
-use Rattle.pipe_frame.proofs.Weights.{SameBag, SameBag-refl, SameBag-sym, SameBag-trans, SameBag-from_equal, SameBag-append, SameBag-map, SameBag-filter, SameBag-flat_map, eq_row-sound}
+use Rattle.pipe_schema.specs.Rows.{Row, eq_row}
+use Rattle.pipe_schema.specs.declared.any_value.AnyValue.{AnyValue}
+use Rattle.pipe_schema.proofs.Weights.{SameBag, SameBag-refl, SameBag-sym, SameBag-trans, SameBag-from_equal, SameBag-append, SameBag-map, SameBag-filter, SameBag-flat_map, eq_row-sound}
 use Rattle.pipe_expr.specs.Joins.{Join, key_of, joins, matches, rows_by}
 use Rattle.pipe_expr.specs.Shares.{meets, met_by, has_built_match, lacks_probed_match, row_where, probe_pair, pad_probed, pad_built, probe_pairs, share_by, own_by}
 use Rattle.pipe_expr.specs.declared.join_words.JoinType.{JoinType}

@@ -4,9 +4,9 @@ use Rattle.std.specs.Prelude.{filter}
 use Rattle.std.specs.List.{AllByRecursion, flat_map, list_any}
 use Rattle.std.proofs.lemmas.Bool.{cases_lt}
 use Rattle.std.proofs.lemmas.List.Concat.{flat_map-append}
-use Rattle.pipe_frame.specs.Weights.{total}
-use Rattle.pipe_frame.specs.Rows.{Row, eq_row, times}
-use Rattle.pipe_frame.proofs.Weights.{SameBag, SameBag-refl, SameBag-trans, SameBag-append, Same-from_bag, eq_row-sound, eq_row-refl}
+use Rattle.pipe_schema.specs.Weights.{total}
+use Rattle.pipe_schema.specs.Rows.{Row, eq_row, times}
+use Rattle.pipe_schema.proofs.Weights.{SameBag, SameBag-refl, SameBag-trans, SameBag-append, Same-from_bag, eq_row-sound, eq_row-refl}
 use Rattle.pipe_events.proofs.Bags.{middle}
 use Rattle.pipe_rules.proofs.Filters.{all-left, all-right, filter-append}
 use Rattle.pipe_parts.specs.Parts.{together}
@@ -116,7 +116,7 @@ pub filter-none : {X : Type 0} (test : X → Bool) (xs : List X) → AllByRecurs
 filter-none test [] h = refl
 filter-none test (x ∷ xs) h = ap (λ b. cond b (x ∷ filter test xs) (filter test xs)) h.0 ∙ filter-none test xs h.1
 
--- the same pieces of each element that has a property
+-- pieces are equal where those of each element are, and each element has the property
 pub pieces-same : {X Y : Type 0} (P : X → Type 0) (f g : X → List Y) (xs : List X) → ((x : X) → P x → SameBag (f x) (g x)) → AllByRecursion P xs → SameBag (flat_map f xs) (flat_map g xs)
 pieces-same P f g [] h all = SameBag-refl []
 pieces-same P f g (x ∷ xs) h all = SameBag-append (h x all.0) (pieces-same P f g xs h all.1)

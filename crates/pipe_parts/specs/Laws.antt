@@ -1,9 +1,9 @@
 -- The laws of plans in parts.
 use Rattle.std.specs.Prelude.{◌≡◌, ℕ, List, true}
 use Rattle.std.specs.List.{AllByRecursion}
-use Rattle.pipe_frame.specs.Rows.{Row, Same}
-use Rattle.pipe_frame.specs.Schema.{has_name, names_of}
-use Rattle.pipe_frame.specs.declared.field.Field.{Field}
+use Rattle.pipe_schema.specs.Rows.{Row, Same}
+use Rattle.pipe_schema.specs.Schema.{has_name, names_of}
+use Rattle.pipe_schema.specs.declared.field.Field.{Field}
 use Rattle.pipe_plan.specs.Node as node
 use Rattle.pipe_plan.specs.Plan.{Plan}
 use Rattle.pipe_plan.specs.Under.{node_at, is_under}
@@ -11,7 +11,7 @@ use Rattle.pipe_plan.specs.Schemas.{schema_of}
 use Rattle.pipe_plan.specs.PlanRows.{rows_of}
 use Rattle.pipe_plan.specs.Faults.{IsWellFormed}
 use Rattle.pipe_plan.specs.declared.ir.SortOptions.{SortOptions}
-use Rattle.pipe_typing.specs.Fits.{FramesFit}
+use Rattle.pipe_laws.specs.Fits.{FramesFit}
 use Rattle.pipe_parts.specs.declared.wish.Wish.{Wish}
 use Rattle.pipe_parts.specs.declared.wish.Wish.TheVariants.{Split, Key, Whole}
 use Rattle.pipe_parts.specs.Choices.{Choice, IsIn, choices_of}

@@ -4,8 +4,8 @@ use Rattle.std.specs.Prelude.{ℕ, List, [], ◌∷◌, ◌++◌, Bool, ◌&&◌
 use Rattle.std.specs.List.{list_all}
 use Rattle.std.specs.Str.{bytes_eq}
 use Rattle.std.specs.Cmp.Lexicographic.{pointwise}
-use Rattle.pipe_frame.specs.Schema.{has_name, names_of}
-use Rattle.pipe_frame.specs.declared.field.Field.{Field}
+use Rattle.pipe_schema.specs.Schema.{has_name, names_of}
+use Rattle.pipe_schema.specs.declared.field.Field.{Field}
 use Rattle.pipe_expr.specs.Formula.{Formula, NamedFormula}
 use Rattle.pipe_expr.specs.Projections.{expr_named}
 use Rattle.pipe_expr.specs.Joins.{column_names}
@@ -56,7 +56,7 @@ name_before None names = None
 name_before (Some name) None = None
 name_before (Some name) (Some names) = Some (name ∷ names)
 
--- the same of some columns, where each is plain below
+-- the columns below some columns, where each is plain there
 abbrev pub columns_below : List Field → Node → List (List ℕ) → Option (List (List ℕ))
 columns_below input x [] = Some []
 columns_below input x (name ∷ names) =

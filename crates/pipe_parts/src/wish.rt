@@ -1,6 +1,6 @@
 //! How rows are to lie in parts.
 
-use pipe_frame::{List, Text, TryClone};
+use pipe_schema::{List, Text, TryClone};
 use std::alloc::AllocError;
 
 /// How the rows of a node are wished to lie in parts.
@@ -8,8 +8,8 @@ use std::alloc::AllocError;
 pub enum Wish {
     /// Each row lies in one part, in any way.
     Split,
-    /// The same, and rows with the same values in these columns (null is the same as null) lie in one part, which is
-    /// the same for all rows that are cut by one key. A key has the number of the join that asks for it.
+    /// Each row lies in one part, and rows with equal values in these columns (null equals null) in one and the same,
+    /// for all rows that are cut by one key. A key has the number of the join that asks for it.
     Key { key: u32, columns: List<Text> },
     /// Each part has all rows.
     Whole,

@@ -1,7 +1,7 @@
 -- A flush that went a part of its way.
 use Rattle.std.proofs.Common.{◌≡◌, ℕ, ◌<◌, List, ◌∷◌, sym, ◌∙◌, subst}
 use Rattle.std.specs.List.{All}
-use Rattle.pipe_frame.specs.declared.field.Field.{Field}
+use Rattle.pipe_schema.specs.declared.field.Field.{Field}
 use Rattle.pipe_ops.specs.declared.sink.Sink.{Ghosts as SinkWords}
 use Rattle.pipe_words.specs.Flags.{SeatMarks}
 use Rattle.pipe_run.specs.declared.lane.Lane.{Lane}

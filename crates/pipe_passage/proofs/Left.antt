@@ -3,8 +3,8 @@ use Rattle.std.proofs.Common.{◌≡◌, ℕ, zero, suc, ◌+◌, ◌<◌, ◌�
 use Rattle.std.specs.List.{All, AllByRecursion, flat_map}
 use Rattle.std.proofs.lemmas.List.Concat.{flat_map-append}
 use Rattle.std.proofs.lemmas.List.Elements.{All-append}
-use Rattle.pipe_frame.specs.Rows.{Row}
-use Rattle.pipe_frame.specs.declared.field.Field.{Field}
+use Rattle.pipe_schema.specs.Rows.{Row}
+use Rattle.pipe_schema.specs.declared.field.Field.{Field}
 use Rattle.pipe_ops.specs.declared.sink.Sink.{Ghosts as SinkWords}
 use Rattle.pipe_table.specs.declared.spec.JoinSpec.{JoinSpec}
 use Rattle.pipe_words.specs.Flags.{SeatMarks, IsSeatOf}
@@ -25,7 +25,7 @@ use Rattle.pipe_run.specs.Lanes.{lane_operators, lane_works, lane_acts, lane_cou
 use Rattle.pipe_run.specs.Flushes.{HasStage}
 use Rattle.pipe_run.specs.Stages.{operators_of, nodes_of, counts}
 use Rattle.pipe_slots.specs.CallBackWords.{KeepsNothing}
-use Rattle.pipe_takings.specs.Notes.{HasNothing}
+use Rattle.pipe_run.specs.Notes.{HasNothing}
 use Rattle.pipe_passage.specs.Passages.{phys_words, schemas_of, GivesSchemas, acts_now, IsPassing, noted, HasLeft}
 use Rattle.pipe_slots.specs.PhysWords.{output_of, suits_of, seated_of, work_of, acts_of, idle_of}
 use Rattle.pipe_passage.specs.LaneSeats.{seats_in, first_seats, front_seats, LaneOff, LanesOff, sum_of, SameActs, AllSameActs, LaneLeft, LanesLeft, StageLeft, AreRest, IsRest, AllRest}

@@ -1,7 +1,7 @@
 -- Lanes that were opened, with the seats that they took.
 use Rattle.std.proofs.Common.{◌≡◌, ℕ, zero, suc, ◌+◌, ◌<◌, ◌≤◌, List, [], ◌∷◌, ◌++◌, length, get_or, Option, Some, None, map, refl, ap, sym, ◌∙◌, subst, arith, append_assoc, length-append}
 use Rattle.std.specs.List.{All, AllByRecursion, flat_map}
-use Rattle.pipe_frame.specs.declared.field.Field.{Field}
+use Rattle.pipe_schema.specs.declared.field.Field.{Field}
 use Rattle.pipe_ops.specs.declared.sink.Sink.{Ghosts as SinkWords}
 use Rattle.pipe_words.specs.Flags.{SeatMarks}
 use Rattle.pipe_chain.specs.Chain.{works_of, acts_of as acts_list, IsChain, AllServe}
@@ -17,7 +17,7 @@ use Rattle.pipe_run.specs.Lanes.{lane_operators, lane_works, lane_acts, lane_cou
 use Rattle.pipe_run.specs.Opens.{IsSplit}
 use Rattle.pipe_run.specs.Stages.{operators_of, nodes_of, counts}
 use Rattle.pipe_passage.specs.Passages.{phys_words, schemas_of, GivesSchemas, acts_now, IsPassing, HasOpened}
-use Rattle.pipe_takings.specs.Notes.{HasNothing}
+use Rattle.pipe_run.specs.Notes.{HasNothing}
 use Rattle.pipe_slots.specs.PhysWords.{output_of, work_of, acts_of, idle_of}
 use Rattle.pipe_passage.specs.LaneSeats.{HaveMore, HasMore, HaveSeats, HasSeats, all_back, sum_of, AllSameActs, AllRest, AreOpen, StagesOpened, LaneOpened, LanesOpened}
 use Rattle.pipe_slots.specs.declared.phys_operator.PhysOperator.{PhysOperator}

@@ -5,7 +5,7 @@ use Rattle.std.proofs.Common.{Bool, true, false, List, [], ◌∷◌}
 use base.Fml.{ftrue}
 use base.Shift.{Keyless}
 use denote.Builtin.{RawPtr, u32, usize}
-use Rattle.pipe_frame.specs.contracts.list.List as Numbers
+use Rattle.pipe_schema.specs.contracts.list.List as Numbers
 use denote.RawPtr.{Ptr, block_ptr, null_ptr, block_of, count_of, in_block, ◌+ₚ◌}
 use denote.Param.Send.{Common, Frees, part_keyless, enum_sync, sendable}
 use denote.Struct.Lending.{lent_at}
@@ -39,11 +39,11 @@ use Rattle.pipe_expr.specs.contracts.expr.NamedExpr as named
 use Rattle.pipe_expr.specs.contracts.physical.PhysicalExpr as physical
 use Rattle.pipe_expr.specs.contracts.physical.PhysicalExpr.TheInside as inside
 use Rattle.pipe_expr.proofs.expr.Expr.TheLaws.TheKnot as knot
-use Rattle.pipe_frame.proofs.schema.Schema.TheSendSync as schema
+use Rattle.pipe_schema.proofs.schema.Schema.TheSendSync as schema
 use Rattle.pipe_expr.proofs.join_words.JoinType.TheSendSync as kind
 use Rattle.pipe_frame.proofs.data_frame.DataFrame.TheSendSync as frame
-use Rattle.pipe_frame.proofs.list.List.TheSendSync as list
-use Rattle.pipe_frame.proofs.text.Text.TheSendSync as text
+use Rattle.pipe_schema.proofs.list.List.TheSendSync as list
+use Rattle.pipe_schema.proofs.text.Text.TheSendSync as text
 use Rattle.pipe_frame.specs.contracts.data_frame.DataFrame as Frame
 use Rattle.pipe_index.proofs.numbered_keys.NumberedKeys.TheSendSync as keys
 use Rattle.pipe_index.specs.declared.hashes_keys.HashesKeys.{Ghosts}
@@ -53,7 +53,7 @@ use Rattle.pipe_table.specs.contracts.spec.JoinSpec as spec
 use Rattle.pipe_table.specs.contracts.table.JoinTable as table
 use Rattle.pipe_table.specs.contracts.table.JoinTable.TheInside as table_inside
 use Rattle.std.specs.contracts.option.Option as Option
-use Rattle.pipe_frame.specs.contracts.text.Text as Text
+use Rattle.pipe_schema.specs.contracts.text.Text as Text
 use Rattle.std.proofs.marker.PhantomData.TheSendSync as phantom
 use Rattle.pipe_probe.proofs.begun.Begun.TheSendSync as begun
 use Rattle.pipe_probe.specs.contracts.begun.Begun as Begun
@@ -75,8 +75,8 @@ use Rattle.pipe_outer.specs.contracts.full_probe.GenericFullOuterJoinProbe as fu
 use Rattle.pipe_outer.specs.contracts.full_probe.GenericFullOuterJoinProbe.TheInside as full_probe_inside
 use Rattle.pipe_outer.specs.contracts.mark_probe.GenericMarkProbe as mark_probe
 use Rattle.pipe_outer.specs.contracts.mark_probe.GenericMarkProbe.TheInside as mark_probe_inside
-use Rattle.pipe_frame.proofs.data_type.DataType.TheSendSync as dtype
-use Rattle.pipe_frame.proofs.any_value.AnyValue.TheSendSync as any
+use Rattle.pipe_schema.proofs.data_type.DataType.TheSendSync as dtype
+use Rattle.pipe_schema.proofs.any_value.AnyValue.TheSendSync as any
 
 pub expr-send : IsSend (expr.the_field).row
 expr-send = knot.send-Expr text.the_send dtype.the_field_send any.the_field_send (λ h s. box.the_send h Global.the_row heap.ghosts s global.the_send frees.the_frees)

@@ -1,8 +1,8 @@
 -- The last leg leaves its first stage: what a flush wants, and what it leaves.
 use Rattle.std.proofs.Common.{◌≡◌, ℕ, zero, suc, ◌+◌, ◌<◌, ◌≤◌, List, [], ◌∷◌, ◌++◌, length, get_or, drop, Option, Some, None, map, true, refl, ap, sym, ◌∙◌, subst, arith}
 use Rattle.std.specs.List.{All, AllByRecursion, flat_map, range_with_len}
-use Rattle.pipe_frame.specs.Rows.{Row}
-use Rattle.pipe_frame.specs.declared.field.Field.{Field}
+use Rattle.pipe_schema.specs.Rows.{Row}
+use Rattle.pipe_schema.specs.declared.field.Field.{Field}
 use Rattle.pipe_ops.specs.declared.sink.Sink.{Ghosts as SinkWords}
 use Rattle.pipe_table.specs.declared.spec.JoinSpec.{JoinSpec}
 use Rattle.pipe_words.specs.Flags.{SeatMarks}
@@ -25,10 +25,10 @@ use Rattle.pipe_run.proofs.Limits.{went-none}
 use Rattle.pipe_run.proofs.RoundSteps.{same-lanes-refl, lanes-acts-length, counts-in-length}
 use Rattle.pipe_slots.specs.CallBackWords.{KeepsNothing}
 use Rattle.pipe_slots.specs.JoinWords.{parts_by, parts_in, part_in}
-use Rattle.pipe_takings.specs.declared.note.Note.{Note}
-use Rattle.pipe_takings.specs.Notes.{HasNothing, entries_of_parts}
-use Rattle.pipe_takings.specs.Noted.{IsNotedSince}
-use Rattle.pipe_takings.proofs.GoingOn.{none_noted}
+use Rattle.pipe_run.specs.declared.note.Note.{Note}
+use Rattle.pipe_run.specs.Notes.{HasNothing, entries_of_parts}
+use Rattle.pipe_run.specs.Noted.{IsNotedSince}
+use Rattle.pipe_run.proofs.GoingOn.{none_noted}
 use Rattle.pipe_passage.specs.Passages.{phys_words, IsPassing, HasLeft, HasSettled, HasFewParts, GivesSchemas}
 use Rattle.pipe_slots.specs.PhysWords.{output_of, flushed_of, suits_of, seated_of, closed_of, idle_of}
 use Rattle.pipe_passage.specs.LaneSeats.{stage_with, LaneLeft, LanesLeft, StageLeft, AreRest, IsRest}

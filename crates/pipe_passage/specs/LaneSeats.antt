@@ -1,6 +1,6 @@
 -- Seats at the flags of joins: those that lanes hold, and those that none does.
 use Rattle.std.specs.Prelude.{◌≡◌, ℕ, ◌+◌, ◌<◌, ◌≤◌, List, [], ◌∷◌, ◌++◌, All, Bool, true, false, Option, Some, None, length, map}
-use Rattle.pipe_frame.specs.declared.field.Field.{Field}
+use Rattle.pipe_schema.specs.declared.field.Field.{Field}
 use Rattle.pipe_ops.specs.declared.sink.Sink.{Ghosts as SinkWords}
 use Rattle.pipe_words.specs.Flags.{SeatMarks, IsSeatOf, all_marked, all_won}
 use Rattle.pipe_chain.specs.Flow.{Acts}

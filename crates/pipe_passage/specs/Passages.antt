@@ -1,7 +1,7 @@
 -- A leg that runs: its lanes, with what the stages that it hasn't left read.
 use Rattle.std.specs.Prelude.{◌≡◌, ℕ, ◌<◌, ◌≤◌, List, [], ◌∷◌, All, length, map}
 use Rattle.std.specs.List.{AllByRecursion, flat_map}
-use Rattle.pipe_frame.specs.declared.field.Field.{Field}
+use Rattle.pipe_schema.specs.declared.field.Field.{Field}
 use Rattle.pipe_ops.specs.declared.sink.Sink.{Ghosts as SinkWords}
 use Rattle.pipe_words.specs.Flags.{SeatMarks}
 use Rattle.pipe_chain.specs.Chain.{works_of, IsChain}
@@ -16,9 +16,9 @@ use Rattle.pipe_run.specs.Dealt.{AreAlike, DoTheSame, WentAll, works_in, nodes_i
 use Rattle.pipe_run.specs.Flushes.{rows_of_parts}
 use Rattle.pipe_run.specs.Lanes.{lane_operators, held_in, IsCalm, IsFit, IsSet}
 use Rattle.pipe_run.specs.Stages.{operators_of, nodes_of}
-use Rattle.pipe_takings.specs.declared.note.Note.{Note}
-use Rattle.pipe_takings.specs.Notes.{HasNothing, entries_of_parts}
-use Rattle.pipe_takings.specs.Noted.{IsNotedSince}
+use Rattle.pipe_run.specs.declared.note.Note.{Note}
+use Rattle.pipe_run.specs.Notes.{HasNothing, entries_of_parts}
+use Rattle.pipe_run.specs.Noted.{IsNotedSince}
 use Rattle.pipe_slots.specs.JoinWords.{parts_in, part_in}
 use Rattle.pipe_slots.specs.PhysWords.{takes_of, output_of, flushed_of, text_of, suits_of, seated_of, closed_of, work_of, acts_of, rest_of, ready_of, idle_of, answers_of, is_flushing_of, flush_owed}
 use Rattle.pipe_passage.specs.LaneSeats.{sum_of, AllSameActs, AllRest, IsRest}

@@ -1,6 +1,6 @@
 -- Lanes of a leg on whose way something was refused, and what is known of their joins' keys where a run ends.
 use Rattle.std.specs.Prelude.{◌≡◌, ℕ, ◌<◌, List, [], ◌∷◌, All, true, Option, length, map}
-use Rattle.pipe_frame.specs.declared.field.Field.{Field}
+use Rattle.pipe_schema.specs.declared.field.Field.{Field}
 use Rattle.pipe_ops.specs.declared.sink.Sink.{Ghosts as SinkWords}
 use Rattle.pipe_table.specs.Table.{TableRows, table_keys}
 use Rattle.pipe_words.specs.Flags.{SeatMarks, is_marked, winners}

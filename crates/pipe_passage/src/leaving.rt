@@ -2,17 +2,17 @@
 
 ghost use Rattle.std.specs.Prelude.{◌≡◌, ℕ, ◌<◌, ◌∷◌, ◌++◌, List as Items, length, IfOk, OnOk};
 ghost use Rattle.std.specs.List.{AllByRecursion, flat_map};
-ghost use Rattle.pipe_frame.specs.declared.field.Field.{Field};
+ghost use Rattle.pipe_schema.specs.declared.field.Field.{Field};
 ghost use Rattle.pipe_run.specs.Flushes.{HasStage};
 ghost use Rattle.pipe_passage.specs.Passages.{IsPassing, HasLeft};
 ghost use Rattle.pipe_passage.specs.LaneSeats.{seats_in, front_seats, LaneOff, LanesOff, StageLeft};
 
 use crate::passage::Passage;
-use pipe_frame::List;
 use pipe_index::HashesKeys;
 use pipe_ops::Sink;
 use pipe_rows::KeyHasher;
 use pipe_run::Lane;
+use pipe_schema::List;
 use pipe_slots::{PhysOperator, Slot};
 use pipe_words::FlagSeat;
 use std::alloc::AllocError;

@@ -12,11 +12,11 @@ ghost use Rattle.pipe_passage.specs.LaneSeats.{has_flags, OperatorOpened, StageO
 
 use crate::passage::Passage;
 use pipe_chain::Operator;
-use pipe_frame::List;
 use pipe_index::HashesKeys;
 use pipe_ops::Sink;
 use pipe_rows::KeyHasher;
 use pipe_run::{Basin, Lane, Stage};
+use pipe_schema::List;
 use pipe_slots::{CallBack, PhysOperator, PlaceHolder, Slot};
 use pipe_words::FlagSeat;
 use std::alloc::{AllocError, Global};

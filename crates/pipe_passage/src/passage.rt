@@ -1,8 +1,8 @@
 //! A leg that runs.
 
-use pipe_frame::List;
 use pipe_index::HashesKeys;
 use pipe_run::Lane;
+use pipe_schema::List;
 use pipe_slots::{PhysOperator, Slot};
 use pipe_words::FlagSeat;
 use std::collections::VecDeque;

@@ -2,19 +2,18 @@
 
 ghost use Rattle.std.specs.Prelude.{◌≡◌, ℕ, ◌<◌, List, length, IfOk, IfErr};
 ghost use Rattle.std.specs.List.{AllByRecursion};
-ghost use Rattle.pipe_frame.specs.declared.field.Field.{Field};
+ghost use Rattle.pipe_schema.specs.declared.field.Field.{Field};
 ghost use Rattle.pipe_run.specs.Flushes.{HasStage};
 ghost use Rattle.pipe_passage.specs.Passages.{IsPassing, IsUnderWay, HasSettled, HasFewParts};
 ghost use Rattle.pipe_passage.specs.Stopped.{BreaksOff};
 
 use crate::leaving::leave_stage;
 use crate::passage::Passage;
-use pipe_frame::Gate;
 use pipe_index::HashesKeys;
 use pipe_ops::{PExecutionContext, Sink};
 use pipe_rows::KeyHasher;
-use pipe_run::Refusal;
-use pipe_takings::{Note, noted_flush};
+use pipe_run::{Note, Refusal, noted_flush};
+use pipe_schema::Gate;
 use std::alloc::Global;
 use std::thread::Threads;
 

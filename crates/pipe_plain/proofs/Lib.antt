@@ -1,4 +1,3 @@
-pub mod KeyNames
 pub mod Walks
 pub mod FrameRows
 pub mod Ranges

@@ -1,6 +1,6 @@
 -- The errors of a node that tell no name, but for BadNode.
 use Rattle.std.specs.Prelude.{ℕ, List, Option}
-use Rattle.pipe_frame.specs.declared.field.Field.{Field}
+use Rattle.pipe_schema.specs.declared.field.Field.{Field}
 use Rattle.pipe_plan.specs.Node.{Node}
 use Rattle.pipe_plan.specs.Faults.{told, or_else, is_mistyped, is_bad_join, is_bad_sort}
 use Rattle.pipe_plan.specs.declared.error.PipeError.{PipeError}

@@ -7,11 +7,11 @@ ghost use Rattle.pipe_expr.specs.Joins.{column_names};
 ghost use Rattle.pipe_plan.specs.Node.{node_of};
 ghost use Rattle.pipe_plan.specs.Faults.{is_column, are_plain, bad_counts, is_bad_join};
 
-use crate::join_columns::is_coalesced;
 use crate::names::is_name_repeated;
 use pipe_expr::{Expr, JoinType};
-use pipe_frame::{List, Text, TryClone};
+use pipe_pairs::is_coalesced;
 use pipe_plan::{IR, JoinOptions};
+use pipe_schema::{List, Text, TryClone};
 use std::alloc::{AllocError, Global};
 
 /// Whether an expression is a plain column.

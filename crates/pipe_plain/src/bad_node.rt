@@ -12,8 +12,9 @@ ghost use Rattle.pipe_plan.specs.Faults.{is_void_function as is_function_void};
 
 use crate::under::{inputs, is_below};
 use pipe_expr::FunctionIR;
-use pipe_frame::{DataFrame, List, Text};
+use pipe_frame::DataFrame;
 use pipe_plan::{Arena, IR};
+use pipe_schema::{List, Text};
 use std::alloc::{AllocError, Global};
 
 /// Whether a number is among some.

@@ -6,8 +6,8 @@ ghost use Rattle.pipe_plan.specs.Faults.{is_empty, repeats_name, are_flags, is_n
 
 use crate::bad_node::is_none_there;
 use crate::names::is_name_repeated;
-use pipe_frame::{List, Text};
 use pipe_plan::{IR, PlanSlice, SortOptions};
+use pipe_schema::{List, Text};
 use std::alloc::AllocError;
 
 /// Whether there is one flag, or one per key.

@@ -19,8 +19,8 @@ use crate::mismatch::is_node_mistyped;
 use crate::names::{duplicate, unknown};
 use crate::node_schemas::fields_of_node;
 use crate::under::is_below;
-use pipe_frame::{Field, List};
 use pipe_plan::{Arena, IR, PipeError};
+use pipe_schema::{Field, List};
 use std::alloc::{AllocError, Global};
 
 /// The least error at a node of those that tell no name, but for `BadNode`.

@@ -3,7 +3,7 @@
 ghost use Rattle.std.specs.Prelude.{◌≡◌, [], map, not};
 ghost use Rattle.std.specs.List.{list_any};
 ghost use Rattle.std.specs.Cmp.Lexicographic.{pointwise};
-ghost use Rattle.pipe_frame.specs.Cell.{eq_dtype};
+ghost use Rattle.pipe_schema.specs.Cell.{eq_dtype};
 ghost use Rattle.pipe_expr.specs.Formula.{formula_of, named_formula_of};
 ghost use Rattle.pipe_plan.specs.Node.{node_of};
 ghost use Rattle.pipe_plan.specs.Faults.{has_no_type, is_named_untyped, eq_types, keys_differ, keys_mistyped, eq_field, inputs_differ, on_differ, is_mistyped_function, is_mistyped};
@@ -12,8 +12,8 @@ ghost use Rattle.pipe_plain.specs.Tables.{at_place};
 
 use crate::node_schemas::fields_at;
 use pipe_expr::{Expr, FunctionIR, NamedExpr, column_type, expr_type};
-use pipe_frame::{DataType, Field, List, Text};
 use pipe_plan::IR;
+use pipe_schema::{DataType, Field, List, Text};
 
 /// Whether two types are the same.
 fn is_same_type(a: DataType, b: DataType) -> bool

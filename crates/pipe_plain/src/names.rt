@@ -3,10 +3,9 @@
 ghost use Rattle.std.specs.Prelude.{◌≡◌, ◌++◌, [], ◌∷◌, map, IfOk, OnOk};
 ghost use Rattle.std.specs.List.{flat_map};
 ghost use Rattle.std.specs.Option.{option_copied};
-ghost use Rattle.pipe_frame.specs.Schema.{has_name, names_of, first_repeated};
+ghost use Rattle.pipe_schema.specs.Schema.{has_name, names_of, first_repeated, first_unknown as unknown_among};
 ghost use Rattle.pipe_expr.specs.Formula.{formula_of, named_formula_of};
 ghost use Rattle.pipe_expr.specs.Types.{columns_in};
-ghost use Rattle.pipe_frame.specs.Schema.{first_unknown as unknown_among};
 ghost use Rattle.pipe_expr.specs.Projections.{expr_name};
 ghost use Rattle.pipe_plan.specs.Node.{node_of};
 ghost use Rattle.pipe_plan.specs.Schemas.{frame_at, node_schema};
@@ -14,10 +13,11 @@ ghost use Rattle.pipe_plan.specs.Faults.{or_else, expr_columns, existing_of, fun
 ghost use Rattle.pipe_plain.specs.Tables.{at_place};
 
 use crate::node_schemas::{fields_at, fields_of_node, frame_fields};
-use crate::projections::is_named;
 use pipe_expr::{Expr, FunctionIR, NamedExpr, RenamePair};
-use pipe_frame::{DataFrame, Field, List, Text, TryClone};
+use pipe_frame::DataFrame;
+use pipe_pairs::is_named;
 use pipe_plan::IR;
+use pipe_schema::{Field, List, Text, TryClone};
 use std::alloc::{AllocError, Global};
 
 // ---- names that are read

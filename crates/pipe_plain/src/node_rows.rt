@@ -12,13 +12,14 @@ ghost use Rattle.pipe_plan.specs.PlanRows.{scan_rows, sort_keys, slice_rows, nod
 ghost use Rattle.pipe_plan.specs.PlanRows.{rows_of as rows_of_plan};
 ghost use Rattle.pipe_plain.specs.Tables.{table, at_place};
 
-use crate::joins::joined_rows;
 use crate::node_schemas::{fields_at, fields_of_node, frame_fields, sides_over};
 use crate::projections::{filtered, named_row, rows_of_function, selected_row, stacked_row};
 use crate::sorting::{copied_rows, kept_slice, sorted_rows};
 use pipe_expr::NamedExpr;
-use pipe_frame::{DataFrame, Field, List, Row, Text, TryClone};
+use pipe_frame::{DataFrame, Row};
+use pipe_pairs::joined_rows;
 use pipe_plan::{Arena, IR, SortOptions};
+use pipe_schema::{Field, List, Text, TryClone};
 use std::alloc::{AllocError, Global};
 
 /// The rows of a node, none where the node isn't there yet.

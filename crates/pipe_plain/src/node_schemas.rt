@@ -5,15 +5,15 @@ ghost use Rattle.pipe_expr.specs.Formula.{formula_of};
 ghost use Rattle.pipe_plan.specs.Node.{node_of};
 ghost use Rattle.pipe_plan.specs.Plan.{plan_of};
 ghost use Rattle.pipe_plan.specs.Schemas.{frame_at, scan_fields, union_fields, join_over, node_schema, schema_at, schema_of};
-ghost use Rattle.pipe_plain.specs.Sides.{join_of};
+ghost use Rattle.pipe_pairs.specs.Sides.{join_of};
 ghost use Rattle.pipe_plain.specs.Tables.{table, at_place};
 
-use crate::join_columns::{copied_fields, joined_fields};
 use crate::projections::{fields_of_function, named_fields, selected_fields, stacked_fields};
-use crate::sides::Sides;
 use pipe_expr::Expr;
-use pipe_frame::{DataFrame, Field, List, Text};
+use pipe_frame::DataFrame;
+use pipe_pairs::{Sides, copied_fields, joined_fields};
 use pipe_plan::{Arena, IR, JoinOptions};
+use pipe_schema::{Field, List, Text};
 use std::alloc::{AllocError, Global};
 
 /// The schema of a node, none of it where the node isn't there yet.

@@ -6,8 +6,8 @@ ghost use Rattle.pipe_plan.specs.Node.{node_of};
 ghost use Rattle.pipe_plan.specs.Under.{inputs_of, reaches_at, is_under};
 ghost use Rattle.pipe_plain.specs.Tables.{table, at_place};
 
-use pipe_frame::{List, TryClone};
 use pipe_plan::IR;
+use pipe_schema::{List, TryClone};
 use std::alloc::{AllocError, Global};
 
 /// A list of one input.

@@ -1,7 +1,7 @@
 -- The output schema of a node, by the kind of node, over those of its inputs (relational algebra).
 use Rattle.std.specs.Prelude.{ℕ, List, [], ◌∷◌, Option, Some, None, length, slice_index_or}
 use Rattle.pipe_frame.specs.Frame.{Table}
-use Rattle.pipe_frame.specs.declared.field.Field.{Field}
+use Rattle.pipe_schema.specs.declared.field.Field.{Field}
 use Rattle.pipe_expr.specs.Formula.{Formula}
 use Rattle.pipe_expr.specs.Projections.{fields_named, select_fields, hstack_fields, function_fields}
 use Rattle.pipe_expr.specs.Joins.{Join, coalesces, join_fields}

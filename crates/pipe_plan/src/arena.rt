@@ -1,7 +1,8 @@
 //! The nodes of a plan and the frames that they scan.
 
 use crate::ir::IR;
-use pipe_frame::{DataFrame, List};
+use pipe_frame::DataFrame;
+use pipe_schema::List;
 
 /// Nodes, numbered from 0, and frames, numbered from 0.
 #[derive(Debug)]

@@ -1,6 +1,6 @@
 //! Why a plan isn't run to its end.
 
-use pipe_frame::Text;
+use pipe_schema::Text;
 use std::alloc::AllocError;
 use thiserror::Error;
 

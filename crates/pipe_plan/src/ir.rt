@@ -1,7 +1,7 @@
 //! The nodes of a plan.
 
 use pipe_expr::{Expr, FunctionIR, JoinCoalesce, JoinType, NamedExpr};
-use pipe_frame::{List, Text};
+use pipe_schema::{List, Text};
 
 /// A node of a plan. Its inputs are numbers of nodes.
 #[derive(Debug, Drop)]

@@ -8,7 +8,7 @@ ghost use Rattle.pipe_plan.specs.Node.{node_of};
 
 use crate::ir::{IR, JoinOptions, SortOptions};
 use pipe_expr::{copy_exprs, copy_named_exprs};
-use pipe_frame::{List, Text, TryClone};
+use pipe_schema::{List, Text, TryClone};
 use std::alloc::{AllocError, Global};
 
 impl TryClone for JoinOptions {

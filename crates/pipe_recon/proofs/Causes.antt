@@ -7,10 +7,10 @@ use Rattle.pipe_driver.specs.Within.{AllWithin}
 use Rattle.pipe_exec.specs.Evaluated.{stop_of, stops}
 use Rattle.pipe_exec.specs.Evaluated as plans
 use Rattle.pipe_exec.specs.Runs.{IsMemory, Stays}
-use Rattle.pipe_frame.specs.Counts.{Counts}
+use Rattle.pipe_schema.specs.Counts.{Counts}
 use Rattle.pipe_frame.specs.Frame.{Table, select_fault}
-use Rattle.pipe_frame.specs.Rows.{Row, Same}
-use Rattle.pipe_frame.specs.declared.field.Field.{Field}
+use Rattle.pipe_schema.specs.Rows.{Row, Same}
+use Rattle.pipe_schema.specs.declared.field.Field.{Field}
 use Rattle.pipe_plan.specs.Config.{IsConfig}
 use Rattle.pipe_plan.specs.Faults.{or_else, told, told_name}
 use Rattle.pipe_plan.specs.PlanRows.{rows_of}

@@ -4,14 +4,15 @@ use Rattle.std.specs.List.{position, position_from}
 use Rattle.std.proofs.lemmas.Iterator.Adapters.{position_from-zero}
 use Rattle.std.proofs.lemmas.List.{get_or-map, get_or_default, length-map}
 use Rattle.std.proofs.lemmas.List.FromFn.{get_or-map-range_with_len}
-use Rattle.pipe_frame.specs.Frame.{AllOfHeight, Table, cell_in, column_rows, columns_from, columns_of, row_at}
-use Rattle.pipe_frame.specs.declared.data_type.DataType.TheVariants as dtype
-use Rattle.pipe_frame.specs.declared.field.Field.{Field}
-use Rattle.pipe_frame.specs.Cell.{uint32_cell}
-use Rattle.pipe_frame.specs.Rows.{Row, Same}
-use Rattle.pipe_frame.specs.Series.{Cells, cell_at}
-use Rattle.pipe_frame.specs.declared.any_value.AnyValue.{AnyValue}
-use Rattle.pipe_frame.specs.declared.any_value.AnyValue.TheVariants as cell
+use Rattle.pipe_column.specs.Columns.{AllOfHeight, cell_in, column_rows, row_at}
+use Rattle.pipe_frame.specs.Frame.{Table, columns_from, columns_of}
+use Rattle.pipe_schema.specs.declared.data_type.DataType.TheVariants as dtype
+use Rattle.pipe_schema.specs.declared.field.Field.{Field}
+use Rattle.pipe_schema.specs.Cell.{uint32_cell}
+use Rattle.pipe_schema.specs.Rows.{Row, Same}
+use Rattle.pipe_column.specs.Series.{Cells, cell_at}
+use Rattle.pipe_schema.specs.declared.any_value.AnyValue.{AnyValue}
+use Rattle.pipe_schema.specs.declared.any_value.AnyValue.TheVariants as cell
 use Rattle.pipe_expr.specs.Joins.{join_rows}
 use Rattle.pipe_recon.specs.Codes.{Code, partner_among, same_code}
 use Rattle.pipe_recon.specs.JoinPlan.{code_at, join_fields, left_table, right_table}

@@ -6,7 +6,7 @@ use Rattle.pipe_driver.specs.Within.{AllWithin}
 use Rattle.pipe_exec.specs.Evaluated.{stop_of, stops}
 use Rattle.pipe_exec.specs.Evaluated as plans
 use Rattle.pipe_exec.specs.Runs.{IsMemory, Stays}
-use Rattle.pipe_frame.specs.Counts.{Counts}
+use Rattle.pipe_schema.specs.Counts.{Counts}
 use Rattle.pipe_frame.specs.Frame.{Table}
 use Rattle.pipe_plan.specs.Config.{IsConfig}
 use Rattle.pipe_plan.specs.Faults.{or_else, told, told_name}

@@ -5,14 +5,14 @@ use Rattle.std.specs.List.{flat_map, list_any, range_with_len}
 use Rattle.std.specs.Str.{bytes_eq}
 use Rattle.std.proofs.lemmas.Bool.{eq-eqb, eqb-true}
 use Rattle.std.proofs.lemmas.List.FromFn.{fill_by_all}
-use Rattle.pipe_frame.specs.Cell.{binary_cell}
-use Rattle.pipe_frame.specs.Rows.{Row, Same}
-use Rattle.pipe_frame.specs.Series.{cell_at}
-use Rattle.pipe_frame.specs.declared.any_value.AnyValue.{AnyValue}
-use Rattle.pipe_frame.specs.declared.any_value.AnyValue.TheVariants as cell
+use Rattle.pipe_schema.specs.Cell.{binary_cell}
+use Rattle.pipe_schema.specs.Rows.{Row, Same}
+use Rattle.pipe_column.specs.Series.{cell_at}
+use Rattle.pipe_schema.specs.declared.any_value.AnyValue.{AnyValue}
+use Rattle.pipe_schema.specs.declared.any_value.AnyValue.TheVariants as cell
 use Rattle.pipe_frame.proofs.Tables.{map_map}
-use Rattle.pipe_frame.specs.Weights.{total}
-use Rattle.pipe_frame.proofs.Weights.{SameBag-from_rows, total-append, total-filter, total-flat_map, total-map}
+use Rattle.pipe_schema.specs.Weights.{total}
+use Rattle.pipe_schema.proofs.Weights.{SameBag-from_rows, total-append, total-filter, total-flat_map, total-map}
 use Rattle.pipe_expr.specs.Formula.{Column}
 use Rattle.pipe_expr.specs.Joins.{Join, has_right_match, join_rows, keys_match, lacks_left_match, lacks_right_match, matches, pad_left, pad_right, padded_left, padded_right, pair, pairs, pairs_of}
 use Rattle.pipe_plan.specs.PlanRows.{rows_of}

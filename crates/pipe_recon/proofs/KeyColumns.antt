@@ -4,11 +4,12 @@ use Rattle.std.specs.Prelude.{All, slice_index_or}
 use Rattle.std.specs.List.{range_with_len}
 use Rattle.std.proofs.lemmas.List.{get_or-map, length-map}
 use Rattle.std.proofs.lemmas.List.FromFn.{get_or-map-range_with_len}
-use Rattle.pipe_frame.specs.Frame.{AllOfHeight, Table, column_of, column_rows, columns_from, columns_of, height_of, row_at, select_fault, selected}
-use Rattle.pipe_frame.specs.Rows.{Row}
-use Rattle.pipe_frame.specs.Series.{Cells}
-use Rattle.pipe_frame.specs.declared.data_type.DataType.{DataType}
-use Rattle.pipe_frame.specs.declared.field.Field.{Field}
+use Rattle.pipe_column.specs.Columns.{AllOfHeight, column_rows, height_of, row_at}
+use Rattle.pipe_frame.specs.Frame.{Table, column_of, columns_from, columns_of, select_fault, selected}
+use Rattle.pipe_schema.specs.Rows.{Row}
+use Rattle.pipe_column.specs.Series.{Cells}
+use Rattle.pipe_schema.specs.declared.data_type.DataType.{DataType}
+use Rattle.pipe_schema.specs.declared.field.Field.{Field}
 use Rattle.pipe_frame.proofs.Tables.{map_map}
 use Rattle.pipe_expr.specs.Projections.{field_named}
 use Rattle.pipe_ops.proofs.NamedFields.{selected_by}

@@ -2,12 +2,12 @@
 use Rattle.std.proofs.Common.{◌≡◌, ℕ, Bool, true, false, cond, List, [], ◌∷◌, Option, Some, None, map, refl, ap, sym, ◌∙◌}
 use Rattle.std.specs.Prelude.{not, ◌||◌, is_none}
 use Rattle.std.proofs.lemmas.Option.{none-some}
-use Rattle.pipe_frame.specs.Cell.{eq_dtype}
+use Rattle.pipe_schema.specs.Cell.{eq_dtype}
 use Rattle.pipe_frame.specs.Frame.{Table, select_fault}
-use Rattle.pipe_frame.specs.Schema.{first_repeated, first_unknown, names_fault}
-use Rattle.pipe_frame.specs.declared.data_type.DataType.{DataType}
-use Rattle.pipe_frame.specs.declared.data_type.DataType.TheVariants as dtype
-use Rattle.pipe_frame.specs.declared.field.Field.{Field}
+use Rattle.pipe_schema.specs.Schema.{first_repeated, first_unknown, names_fault}
+use Rattle.pipe_schema.specs.declared.data_type.DataType.{DataType}
+use Rattle.pipe_schema.specs.declared.data_type.DataType.TheVariants as dtype
+use Rattle.pipe_schema.specs.declared.field.Field.{Field}
 use Rattle.pipe_expr.specs.Projections.{known_type}
 use Rattle.pipe_expr.specs.Types.{type_of_column}
 use Rattle.pipe_plan.specs.Faults.{eq_types, or_else, told, told_name}

@@ -26,3 +26,7 @@ pub mod Running
 pub mod Ending
 -- why there is no reconciliation, and that there is one else
 pub mod Causes
+pub mod Shapes
+pub mod Again
+pub mod OneReconJob
+pub mod Texts

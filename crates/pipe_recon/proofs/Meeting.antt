@@ -4,11 +4,11 @@ use Rattle.std.specs.Prelude.{not, ◌&&◌, ◌||◌, if◌then◌else◌}
 use Rattle.std.specs.List.{list_any}
 use Rattle.std.specs.Str.{bytes_eq}
 use Rattle.std.specs.Cmp.Lexicographic.{bytes_decides}
-use Rattle.pipe_frame.specs.Cell.{is_null_cell}
+use Rattle.pipe_schema.specs.Cell.{is_null_cell}
 use Rattle.pipe_frame.specs.Frame.{Table}
-use Rattle.pipe_frame.specs.Rows.{Row, eq_row}
-use Rattle.pipe_frame.specs.declared.data_type.DataType.{DataType}
-use Rattle.pipe_frame.specs.declared.field.Field.{Field}
+use Rattle.pipe_schema.specs.Rows.{Row, eq_row}
+use Rattle.pipe_schema.specs.declared.data_type.DataType.{DataType}
+use Rattle.pipe_schema.specs.declared.field.Field.{Field}
 use Rattle.pipe_rows.specs.Encoded.{equality_encoded}
 use Rattle.pipe_rows.specs.Equality.{IsRow, equality_row, has_null_cell}
 use Rattle.pipe_rows.proofs.EqualityLaw.{equal_rows, row_apart}

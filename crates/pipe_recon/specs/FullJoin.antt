@@ -4,7 +4,7 @@
 -- left row of the key 2, and the right row of the key 3.
 use Rattle.std.specs.Prelude.{ℕ, zero, suc, ◌<◌, ◌≤◌, List, [], codes, false, length, map}
 use Rattle.pipe_frame.specs.Frame.{Table}
-use Rattle.pipe_frame.specs.Rows.{Row}
+use Rattle.pipe_schema.specs.Rows.{Row}
 use Rattle.pipe_expr.specs.Formula.{Column}
 use Rattle.pipe_expr.specs.Joins.{Join, join_rows}
 use Rattle.pipe_expr.specs.declared.join_words.JoinType.TheVariants as how

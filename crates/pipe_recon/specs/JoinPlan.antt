@@ -7,14 +7,14 @@
 --        null 2                                    null 2 null null
 use Rattle.std.specs.Prelude.{ℕ, List, [], ◌∷◌, codes, false, length, map, None, Some, slice_index_or}
 use Rattle.std.specs.List.{range_with_len}
-use Rattle.pipe_frame.specs.Cell.{binary_cell, uint32_cell}
+use Rattle.pipe_schema.specs.Cell.{binary_cell, uint32_cell}
 use Rattle.pipe_frame.specs.Frame.{Table}
-use Rattle.pipe_frame.specs.Rows.{Row}
-use Rattle.pipe_frame.specs.Series.{Cells, named_cells}
-use Rattle.pipe_frame.specs.declared.any_value.AnyValue.{AnyValue}
-use Rattle.pipe_frame.specs.declared.data_type.DataType.{DataType}
-use Rattle.pipe_frame.specs.declared.data_type.DataType.TheVariants as dtype
-use Rattle.pipe_frame.specs.declared.field.Field.{Field}
+use Rattle.pipe_schema.specs.Rows.{Row}
+use Rattle.pipe_column.specs.Series.{Cells, named_cells}
+use Rattle.pipe_schema.specs.declared.any_value.AnyValue.{AnyValue}
+use Rattle.pipe_schema.specs.declared.data_type.DataType.{DataType}
+use Rattle.pipe_schema.specs.declared.data_type.DataType.TheVariants as dtype
+use Rattle.pipe_schema.specs.declared.field.Field.{Field}
 use Rattle.pipe_expr.specs.Formula.{Column}
 use Rattle.pipe_expr.specs.declared.join_words.JoinCoalesce.TheVariants as coalesce
 use Rattle.pipe_expr.specs.declared.join_words.JoinType.TheVariants as how
@@ -48,7 +48,7 @@ coded_table key row codes = record {
   rows = map (coded_row codes) (range_with_len 0 (length codes));
 }
 
--- the same by its columns
+-- the columns of such a table
 abbrev pub coded_columns : (key row : List ℕ) → List Code → List Cells
 coded_columns key row codes =
     named_cells key dtype.Binary (map binary_cell codes)

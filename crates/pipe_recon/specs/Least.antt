@@ -1,8 +1,8 @@
 -- The least partners among pairs of row numbers, one pass over them.
 use Rattle.std.specs.Prelude.{◌≡◌, ℕ, ◌<◌, ◌≤◌, ◌==◌, List, [], length, slice_index_or, Option, Some, None, if◌then◌else◌, min}
-use Rattle.pipe_frame.specs.Cell.{uint32_cell}
-use Rattle.pipe_frame.specs.Rows.{Row}
-use Rattle.pipe_frame.specs.Series.{cell_at}
+use Rattle.pipe_schema.specs.Cell.{uint32_cell}
+use Rattle.pipe_schema.specs.Rows.{Row}
+use Rattle.pipe_column.specs.Series.{cell_at}
 use Rattle.pipe_recon.specs.declared.recon.Partner.{Partner}
 use Rattle.pipe_recon.specs.declared.recon.Partner.TheVariants.{Matched, Only}
 
@@ -35,7 +35,7 @@ abbrev pub AreLeast : (rows partners : List (Option ℕ)) → (n : ℕ) → List
 AreLeast rows partners n classes =
     (i : ℕ) → i < length classes → IsLeast (Beside rows partners n i) (slice_index_or classes i Only)
 
--- ---- the same by the rows of a table, whose cells at two places are such pairs
+-- ---- least partners by the rows of a table, whose cells at two places are such pairs
 
 -- a row of a table has number i at a place, and number j at another
 pub record BesideIn (rows : List Row) (own other i j : ℕ) : Type 0 where

@@ -13,8 +13,8 @@
 use Rattle.std.specs.Prelude.{ℕ, List, Bool, Option, Some, None, map}
 use Rattle.std.specs.List.{position}
 use Rattle.pipe_frame.specs.Frame.{Table}
-use Rattle.pipe_frame.specs.Rows.{Row}
-use Rattle.pipe_frame.specs.declared.field.Field.{Field}
+use Rattle.pipe_schema.specs.Rows.{Row}
+use Rattle.pipe_schema.specs.declared.field.Field.{Field}
 use Rattle.pipe_expr.specs.Joins.{keys_match}
 use Rattle.pipe_expr.specs.Projections.{row_named}
 use Rattle.pipe_recon.specs.declared.recon.Partner.{Partner}

@@ -5,8 +5,8 @@
 -- v is a text on one side and a number on the other, differs; the names k and k name a column twice.
 use Rattle.std.specs.Prelude.{ℕ, List, [], ◌∷◌, Bool, false, not, ◌||◌, Option, Some, ◌≡◌, ◌⊎◌}
 use Rattle.pipe_frame.specs.Frame.{Table}
-use Rattle.pipe_frame.specs.Schema.{first_unknown}
-use Rattle.pipe_frame.specs.declared.field.Field.{Field}
+use Rattle.pipe_schema.specs.Schema.{first_unknown}
+use Rattle.pipe_schema.specs.declared.field.Field.{Field}
 use Rattle.pipe_expr.specs.Types.{type_of_column}
 use Rattle.pipe_plan.specs.Faults.{eq_types, is_empty, or_else, repeats_name, told, told_name}
 use Rattle.pipe_plan.specs.declared.error.PipeError.{PipeError}

@@ -8,9 +8,11 @@ ghost use Rattle.pipe_plan.specs.Plan.{plan_of};
 ghost use Rattle.pipe_recon.specs.JoinPlan.{hint, join, join_plan, join_root, left_table, options, right_table};
 
 use crate::coded::coded_frame;
+use pipe_column::BinaryColumn;
 use pipe_expr::{Expr, JoinCoalesce, JoinType};
-use pipe_frame::{BinaryColumn, DataFrame, List, Text};
+use pipe_frame::DataFrame;
 use pipe_plan::{Arena, IR, JoinOptions, RowsHint};
+use pipe_schema::{List, Text};
 use std::alloc::{AllocError, Global};
 
 /// A column, as a key.

@@ -11,7 +11,8 @@ ghost use Rattle.pipe_recon.specs.Refusals.{recon_fault};
 use crate::codes::codes_of;
 use crate::recon::{Partner, Recon};
 use crate::recon_spec::ReconSpec;
-use pipe_frame::{BinaryColumn, DataFrame};
+use pipe_column::BinaryColumn;
+use pipe_frame::DataFrame;
 use std::alloc::{AllocError, Global};
 use std::collections::BTreeMap;
 

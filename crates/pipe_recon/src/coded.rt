@@ -2,10 +2,12 @@
 
 ghost use Rattle.std.specs.Prelude.{◌≡◌, ◌≤◌, IfOk, length, map};
 ghost use Rattle.std.specs.List.{range_with_len};
-ghost use Rattle.pipe_frame.specs.Cell.{uint32_cell};
+ghost use Rattle.pipe_schema.specs.Cell.{uint32_cell};
 ghost use Rattle.pipe_recon.specs.JoinPlan.{coded_columns, coded_table, number_cell};
 
-use pipe_frame::{BinaryColumn, Column, DataFrame, Series, Text};
+use pipe_column::{BinaryColumn, Column, Series};
+use pipe_frame::DataFrame;
+use pipe_schema::Text;
 use std::alloc::{AllocError, Global};
 
 /// The numbers of so many rows.

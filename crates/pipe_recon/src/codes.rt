@@ -7,8 +7,10 @@ ghost use Rattle.pipe_rows.specs.Encoded.{encoded_at};
 ghost use Rattle.pipe_recon.specs.Codes.{HasTypedKey, codes_of, encoded_code, encoded_key, key_table};
 
 use crate::recon_spec::ReconSpec;
-use pipe_frame::{BinaryColumn, DataFrame, FrameError, Text};
+use pipe_column::BinaryColumn;
+use pipe_frame::DataFrame;
 use pipe_rows::{RowsEncoded, convert_columns_no_order};
+use pipe_schema::{FrameError, Text};
 use std::alloc::{AllocError, Global};
 
 /// The key columns of a frame.

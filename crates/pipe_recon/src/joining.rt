@@ -5,8 +5,8 @@ ghost use Rattle.pipe_driver.specs.Within.{AllWithin};
 ghost use Rattle.pipe_exec.specs.Evaluated.{EndsWith, stops};
 ghost use Rattle.pipe_exec.specs.Runs.{IsMemory, Stays};
 ghost use Rattle.pipe_exec.specs.Sound.{IsSound};
-ghost use Rattle.pipe_frame.specs.Counts.{Counts, Rises};
-ghost use Rattle.pipe_frame.specs.Rows.{Same};
+ghost use Rattle.pipe_schema.specs.Counts.{Counts, Rises};
+ghost use Rattle.pipe_schema.specs.Rows.{Same};
 ghost use Rattle.pipe_plan.specs.Config.{IsConfig};
 ghost use Rattle.pipe_plan.specs.Plan.{plan_of};
 ghost use Rattle.pipe_plan.specs.PlanRows.{rows_of};
@@ -14,9 +14,11 @@ ghost use Rattle.pipe_plan.specs.Schemas.{schema_of};
 ghost use Rattle.pipe_recon.specs.JoinPlan.{join_fields, join_plan, join_root};
 
 use crate::arena::join_arena;
+use pipe_column::BinaryColumn;
 use pipe_exec::run_plan;
-use pipe_frame::{BinaryColumn, DataFrame, Gate, StopCheck};
+use pipe_frame::DataFrame;
 use pipe_plan::{Arena, PipeConfig, PipeError};
+use pipe_schema::{Gate, StopCheck};
 use std::alloc::Global;
 use std::thread::Threads;
 

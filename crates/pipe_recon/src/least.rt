@@ -4,7 +4,7 @@ ghost use Rattle.std.specs.Prelude.{◌≡◌, ◌<◌, ℕ, IfOk, length, slice
 ghost use Rattle.pipe_recon.specs.Least.{AreLeast, class_after, lesser};
 
 use crate::recon::Partner;
-use pipe_frame::Column;
+use pipe_column::Column;
 use std::alloc::{AllocError, Global};
 
 /// The lesser of a row's partner so far and one more.

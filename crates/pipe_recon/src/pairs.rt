@@ -6,7 +6,9 @@ ghost use Rattle.pipe_recon.specs.Least.{AreLeastIn, AreNumbers};
 
 use crate::least::least_partners;
 use crate::recon::{Partner, Recon};
-use pipe_frame::{Column, DataFrame, List};
+use pipe_column::Column;
+use pipe_frame::DataFrame;
+use pipe_schema::List;
 use std::alloc::{AllocError, Global};
 
 /// Where the numbers of the left rows stand in the join.

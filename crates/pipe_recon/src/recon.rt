@@ -1,6 +1,6 @@
 //! The reconciliation of two tables.
 
-use pipe_frame::List;
+use pipe_schema::List;
 
 /// The class of a row: it has partners on the other side, of which this is the least, or it stands on its side only.
 #[derive(Clone, Copy, Debug, PartialEq, Eq)]

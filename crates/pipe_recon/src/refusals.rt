@@ -6,8 +6,9 @@ ghost use Rattle.pipe_recon.specs.Refusals.{IsTold, has_no_key, is_bad_key, lack
 
 use crate::recon_spec::ReconSpec;
 use pipe_expr::column_type;
-use pipe_frame::{DataFrame, DataType, Field, Schema, Text, TryClone, first_repeated};
+use pipe_frame::DataFrame;
 use pipe_plan::PipeError;
+use pipe_schema::{DataType, Field, Schema, Text, TryClone, first_repeated};
 use std::alloc::{AllocError, Global};
 
 /// The number of the left table.

@@ -3,13 +3,13 @@ use Rattle.std.proofs.Common.{◌≡◌, ℕ, zero, suc, ◌+◌, ◌<◌, ◌�
 use Rattle.std.specs.Prelude.{nat_lt}
 use Rattle.std.proofs.lemmas.Bool.{cases_lt}
 use Rattle.std.proofs.lemmas.Bool.Decides.{Decides-eqb, Decides-ltb}
-use Rattle.pipe_frame.specs.Rows.{Row}
+use Rattle.pipe_schema.specs.Rows.{Row}
 use Rattle.pipe_plain.proofs.Walks.{walk-past}
 use Rattle.pipe_events.specs.Stages.{Stages, flow, flow_at, only}
 use Rattle.pipe_events.specs.Worlds.{World, Load, put, mine, carried, is_sink, emitted}
 use Rattle.pipe_world.specs.Changes.{fills, hands_on}
-use Rattle.pipe_allowed.specs.Carried.{tables_of, gathered}
-use Rattle.pipe_allowed.proofs.CarriedLemmas.{all-gathered}
+use Rattle.pipe_replay.specs.Carried.{tables_of, gathered}
+use Rattle.pipe_replay.proofs.CarriedLemmas.{all-gathered}
 use Rattle.pipe_replay.specs.Sinks.{filled, filled_below}
 
 no-by : (b : Bool) → (b ≡ true → ⊥) → b ≡ false

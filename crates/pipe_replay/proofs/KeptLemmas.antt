@@ -3,11 +3,11 @@ use Rattle.std.proofs.Common.{◌≡◌, ℕ, zero, suc, ◌<◌, Bool, true, fa
 use Rattle.std.specs.Prelude.{set}
 use Rattle.std.proofs.lemmas.Bool.Decides.{Decides-eqb}
 use Rattle.std.proofs.lemmas.List.{length-append, length-set, length-replicate, get_or-set_same, get_or-set_other, take_all, take-append-le}
-use Rattle.pipe_frame.specs.Rows.{Row, eq_row}
+use Rattle.pipe_schema.specs.Rows.{Row, eq_row}
 use Rattle.pipe_events.specs.Stages.{Key, Stage, Stages, Scan, Each, Union, Sort, Joined, marks}
 use Rattle.pipe_events.specs.Worlds.{World, Event, Take, Mark, Emit, Done, Close, Flush, after, at_join, seen, mark_keys, mark_seen, mark_below, emitted, closed_above, side_below, carried, mine, is_sink, source_rows}
 use Rattle.pipe_world.proofs.BlankLists.{at-blank}
-use Rattle.pipe_stages.specs.Staged.{Staging, staged}
+use Rattle.pipe_world.specs.Staged.{Staging, staged}
 use Rattle.pipe_replay.specs.Replayed.{parted}
 use Rattle.pipe_replay.specs.KeptLists.{IsListOf, IsKept, AreKept, BagsGrow, list_at, is_made_of, listed, source_by}
 use Rattle.pipe_replay.specs.declared.lists.SortedList.{SortedList}

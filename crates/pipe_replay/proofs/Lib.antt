@@ -1,3 +1,7 @@
+pub mod Below
+pub mod CarriedLemmas
+pub mod Slices
+pub mod Reaching
 pub mod MarkLemmas
 pub mod FilledLemmas
 pub mod EndLemmas

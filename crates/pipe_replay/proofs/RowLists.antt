@@ -5,7 +5,7 @@ use Rattle.std.proofs.lemmas.List.Elements.{filter-append}
 use Rattle.std.specs.Prelude.{slice_index_or}
 use Rattle.std.specs.List.{range_with_len}
 use Rattle.std.proofs.lemmas.List.FromFn.{map-range_with_len_more}
-use Rattle.pipe_frame.specs.Rows.{Row}
+use Rattle.pipe_schema.specs.Rows.{Row}
 use Rattle.pipe_events.specs.Worlds.{picked}
 
 pub rows-next : (p : Row → Bool) (bag : List Row) (i : ℕ) (row : Row) (before after : List Row) → before ≡ filter p (take i bag) → i < length bag → row ≡ get_or bag i row → after ≡ before ++ filter p (row ∷ []) → after ≡ filter p (take (i + 1) bag)

@@ -4,7 +4,7 @@ use Rattle.std.specs.Prelude.{nat_le}
 use Rattle.std.specs.List.{list_any}
 use Rattle.std.proofs.lemmas.Bool.{cases_lt, le-leb}
 use Rattle.pipe_frame.specs.Frame.{Table}
-use Rattle.pipe_frame.specs.declared.field.Field.{Field}
+use Rattle.pipe_schema.specs.declared.field.Field.{Field}
 use Rattle.pipe_plan.specs.Node.{Node}
 use Rattle.pipe_plan.specs.Node as node
 use Rattle.pipe_plan.specs.Plan.{plan_of}
@@ -18,7 +18,7 @@ use Rattle.pipe_events.specs.Decided.{is_allowed}
 use Rattle.pipe_events.specs.PlanStages.{stage_of}
 use Rattle.pipe_events.proofs.Deciding.{events_decided}
 use Rattle.pipe_events.proofs.Unfaulted.{without_fault}
-use Rattle.pipe_stages.specs.Staged.{Staging, size_in, stage_in, staged}
+use Rattle.pipe_world.specs.Staged.{Staging, size_in, stage_in, staged}
 use Rattle.pipe_replay.specs.Replayed.{AreBelow}
 
 some-is : (a b n : ℕ) → Some a ≡ Some b → a < n → b < n

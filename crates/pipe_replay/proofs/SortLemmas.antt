@@ -3,14 +3,15 @@ use Rattle.std.proofs.Common.{◌≡◌, ℕ, ◌+◌, ◌<◌, List, [], ◌∷
 use Rattle.std.specs.Prelude.{All, IfSome}
 use Rattle.std.proofs.lemmas.List.{get_or-map, drop_more, drop_all, length-map}
 use Rattle.std.proofs.lemmas.List.FromFn.{fill_by_all}
-use Rattle.pipe_frame.specs.Schema.{IsSchema, place_of}
-use Rattle.pipe_frame.specs.Rows.{Row}
-use Rattle.pipe_frame.specs.Series.{Cells, cell_at}
-use Rattle.pipe_frame.specs.Frame.{cell_in, row_at, column_rows, even_rows, height_of, columns_from, cell_of_row, field_of}
-use Rattle.pipe_frame.specs.declared.any_value.AnyValue.TheVariants as cell
-use Rattle.pipe_frame.specs.declared.field.Field.{Field}
+use Rattle.pipe_schema.specs.Schema.{IsSchema, place_of}
+use Rattle.pipe_schema.specs.Rows.{Row}
+use Rattle.pipe_column.specs.Series.{Cells, cell_at}
+use Rattle.pipe_column.specs.Columns.{cell_in, row_at, column_rows, even_rows, height_of, field_of}
+use Rattle.pipe_frame.specs.Frame.{columns_from, cell_of_row}
+use Rattle.pipe_schema.specs.declared.any_value.AnyValue.TheVariants as cell
+use Rattle.pipe_schema.specs.declared.field.Field.{Field}
 use Rattle.pipe_expr.proofs.NamedColumns as named
-use Rattle.pipe_typing.proofs.FitLemmas.{fields-from}
+use Rattle.pipe_laws.proofs.FitLemmas.{fields-from}
 
 some-field : (schema : List Field) → IsSchema schema → 0 < length schema
 some-field [] h = cc

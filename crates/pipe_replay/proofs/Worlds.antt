@@ -1,7 +1,7 @@
 -- Worlds of a plan: what their steps ask, and what they leave.
 use Rattle.std.proofs.Common.{◌≡◌, ℕ, ◌<◌, List, length, ap, sym, ◌∙◌, subst, Option}
 use Rattle.std.proofs.lemmas.List.{length-map}
-use Rattle.pipe_frame.specs.Rows.{Row}
+use Rattle.pipe_schema.specs.Rows.{Row}
 use Rattle.pipe_rows.specs.Partition.{IsPartitionCount}
 use Rattle.pipe_plan.specs.Faults.{IsWellFormed}
 use Rattle.pipe_plan.specs.Node.{node_of}
@@ -9,8 +9,8 @@ use Rattle.pipe_plan.specs.Plan.{plan_of}
 use Rattle.pipe_plan.specs.declared.arena.Arena.{Arena}
 use Rattle.pipe_check.specs.Checked.{Checked}
 use Rattle.pipe_events.specs.Stages.{Stages}
-use Rattle.pipe_stages.specs.Staged.{Staging, AreTables, size_in, staged}
-use Rattle.pipe_stages.specs.declared.plan_tables.PlanTables.{PlanTables}
+use Rattle.pipe_world.specs.Staged.{Staging, AreTables, size_in, staged}
+use Rattle.pipe_world.specs.declared.plan_tables.PlanTables.{PlanTables}
 use Rattle.pipe_world.specs.Shown.{Shown, IsFor, world_of}
 use Rattle.pipe_replay.specs.KeptLists.{AreKept}
 use Rattle.pipe_replay.specs.KeptWorld.{KeptWorld, world_in, stages_for, stages_in, staging, IsOf}

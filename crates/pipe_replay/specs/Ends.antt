@@ -1,6 +1,6 @@
 -- What a world of a plan has at its root.
 use Rattle.std.specs.Prelude.{◌≡◌, List, true}
-use Rattle.pipe_frame.specs.Rows.{Row, Same, Within}
+use Rattle.pipe_schema.specs.Rows.{Row, Same, Within}
 use Rattle.pipe_events.specs.Stages.{Stages}
 use Rattle.pipe_events.specs.Worlds.{World}
 use Rattle.pipe_events.specs.Decided.{is_complete}

@@ -1,6 +1,6 @@
 -- The lists of sorts that are kept, and what they were made of.
 use Rattle.std.specs.Prelude.{◌≡◌, ℕ, ◌≤◌, List, [], ◌++◌, length, take, Option, Some, None, Bool, false, ◌==◌}
-use Rattle.pipe_frame.specs.Rows.{Row}
+use Rattle.pipe_schema.specs.Rows.{Row}
 use Rattle.pipe_events.specs.Stages.{Stage, Stages, Scan, Each, Union, Sort, Joined}
 use Rattle.pipe_plain.specs.Tables.{at_place}
 use Rattle.pipe_replay.specs.declared.lists.SortedList.{SortedList}
@@ -14,7 +14,7 @@ IsListOf bag (Sort input sorted) list =
     (list.count ≤ length (bag input)) × (list.rows ≡ sorted (take list.count (bag input)))
 IsListOf bag (Joined j) list = Unit {0}
 
--- the same, if there is a list
+-- a list, if there is one, is that of a sort for the first rows of its input
 abbrev pub IsKept : (bag : ℕ → List Row) → Stage → Option SortedList → Type 0
 IsKept bag stage None = Unit {0}
 IsKept bag stage (Some list) = IsListOf bag stage list

@@ -6,8 +6,8 @@ use Rattle.pipe_events.specs.PlanStages.{Setting, stages_of}
 use Rattle.pipe_events.specs.Stages.{Stages}
 use Rattle.pipe_events.specs.Worlds.{World}
 use Rattle.pipe_check.specs.Checked.{Checked}
-use Rattle.pipe_stages.specs.Staged.{Staging, AreTables, staged}
-use Rattle.pipe_stages.specs.declared.plan_tables.PlanTables.{PlanTables}
+use Rattle.pipe_world.specs.Staged.{Staging, AreTables, staged}
+use Rattle.pipe_world.specs.declared.plan_tables.PlanTables.{PlanTables}
 use Rattle.pipe_world.specs.Shown.{Shown, IsFor, world_of}
 use Rattle.pipe_replay.specs.KeptLists.{AreKept}
 use Rattle.pipe_replay.specs.declared.lists.SortedList.{SortedList}

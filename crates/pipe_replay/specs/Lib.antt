@@ -1,3 +1,13 @@
+-- what loads bring to nodes, as tables
+pub mod Carried
+-- what closing a side asks
+pub mod Closing
+-- tests of joins
+pub mod Joins
+-- tests of built rows
+pub mod MetRows
+-- positions of a source
+pub mod Sources
 -- the keys of built rows, and the built rows of keys
 pub mod Marks
 -- the answer of a replay

@@ -5,7 +5,7 @@ use Rattle.pipe_events.specs.Stages.{Stages, IsBelow}
 use Rattle.pipe_events.specs.Worlds.{World, Event, start}
 use Rattle.pipe_events.specs.Schedules.{run}
 use Rattle.pipe_events.specs.Decided.{all_allowed}
-use Rattle.pipe_stages.specs.Staged.{Staging, parted_by}
+use Rattle.pipe_world.specs.Staged.{Staging, parted_by}
 
 -- the stages of a plan, with the partition of each key by a hash
 abbrev pub parted : (hash_of : List ℕ → ℕ) → Staging → Stages

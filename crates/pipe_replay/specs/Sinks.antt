@@ -1,6 +1,6 @@
 -- Sinks that are filled one after the other.
 use Rattle.std.specs.Prelude.{ℕ, zero, suc, List, Bool, if◌then◌else◌}
-use Rattle.pipe_frame.specs.Rows.{Row}
+use Rattle.pipe_schema.specs.Rows.{Row}
 use Rattle.pipe_events.specs.Stages.{Stages}
 use Rattle.pipe_events.specs.Worlds.{World, ends, is_sink}
 use Rattle.pipe_world.specs.Changes.{fills}
@@ -13,7 +13,7 @@ ends_at plan t n = ends (plan.stage n) t
 abbrev pub filled : Stages → (come : ℕ → List Row) → ℕ → World → World
 filled plan come t w = if is_sink plan t then fills t (come t) w else w
 
--- the same for all nodes below a number
+-- what comes to the nodes below a number is added to their sinks
 abbrev pub filled_below : Stages → (come : ℕ → List Row) → ℕ → World → World
 filled_below plan come zero w = w
 filled_below plan come (suc t) w = filled plan come t (filled_below plan come t w)

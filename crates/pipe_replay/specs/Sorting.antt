@@ -1,7 +1,7 @@
 -- The keys of a sort.
 use Rattle.std.specs.Prelude.{ℕ, List, unwrap_or}
-use Rattle.pipe_frame.specs.Schema.{place_of}
-use Rattle.pipe_frame.specs.declared.field.Field.{Field}
+use Rattle.pipe_schema.specs.Schema.{place_of}
+use Rattle.pipe_schema.specs.declared.field.Field.{Field}
 use Rattle.pipe_rows.specs.SortOrder.{SortBy}
 use Rattle.pipe_plan.specs.PlanRows.{flag_at}
 use Rattle.pipe_plan.specs.declared.ir.SortOptions.{SortOptions}

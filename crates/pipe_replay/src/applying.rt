@@ -3,20 +3,19 @@
 ghost use Rattle.std.specs.Prelude.{◌≡◌, ◌<◌, true, map, if◌then◌else◌, IfOk, OnOk};
 ghost use Rattle.pipe_events.specs.Worlds.{start, after};
 ghost use Rattle.pipe_events.specs.Decided.{is_allowed as allows};
-ghost use Rattle.pipe_stages.specs.Staged.{staged};
+ghost use Rattle.pipe_world.specs.Staged.{staged};
 ghost use Rattle.pipe_world.specs.Shown.{world_of, IsFor};
 ghost use Rattle.pipe_events.specs.EventValues.{event_value};
 ghost use Rattle.pipe_replay.specs.KeptLists.{AreKept};
 ghost use Rattle.pipe_replay.specs.Replayed.{parted, AreBelow, IsPlayed};
 
+use crate::allowed::is_allowed;
 use crate::changing::{close, finish, flush, mark, take};
 use crate::emitting::emit;
 use crate::lists::SortedLists;
-use pipe_allowed::is_allowed;
 use pipe_events::Event;
 use pipe_rows::KeyHasher;
-use pipe_stages::StagedPlan;
-use pipe_world::Progress;
+use pipe_world::{Progress, StagedPlan};
 use std::alloc::{AllocError, Global};
 
 /// What an allowed event changes.

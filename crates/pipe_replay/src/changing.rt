@@ -4,23 +4,23 @@ ghost use Rattle.std.specs.Prelude.{◌≡◌, ℕ, ◌<◌, true, length, OnOk}
 ghost use Rattle.pipe_events.specs.Worlds as worlds;
 ghost use Rattle.pipe_events.specs.Worlds.{after};
 ghost use Rattle.pipe_events.specs.Decided.{is_allowed as allows};
-ghost use Rattle.pipe_stages.specs.Staged.{staged};
+ghost use Rattle.pipe_world.specs.Staged.{staged};
 ghost use Rattle.pipe_world.specs.Shown.{world_of, IsFor};
 ghost use Rattle.pipe_events.specs.EventValues.{side_value};
 ghost use Rattle.pipe_replay.specs.KeptLists.{AreKept};
 ghost use Rattle.pipe_replay.specs.Replayed.{parted, AreBelow};
 
+use crate::closing::side_below;
 use crate::emitting::emit;
 use crate::flushing::flushed_rows;
 use crate::lists::SortedLists;
 use crate::marking::{mark_all, mark_all_seen};
 use crate::sources::picked_rows;
-use pipe_allowed::side_below;
 use pipe_events::Side;
-use pipe_frame::{List, Row, TryClone};
+use pipe_frame::Row;
 use pipe_rows::KeyHasher;
-use pipe_stages::{Stage, StagedPlan};
-use pipe_world::Progress;
+use pipe_schema::{List, TryClone};
+use pipe_world::{Progress, Stage, StagedPlan};
 use std::alloc::{AllocError, Global};
 
 /// Positions of a source are taken.

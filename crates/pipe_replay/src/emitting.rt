@@ -2,16 +2,16 @@
 
 ghost use Rattle.std.specs.Prelude.{◌≡◌, ℕ, ◌<◌, length, OnOk};
 ghost use Rattle.pipe_events.specs.Worlds.{ends, is_sink, emitted};
-ghost use Rattle.pipe_stages.specs.StageValues.{stage_value};
-ghost use Rattle.pipe_stages.specs.Staged.{staged};
+ghost use Rattle.pipe_world.specs.StageValues.{stage_value};
+ghost use Rattle.pipe_world.specs.Staged.{staged};
 ghost use Rattle.pipe_world.specs.Shown.{world_of, IsFor};
-ghost use Rattle.pipe_allowed.specs.Carried.{gathered};
+ghost use Rattle.pipe_replay.specs.Carried.{gathered};
 ghost use Rattle.pipe_replay.specs.Sinks.{filled};
 
-use pipe_allowed::{carried_tables, gathered_rows};
-use pipe_frame::{List, Row};
-use pipe_stages::{Stage, StagedPlan};
-use pipe_world::Progress;
+use crate::carried::{carried_tables, gathered_rows};
+use pipe_frame::Row;
+use pipe_schema::List;
+use pipe_world::{Progress, Stage, StagedPlan};
 use std::alloc::{AllocError, Global};
 
 /// Whether a stage has the sink above a node.

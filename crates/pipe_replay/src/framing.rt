@@ -3,7 +3,9 @@
 ghost use Rattle.std.specs.Prelude.{◌≡◌, ◌<◌, ◌^◌, true, length, All, IfOk, IfSome};
 ghost use Rattle.pipe_frame.specs.Frame.{column_of, columns_from};
 
-use pipe_frame::{DataFrame, Field, FrameError, List, Row, Series, TryClone};
+use pipe_column::Series;
+use pipe_frame::{DataFrame, Row};
+use pipe_schema::{Field, FrameError, List, TryClone};
 use std::alloc::{AllocError, Global};
 
 /// Whether each row has so many cells.

@@ -2,17 +2,17 @@
 //! sort's input since.
 
 ghost use Rattle.std.specs.Prelude.{◌≡◌, ℕ, ◌<◌, List, None, Some, length, set, IfOk, OnOk};
-ghost use Rattle.pipe_frame.specs.Rows.{Row};
+ghost use Rattle.pipe_schema.specs.Rows.{Row};
 ghost use Rattle.pipe_events.specs.Stages.{Stages};
 ghost use Rattle.pipe_events.specs.Worlds.{source_rows};
-ghost use Rattle.pipe_stages.specs.Staged.{staged};
+ghost use Rattle.pipe_world.specs.Staged.{staged};
 ghost use Rattle.pipe_world.specs.Shown.{world_of};
 ghost use Rattle.pipe_replay.specs.KeptLists.{AreKept, list_at, is_made_of, listed, source_by};
 
 use crate::sorting::sliced_list;
-use pipe_frame::{List, Row};
-use pipe_stages::{Stage, StagedPlan};
-use pipe_world::Progress;
+use pipe_frame::Row;
+use pipe_schema::List;
+use pipe_world::{Progress, Stage, StagedPlan};
 use std::alloc::{AllocError, Global};
 use std::marker::Model;
 

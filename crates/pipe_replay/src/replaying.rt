@@ -13,8 +13,8 @@ ghost use Rattle.pipe_replay.specs.Replayed.{replayed, IsPlayed};
 use crate::world::World;
 use pipe_check::CheckedPlan;
 use pipe_events::Event;
+use pipe_laws::frames_fit;
 use pipe_rows::KeyHasher;
-use pipe_typing::frames_fit;
 use std::alloc::{AllocError, Global};
 
 /// The world after the first events of a list, so many.

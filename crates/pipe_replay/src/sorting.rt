@@ -7,10 +7,11 @@ ghost use Rattle.pipe_sort.specs.SortKeys.{AreWithin, by_key, by_keys};
 ghost use Rattle.pipe_replay.specs.Sorting.{key_of};
 
 use crate::framing::framed;
-use pipe_frame::{DataFrame, Field, List, Row, Schema, Text};
+use pipe_frame::{DataFrame, Row};
 use pipe_plain::{copied_rows, kept_slice, sliced_rows};
 use pipe_plan::SortOptions;
 use pipe_rows::SortField;
+use pipe_schema::{Field, List, Schema, Text};
 use pipe_sort::{SortKey, sorted_frame};
 use std::alloc::{AllocError, Global};
 

@@ -4,7 +4,8 @@ ghost use Rattle.std.specs.Prelude.{◌≡◌, [], ◌∷◌, ◌++◌, slice_in
 ghost use Rattle.std.specs.List.{range_with_len};
 ghost use Rattle.pipe_events.specs.Worlds.{picked};
 
-use pipe_frame::{List, Row, TryClone};
+use pipe_frame::Row;
+use pipe_schema::{List, TryClone};
 use std::alloc::{AllocError, Global};
 
 /// The row at a position, an empty one where there is none.

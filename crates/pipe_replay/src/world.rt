@@ -8,14 +8,13 @@ ghost use Rattle.pipe_replay.specs.KeptWorld.{world_in, stages_in, IsOf};
 ghost use Rattle.pipe_replay.specs.Replayed.{IsPlayed};
 
 use crate::applying::{apply_where_allowed, apply_while_allowed};
+use crate::complete::is_complete;
 use crate::lists::SortedLists;
-use pipe_allowed::is_complete;
 use pipe_check::CheckedPlan;
 use pipe_events::Event;
 use pipe_frame::Row;
 use pipe_rows::{KeyHasher, partition_count};
-use pipe_stages::{PlanTables, StagedPlan};
-use pipe_world::Progress;
+use pipe_world::{PlanTables, Progress, StagedPlan};
 use std::alloc::{AllocError, Global};
 use std::marker::Model;
 

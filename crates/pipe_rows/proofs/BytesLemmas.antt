@@ -1,6 +1,6 @@
 -- Numbers that are bytes.
 use Rattle.std.proofs.Common.{ℕ, List, [], ◌∷◌, ◌++◌, suc, get_or, Fits, w8, arith}
-use Rattle.pipe_frame.specs.Native.{IsBytes}
+use Rattle.pipe_column.specs.Native.{IsBytes}
 
 -- what a slice of bytes holds are bytes
 pub bytes_all : (bytes : List ℕ) → ((i : ℕ) → Fits w8 (get_or bytes i 0)) → IsBytes bytes

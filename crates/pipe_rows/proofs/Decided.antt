@@ -7,7 +7,7 @@ use Rattle.std.specs.Cmp.Lexicographic.{slice_cmp}
 use Rattle.std.specs.declared.cmp.Ordering.{Ordering}
 use Rattle.std.specs.declared.cmp.Ordering.TheVariants.{Less, Equal, Greater}
 use Rattle.std.proofs.Math.Nat.{div-add-mod, add-mul-mod_self_left, mod-eq_of_lt, mod-lt, mul-add, mul_assoc, mul-le-mul_left, pow-suc, div-one}
-use Rattle.pipe_frame.specs.Native.{IsBytes}
+use Rattle.pipe_column.specs.Native.{IsBytes}
 use Rattle.pipe_rows.specs.Ordered.{complement, ended_bytes}
 
 -- the two are the same, or the first byte in which they differ decides

@@ -3,7 +3,7 @@ use Rattle.std.proofs.Common.{◌≡◌, ℕ, zero, suc, ◌+◌, ◌-◌, ◌<�
 use Rattle.std.specs.List.{flat_map}
 use Rattle.std.proofs.lemmas.List.{length-map, take_all, length-append, length-drop, append-nil, drop-drop}
 use Rattle.std.proofs.lemmas.Grind.{flat_map-append}
-use Rattle.pipe_frame.specs.Native.{IsBytes}
+use Rattle.pipe_column.specs.Native.{IsBytes}
 use Rattle.pipe_rows.specs.Ordered.{complement, directed_bytes, escaped_byte, ended_bytes}
 use Rattle.pipe_rows.specs.Decoding.{IsEnded, TakesText}
 

@@ -4,9 +4,9 @@ use Rattle.std.specs.Prelude.{◌||◌, replicate, IfOk, Result, Ok, Err}
 use Rattle.std.specs.List.{range_with_len}
 use Rattle.std.proofs.Math.Bool.{or_assoc}
 use Rattle.std.proofs.Math.Seq.{drop-cons}
-use Rattle.pipe_frame.specs.Frame.{row_at, cell_in, column_rows}
-use Rattle.pipe_frame.specs.Rows.{Row}
-use Rattle.pipe_frame.specs.Series.{Cells}
+use Rattle.pipe_column.specs.Columns.{row_at, cell_in, column_rows}
+use Rattle.pipe_schema.specs.Rows.{Row}
+use Rattle.pipe_column.specs.Series.{Cells}
 use Rattle.pipe_rows.specs.Equality.{equality_cell, equality_row, has_null_cell}
 use Rattle.pipe_rows.specs.Encoded.{Encoded, equality_encoded}
 use Rattle.pipe_rows.specs.Ordered.{ordered_cell, ordered_row, ordered_encoded}

@@ -4,7 +4,7 @@ use Rattle.std.specs.Prelude.{true, slice_range}
 use Rattle.std.proofs.lemmas.List.{take-append-le, drop-append-le, length-drop, length-append, drop-drop}
 use native.Mathlib.Nat.{add-mul}
 use Rattle.std.proofs.Math.Nat.{suc-mul}
-use Rattle.pipe_frame.specs.Column.{pieces_from, EndsFrom}
+use Rattle.pipe_column.specs.Column.{pieces_from, EndsFrom}
 use Rattle.pipe_rows.specs.EvenRows.{even_rows, are_steps}
 
 -- as many as were counted
@@ -13,7 +13,7 @@ length-even_rows width zero bytes = refl
 length-even_rows width (suc count) bytes = ap suc (length-even_rows width count (drop width bytes))
 
 -- the one at a place
-even_at : (width count i : ℕ) (bytes : List ℕ) → i < count → get_or (even_rows width count bytes) i [] ≡ take width (drop (i * width) bytes)
+pub even_at : (width count i : ℕ) (bytes : List ℕ) → i < count → get_or (even_rows width count bytes) i [] ≡ take width (drop (i * width) bytes)
 even_at width zero i bytes lt = absurd (omega arith)
 even_at width (suc count) zero bytes lt = let none : 0 ≡ 0 * width = omega arith in ap (λ n. take width (drop n bytes)) none
 even_at width (suc count) (suc i) bytes lt =

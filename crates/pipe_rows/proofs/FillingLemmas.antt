@@ -5,12 +5,12 @@ use Rattle.std.specs.Prelude.{slice_range, false}
 use Rattle.std.specs.Vec.{with_items}
 use Rattle.std.proofs.lemmas.List.{take-append-le, take-append-drop, drop-append-le, length-drop, length-take, length-take-le, length-append, map-append, take_all, with_items_is, get_or-set_same, get_or-set_other, set-get_or, append-nil, get_or-map, ext_get_or, length-set, length-map}
 use Rattle.std.proofs.lemmas.List.FromFn.{get_or-map-range_with_len, length-map-range_with_len}
-use Rattle.pipe_frame.specs.Rows.{Row}
-use Rattle.pipe_frame.specs.Series.{Cells}
-use Rattle.pipe_frame.specs.Frame.{row_at, column_rows}
+use Rattle.pipe_schema.specs.Rows.{Row}
+use Rattle.pipe_column.specs.Series.{Cells}
+use Rattle.pipe_column.specs.Columns.{row_at, column_rows}
 use Rattle.std.proofs.lemmas.Slice.{drop-append-drop}
 use Rattle.std.proofs.Math.Seq.{take-append_seam, take-suc}
-use Rattle.pipe_frame.specs.Column.{pieces_from, EndsFrom}
+use Rattle.pipe_column.specs.Column.{pieces_from, EndsFrom}
 use Rattle.pipe_rows.specs.Encoded.{Encoded, unmarked, marked_rows}
 use Rattle.pipe_rows.specs.Filling.{OpenRow, open_rows, open_row_at, appended, patched, unwritten, written_of, written_rows, AreWithin, HasRoom, AreFull}
 use Rattle.pipe_rows.proofs.EncodedLemmas.{get_or-marked_rows, length-marked_rows}
@@ -23,7 +23,7 @@ length-open_rows start (cursor ∷ cursors) (end ∷ ends) buffer room h = ap su
 
 -- ---- a buffer with a part that is written anew
 
-length-patched : (buffer : List ℕ) (at : ℕ) (bytes : List ℕ) → at + length bytes ≤ length buffer → length (patched buffer at bytes) ≡ length buffer
+pub length-patched : (buffer : List ℕ) (at : ℕ) (bytes : List ℕ) → at + length bytes ≤ length buffer → length (patched buffer at bytes) ≡ length buffer
 length-patched buffer at bytes h = omega (arith, length-append (take at buffer) (bytes ++ drop (at + length bytes) buffer), length-append bytes (drop (at + length bytes) buffer), length-take-le at buffer (omega arith), length-drop (at + length bytes) buffer)
 
 -- a part that lies within the front of a list
@@ -32,7 +32,7 @@ range-front xs ys a b le inside =
     ap (take (b - a)) (drop-append-le a xs ys (omega arith)) ∙ take-append-le (b - a) (drop a xs) ys (omega (arith, length-drop a xs))
 
 -- a part before what is written
-range-before : (buffer : List ℕ) (at : ℕ) (bytes : List ℕ) (a b : ℕ) → at ≤ length buffer → a ≤ b → b ≤ at → slice_range (patched buffer at bytes) a b ≡ slice_range buffer a b
+pub range-before : (buffer : List ℕ) (at : ℕ) (bytes : List ℕ) (a b : ℕ) → at ≤ length buffer → a ≤ b → b ≤ at → slice_range (patched buffer at bytes) a b ≡ slice_range buffer a b
 range-before buffer at bytes a b inside le before =
     let long : length (take at buffer) ≡ at = length-take-le at buffer inside in
     range-front (take at buffer) (bytes ++ drop (at + length bytes) buffer) a b le (omega arith)
@@ -40,14 +40,14 @@ range-before buffer at bytes a b inside le before =
     ∙ ap (λ l. slice_range l a b) (take-append-drop at buffer)
 
 -- a part behind it
-range-behind : (buffer : List ℕ) (at : ℕ) (bytes : List ℕ) (a b : ℕ) → at ≤ length buffer → at + length bytes ≤ a → slice_range (patched buffer at bytes) a b ≡ slice_range buffer a b
+pub range-behind : (buffer : List ℕ) (at : ℕ) (bytes : List ℕ) (a b : ℕ) → at ≤ length buffer → at + length bytes ≤ a → slice_range (patched buffer at bytes) a b ≡ slice_range buffer a b
 range-behind buffer at bytes a b inside behind =
     let long : length (take at buffer ++ bytes) ≡ at + length bytes = omega (arith, length-append (take at buffer) bytes, length-take-le at buffer inside) in
     ap (λ l. slice_range l a b) (sym (append_assoc (take at buffer) bytes (drop (at + length bytes) buffer)))
     ∙ ap (take (b - a)) (drop-append-drop (at + length bytes) buffer (take at buffer ++ bytes) a behind long)
 
 -- a part that ends with it
-range-grown : (buffer : List ℕ) (at : ℕ) (bytes : List ℕ) (a : ℕ) → at ≤ length buffer → a ≤ at → slice_range (patched buffer at bytes) a (at + length bytes) ≡ slice_range buffer a at ++ bytes
+pub range-grown : (buffer : List ℕ) (at : ℕ) (bytes : List ℕ) (a : ℕ) → at ≤ length buffer → a ≤ at → slice_range (patched buffer at bytes) a (at + length bytes) ≡ slice_range buffer a at ++ bytes
 range-grown buffer at bytes a inside le =
     let front : List ℕ = take at buffer in
     let rest : List ℕ = drop (at + length bytes) buffer in

@@ -13,3 +13,4 @@ pub mod SortLaw
 pub mod FillingLemmas
 pub mod PartitionLemmas
 pub mod EvenLemmas
+pub mod DenseLemmas

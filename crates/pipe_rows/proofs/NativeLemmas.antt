@@ -2,16 +2,16 @@
 use Rattle.std.proofs.Common.{◌≡◌, ℕ, ℤ, zero, suc, ◌+◌, ◌<◌, ◌≤◌, Bool, true, false, List, [], ◌∷◌, ◌++◌, Option, Some, None, length, take, drop, map, refl, ap, sym, subst, ◌∙◌, arith}
 use Rattle.std.specs.Prelude.{IsTrue}
 use Rattle.std.proofs.lemmas.List.{take_at, length-append, take-append-drop}
-use Rattle.pipe_frame.specs.Cell.{dtype_of_cell, fits_dtype, is_null_cell, int128_cell}
-use Rattle.pipe_frame.specs.Column.{nullable_at}
-use Rattle.pipe_frame.specs.Native.{IsBytes, InRange, has_fixed_width, little_endian, ordered_bytes}
-use Rattle.pipe_frame.specs.Series.{cell_at}
-use Rattle.pipe_frame.specs.Sizes.{width_of}
-use Rattle.pipe_frame.specs.declared.any_value.AnyValue.{AnyValue}
-use Rattle.pipe_frame.specs.declared.any_value.AnyValue.TheVariants as cell
-use Rattle.pipe_frame.specs.declared.data_type.DataType.{DataType}
-use Rattle.pipe_frame.specs.declared.data_type.DataType.TheVariants as dtype
-use Rattle.pipe_frame.proofs.SeriesCells.{cell_at-map}
+use Rattle.pipe_schema.specs.Cell.{dtype_of_cell, fits_dtype, is_null_cell, int128_cell}
+use Rattle.pipe_column.specs.Column.{nullable_at}
+use Rattle.pipe_column.specs.Native.{IsBytes, InRange, has_fixed_width, little_endian, ordered_bytes}
+use Rattle.pipe_column.specs.Series.{cell_at}
+use Rattle.pipe_schema.specs.Sizes.{width_of}
+use Rattle.pipe_schema.specs.declared.any_value.AnyValue.{AnyValue}
+use Rattle.pipe_schema.specs.declared.any_value.AnyValue.TheVariants as cell
+use Rattle.pipe_schema.specs.declared.data_type.DataType.{DataType}
+use Rattle.pipe_schema.specs.declared.data_type.DataType.TheVariants as dtype
+use Rattle.pipe_column.proofs.SeriesCells.{cell_at-map}
 use Rattle.pipe_rows.specs.Equality.{equality_cell, IsCell}
 use Rattle.pipe_rows.specs.Ordered.{directed_bytes, ordered_cell, value_bytes}
 use Rattle.pipe_rows.specs.Encodings.{encoded_cell}
@@ -36,7 +36,7 @@ width-small dtype.Int128 = omega arith
 
 -- ---- a value of fixed width
 
-fixed_not_null : (v : AnyValue) → has_fixed_width v ≡ true → is_null_cell v ≡ false
+pub fixed_not_null : (v : AnyValue) → has_fixed_width v ≡ true → is_null_cell v ≡ false
 fixed_not_null cell.Null h = sym h
 fixed_not_null (cell.Int32 x) h = refl
 fixed_not_null (cell.Int64 x) h = refl

@@ -4,14 +4,14 @@ use borrow.Author.Count.{below_more}
 use Rattle.std.proofs.lemmas.List.{append-nil, take_all, drop-drop, length-append, length-drop, get_or_append_left, length-map}
 use Rattle.std.proofs.Math.ListN.{drop_of_length-le}
 use Rattle.std.proofs.Math.Seq.{get_or-append_seam}
-use Rattle.pipe_frame.specs.Frame.{AllOfHeight, field_of, row_at}
-use Rattle.pipe_frame.specs.Series.{Cells, cell_at}
-use Rattle.pipe_frame.specs.Rows.{Row}
-use Rattle.pipe_frame.specs.declared.any_value.AnyValue.{AnyValue}
-use Rattle.pipe_frame.specs.declared.any_value.AnyValue.TheVariants as cell
-use Rattle.pipe_frame.specs.declared.data_type.DataType.{DataType}
+use Rattle.pipe_column.specs.Columns.{AllOfHeight, field_of, row_at}
+use Rattle.pipe_column.specs.Series.{Cells, cell_at}
+use Rattle.pipe_schema.specs.Rows.{Row}
+use Rattle.pipe_schema.specs.declared.any_value.AnyValue.{AnyValue}
+use Rattle.pipe_schema.specs.declared.any_value.AnyValue.TheVariants as cell
+use Rattle.pipe_schema.specs.declared.data_type.DataType.{DataType}
 use Rattle.pipe_rows.specs.declared.sort_field.SortField.{SortField}
-use Rattle.pipe_frame.specs.declared.field.Field.{Field}
+use Rattle.pipe_schema.specs.declared.field.Field.{Field}
 use Rattle.pipe_rows.specs.Encoded.{Encoded}
 use Rattle.pipe_rows.specs.SortOrder.{key_cmp}
 use Rattle.pipe_rows.specs.Equality.{IsCell, IsRow, dtype_of, dtypes_of}

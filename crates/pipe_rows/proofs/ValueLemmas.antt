@@ -5,12 +5,12 @@ use Rattle.std.specs.Ordering.{nat_cmp, is_eq}
 use Rattle.std.specs.Cmp.Lexicographic.{slice_cmp, bytes_decides}
 use Rattle.std.specs.declared.cmp.Ordering.TheVariants.{Equal}
 use Rattle.std.proofs.lemmas.Map.Text.{is_eq-slice_cmp}
-use Rattle.pipe_frame.specs.Cell.{is_null_cell}
-use Rattle.pipe_frame.specs.declared.any_value.AnyValue.{AnyValue}
-use Rattle.pipe_frame.specs.declared.any_value.AnyValue.TheVariants as cell
-use Rattle.pipe_frame.specs.declared.data_type.DataType.{DataType}
-use Rattle.pipe_frame.specs.declared.data_type.DataType.TheVariants as dtype
-use Rattle.pipe_frame.specs.Native.{IsBytes, InRange}
+use Rattle.pipe_schema.specs.Cell.{is_null_cell}
+use Rattle.pipe_schema.specs.declared.any_value.AnyValue.{AnyValue}
+use Rattle.pipe_schema.specs.declared.any_value.AnyValue.TheVariants as cell
+use Rattle.pipe_schema.specs.declared.data_type.DataType.{DataType}
+use Rattle.pipe_schema.specs.declared.data_type.DataType.TheVariants as dtype
+use Rattle.pipe_column.specs.Native.{IsBytes, InRange}
 use Rattle.pipe_rows.specs.Equality.{IsCell}
 use Rattle.pipe_rows.specs.Ordered.{ended_bytes, directed_bytes, value_bytes}
 use Rattle.pipe_rows.specs.Decoding.{IsEnded, TakesText, IsValue, TakesValue}

@@ -3,17 +3,17 @@ use Rattle.std.specs.Prelude.{◌≡◌, ℕ, ◌<◌, ◌≤◌, List, [], ◌�
 use Rattle.std.specs.Option.{MatchOption}
 use Rattle.std.specs.declared.vec.Vec.{Vec}
 use Rattle.std.specs.declared.alloc.Global.{Global}
-use Rattle.pipe_frame.specs.Cell.{is_null_cell}
-use Rattle.pipe_frame.specs.Frame.{AllOfHeight, field_of, row_at}
-use Rattle.pipe_frame.specs.Native.{InRange, ordered_bytes}
-use Rattle.pipe_frame.specs.Series.{Cells}
-use Rattle.pipe_frame.specs.declared.field.Field.{Field}
+use Rattle.pipe_schema.specs.Cell.{is_null_cell}
+use Rattle.pipe_column.specs.Columns.{AllOfHeight, field_of, row_at}
+use Rattle.pipe_column.specs.Native.{InRange, ordered_bytes}
+use Rattle.pipe_column.specs.Series.{Cells}
+use Rattle.pipe_schema.specs.declared.field.Field.{Field}
 use Rattle.pipe_rows.specs.declared.error.RowsError.{RowsError}
 use Rattle.pipe_rows.specs.declared.error.RowsError.TheVariants as fault
-use Rattle.pipe_frame.specs.Rows.{Row}
-use Rattle.pipe_frame.specs.declared.any_value.AnyValue.{AnyValue}
-use Rattle.pipe_frame.specs.declared.any_value.AnyValue.TheVariants as cell
-use Rattle.pipe_frame.specs.declared.data_type.DataType.{DataType}
+use Rattle.pipe_schema.specs.Rows.{Row}
+use Rattle.pipe_schema.specs.declared.any_value.AnyValue.{AnyValue}
+use Rattle.pipe_schema.specs.declared.any_value.AnyValue.TheVariants as cell
+use Rattle.pipe_schema.specs.declared.data_type.DataType.{DataType}
 use Rattle.pipe_rows.specs.declared.sort_field.SortField.{SortField}
 use Rattle.pipe_rows.specs.declared.decode_value.Decoded.{Decoded}
 use Rattle.pipe_rows.specs.declared.decode_value.Unescaped.{Unescaped}

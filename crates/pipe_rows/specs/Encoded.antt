@@ -1,8 +1,8 @@
 -- Encoded rows: for each row its bytes, and whether one of its cells was null.
 use Rattle.std.specs.Prelude.{◌≡◌, ℕ, List, [], ◌∷◌, Bool, false, length, map, slice_index_or}
-use Rattle.pipe_frame.specs.Frame.{column_rows, height_of}
-use Rattle.pipe_frame.specs.Rows.{Row}
-use Rattle.pipe_frame.specs.Series.{Cells}
+use Rattle.pipe_column.specs.Columns.{column_rows, height_of}
+use Rattle.pipe_schema.specs.Rows.{Row}
+use Rattle.pipe_column.specs.Series.{Cells}
 use Rattle.pipe_rows.specs.Equality.{equality_row, has_null_cell}
 
 -- an encoded row as its reader sees it

@@ -1,11 +1,11 @@
 -- A row whose columns are each under one of the two encodings.
 use Rattle.std.specs.Prelude.{◌≡◌, ℕ, ◌+◌, ◌<◌, List, [], ◌∷◌, ◌++◌, Bool, false, ◌||◌, length, map, slice_index_or}
-use Rattle.pipe_frame.specs.Cell.{is_null_cell}
-use Rattle.pipe_frame.specs.Frame.{row_at, column_rows, height_of}
-use Rattle.pipe_frame.specs.Rows.{Row}
-use Rattle.pipe_frame.specs.Series.{Cells, cell_at}
-use Rattle.pipe_frame.specs.declared.any_value.AnyValue.{AnyValue}
-use Rattle.pipe_frame.specs.declared.any_value.AnyValue.TheVariants as cell
+use Rattle.pipe_schema.specs.Cell.{is_null_cell}
+use Rattle.pipe_column.specs.Columns.{row_at, column_rows, height_of}
+use Rattle.pipe_schema.specs.Rows.{Row}
+use Rattle.pipe_column.specs.Series.{Cells, cell_at}
+use Rattle.pipe_schema.specs.declared.any_value.AnyValue.{AnyValue}
+use Rattle.pipe_schema.specs.declared.any_value.AnyValue.TheVariants as cell
 use Rattle.pipe_rows.specs.Equality.{equality_cell, has_null_cell, IsCell, IsRow, dtypes_of}
 use Rattle.pipe_rows.specs.Ordered.{ordered_cell}
 use Rattle.pipe_rows.specs.Encoded.{Encoded}

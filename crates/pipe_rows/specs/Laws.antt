@@ -3,8 +3,8 @@ use Rattle.std.specs.Prelude.{◌≡◌, List, length}
 use Rattle.std.specs.Ordering.{nat_cmp}
 use Rattle.std.specs.Str.{bytes_eq}
 use Rattle.std.specs.Cmp.Lexicographic.{slice_cmp}
-use Rattle.pipe_frame.specs.Rows.{Row, eq_row, Same}
-use Rattle.pipe_frame.specs.declared.data_type.DataType.{DataType}
+use Rattle.pipe_schema.specs.Rows.{Row, eq_row, Same}
+use Rattle.pipe_schema.specs.declared.data_type.DataType.{DataType}
 use Rattle.pipe_rows.specs.declared.sort_field.SortField.{SortField}
 use Rattle.pipe_rows.specs.Equality.{equality_row, IsRow}
 use Rattle.pipe_rows.specs.Ordered.{ordered_row, fields_cmp}

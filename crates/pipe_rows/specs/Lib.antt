@@ -24,3 +24,5 @@ pub mod Laws
 pub mod EvenRows
 -- byte strings of one width or of any
 pub mod RowBytes
+-- rows of fixed width without nulls, filled column by column
+pub mod Dense

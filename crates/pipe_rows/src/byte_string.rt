@@ -2,7 +2,7 @@
 
 ghost use Rattle.std.specs.Prelude.{◌≡◌, ◌<◌, ◌≤◌, ◌+◌, length, IfOk};
 ghost use Rattle.std.specs.List.{flat_map};
-ghost use Rattle.pipe_frame.specs.Native.{InRange};
+ghost use Rattle.pipe_column.specs.Native.{InRange};
 ghost use Rattle.pipe_rows.specs.Encoded.{IsLengthOf};
 ghost use Rattle.pipe_rows.specs.Encodings.{encoded_binary};
 ghost use Rattle.pipe_rows.specs.Equality.{equality_cell};
@@ -13,7 +13,7 @@ use crate::encoding::Encoding;
 use crate::filling::{RowFiller, VALUE};
 use crate::fixed_width::directed;
 use crate::sort_field::SortField;
-use pipe_frame::AnyValue;
+use pipe_schema::AnyValue;
 use std::alloc::AllocError;
 
 /// Writes a length of eight bytes and some bytes after the byte of a value.

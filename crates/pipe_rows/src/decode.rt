@@ -8,7 +8,8 @@ use crate::decode_value::{Decoded, take_cell};
 use crate::error::RowsError;
 use crate::rows_encoded::RowsEncoded;
 use crate::sort_field::SortField;
-use pipe_frame::{AnyValue, DataType, Series, Text};
+use pipe_column::Series;
+use pipe_schema::{AnyValue, DataType, Text};
 use std::alloc::{AllocError, Global};
 
 /// The cells of a row, if the bytes are an ordered encoding.

@@ -2,7 +2,7 @@
 
 ghost use Rattle.std.specs.Prelude.{◌≡◌, IfOk};
 ghost use Rattle.std.specs.Option.{MatchOption};
-ghost use Rattle.pipe_frame.specs.Native.{InRange};
+ghost use Rattle.pipe_column.specs.Native.{InRange};
 ghost use Rattle.pipe_rows.specs.Ordered.{directed_bytes};
 ghost use Rattle.pipe_rows.specs.Decoding.{StepIs, FindsUtf8, FindsText, FindsNative, FindsValue, FindsCell};
 
@@ -10,7 +10,8 @@ use crate::encoding::ordered_null;
 use crate::filling::VALUE;
 use crate::fixed_width::{MAX_WIDTH, direct, directed};
 use crate::sort_field::SortField;
-use pipe_frame::{AnyValue, Bytes, DataType, Native, Text};
+use pipe_column::Native;
+use pipe_schema::{AnyValue, Bytes, DataType, Text};
 use std::alloc::{AllocError, Global};
 
 /// A cell and how many bytes it took.

@@ -1,15 +1,17 @@
 //! Rows as bytes, filled column by column in one buffer: a pass that measures, and one that writes.
 
 ghost use Rattle.std.specs.Prelude.{◌≡◌, ◌<◌, ◌||◌, length, IfOk, OnOk};
-ghost use Rattle.pipe_frame.specs.Frame.{AllOfHeight, height_of};
+ghost use Rattle.pipe_column.specs.Columns.{AllOfHeight, height_of};
 ghost use Rattle.pipe_rows.specs.Encodings.{cell_bytes_at, row_bytes_at, encoded_rows, null_at_place, null_in_row};
 ghost use Rattle.pipe_rows.specs.Encodings.{ColumnWidens, RowsWiden, HaveWidths, NullsMarked, HaveMarks, AllAppended, AllHaveRoom, AreCells, AreTypedRows};
 
+use crate::dense::encode_dense;
 use crate::encoding::Encoding;
 use crate::filling::RowFiller;
 use crate::key_column::KeyColumn;
 use crate::rows_encoded::RowsEncoded;
-use pipe_frame::{BinaryColumn, Column, DataType, Series, StringColumn};
+use pipe_column::{BinaryColumn, Column, Series, StringColumn};
+use pipe_schema::DataType;
 use std::alloc::{AllocError, Global};
 
 /// Whether one of two holds.
@@ -161,8 +163,8 @@ fn measured(
     Ok((widths, marks))
 }
 
-/// The rows of some columns of one height, each column under its encoding.
-pub(crate) fn encode(
+/// The rows of some columns of one height, each column under its encoding: measured first, and then written.
+fn encode_each(
     alloc: Global,
     columns: &[Series],
     encodings: &[Encoding],
@@ -178,4 +180,22 @@ pub(crate) fn encode(
     let mut filler = RowFiller::new(alloc, widths.as_slice())?;
     fill_all(columns, encodings, &mut filler);
     Ok(filler.finish(marks))
+}
+
+/// The rows of some columns of one height, each column under its encoding.
+pub(crate) fn encode(
+    alloc: Global,
+    columns: &[Series],
+    encodings: &[Encoding],
+) -> Result<RowsEncoded, AllocError>
+    requires some { 0 < length columns.now }
+    requires even { AllOfHeight (height_of columns.now) columns.now }
+    requires encodings { length encodings.now ≡ length columns.now }
+    ensures rows { IfOk result (λ rows. rows ≡ encoded_rows encodings.now columns.now) }
+    ensures cells { OnOk result (AreTypedRows columns.now (height_of columns.now)) }
+{
+    match encode_dense(alloc, columns, encodings)? {
+        Some(rows) => Ok(rows),
+        None => encode_each(alloc, columns, encodings),
+    }
 }

@@ -4,7 +4,7 @@ ghost use Rattle.std.specs.Prelude.{◌≡◌, [], ◌∷◌, if◌then◌else�
 ghost use Rattle.pipe_rows.specs.Encodings.{encoded_cell};
 
 use crate::sort_field::SortField;
-use pipe_frame::AnyValue;
+use pipe_schema::AnyValue;
 
 /// What stands for a null where rows are to be told apart, and where nulls are first.
 const NULL: u8 = 0;

@@ -1,7 +1,7 @@
 //! The equality encoding: rows as bytes that are equal exactly where the rows are equal, null with null.
 
 ghost use Rattle.std.specs.Prelude.{◌≡◌, ◌<◌, length, IfOk, OnOk};
-ghost use Rattle.pipe_frame.specs.Frame.{AllOfHeight, height_of};
+ghost use Rattle.pipe_column.specs.Columns.{AllOfHeight, height_of};
 ghost use Rattle.pipe_rows.specs.Encoded.{equality_rows};
 ghost use Rattle.pipe_rows.specs.Encodings.{AreTypedRows};
 ghost use Rattle.pipe_rows.specs.Laws.{EqualBytesWhereEqual};
@@ -9,7 +9,7 @@ ghost use Rattle.pipe_rows.specs.Laws.{EqualBytesWhereEqual};
 use crate::encode::encode;
 use crate::encoding::Encoding;
 use crate::rows_encoded::RowsEncoded;
-use pipe_frame::Series;
+use pipe_column::Series;
 use std::alloc::{AllocError, Global};
 
 /// The rows of some columns of one height under the equality encoding: a cell is 0 where it is null, else 1 and

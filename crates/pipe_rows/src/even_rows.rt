@@ -3,7 +3,7 @@
 ghost use Rattle.std.specs.Prelude.{◌≡◌, ◌<◌, ◌++◌, ◌*◌, length, slice_index_or, [], IfOk, OnOk, OnErr};
 ghost use Rattle.pipe_rows.specs.EvenRows.{even_rows, are_steps};
 
-use pipe_frame::BytesList;
+use pipe_column::BytesList;
 use std::alloc::{AllocError, Global};
 use std::marker::Model;
 
@@ -91,6 +91,13 @@ impl EvenRows {
         self.bytes.extend_from_slice(other.bytes.as_slice())?;
         self.count = count;
         Ok(())
+    }
+
+    /// Gives back the memory that no byte string takes.
+    pub(crate) fn shrink(&mut self)
+        ensures { self.new ≡ self.old }
+    {
+        self.bytes.shrink_to_fit();
     }
 
     /// A copy.

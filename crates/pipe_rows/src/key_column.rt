@@ -2,11 +2,11 @@
 
 ghost use Rattle.std.specs.Prelude.{◌≡◌, ◌<◌, List, length, map, IfOk};
 ghost use Rattle.std.specs.Option.{option_copied};
-ghost use Rattle.pipe_frame.specs.Cell.{is_null_cell, string_cell, binary_cell};
-ghost use Rattle.pipe_frame.specs.Series.{cell_at};
-ghost use Rattle.pipe_frame.specs.declared.any_value.AnyValue.{AnyValue};
-ghost use Rattle.pipe_frame.specs.declared.data_type.DataType.{DataType};
-ghost use Rattle.pipe_frame.specs.declared.data_type.DataType.TheVariants as dtype;
+ghost use Rattle.pipe_schema.specs.Cell.{is_null_cell, string_cell, binary_cell};
+ghost use Rattle.pipe_column.specs.Series.{cell_at};
+ghost use Rattle.pipe_schema.specs.declared.any_value.AnyValue.{AnyValue};
+ghost use Rattle.pipe_schema.specs.declared.data_type.DataType.{DataType};
+ghost use Rattle.pipe_schema.specs.declared.data_type.DataType.TheVariants as dtype;
 ghost use Rattle.pipe_rows.specs.Encoded.{IsLengthOf};
 ghost use Rattle.pipe_rows.specs.Encodings.{cell_bytes_at, AppendsCell};
 ghost use Rattle.pipe_rows.specs.Equality.{IsCell};
@@ -16,7 +16,7 @@ use crate::byte_string::{bytes_width, put_bytes};
 use crate::encoding::Encoding;
 use crate::filling::RowFiller;
 use crate::fixed_width::put_native;
-use pipe_frame::{BinaryColumn, Column, Native, Series, StringColumn};
+use pipe_column::{BinaryColumn, Column, Native, Series, StringColumn};
 use std::alloc::AllocError;
 
 /// A column whose cells can be written as bytes.

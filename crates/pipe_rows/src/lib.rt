@@ -4,6 +4,7 @@
 mod byte_string;
 mod decode;
 mod decode_value;
+mod dense;
 mod encode;
 mod encoding;
 mod equality;

@@ -1,7 +1,7 @@
 //! The ordered encoding: rows as bytes whose order is the order of the rows' keys.
 
 ghost use Rattle.std.specs.Prelude.{◌≡◌, ◌<◌, length, map, IfOk, OnOk};
-ghost use Rattle.pipe_frame.specs.Frame.{AllOfHeight, height_of};
+ghost use Rattle.pipe_column.specs.Columns.{AllOfHeight, height_of};
 ghost use Rattle.pipe_rows.specs.Encodings.{AreTypedRows};
 ghost use Rattle.pipe_rows.specs.Laws.{BytesOrderedAsKeys};
 ghost use Rattle.pipe_rows.specs.Ordered.{ordered_rows};
@@ -10,7 +10,7 @@ use crate::encode::encode;
 use crate::encoding::Encoding;
 use crate::rows_encoded::RowsEncoded;
 use crate::sort_field::SortField;
-use pipe_frame::Series;
+use pipe_column::Series;
 use std::alloc::{AllocError, Global};
 
 /// The ordered encodings of some fields.

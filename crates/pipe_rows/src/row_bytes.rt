@@ -1,10 +1,10 @@
 //! Byte strings of rows: those of one width without where each ends, and others with it.
 
 ghost use Rattle.std.specs.Prelude.{◌≡◌, ◌<◌, ◌++◌, length, slice_index_or, [], OnOk, OnErr};
-ghost use Rattle.pipe_frame.specs.Column.{EndsFrom, pieces_from};
+ghost use Rattle.pipe_column.specs.Column.{EndsFrom, pieces_from};
 
 use crate::even_rows::{EvenRows, are_steps};
-use pipe_frame::BytesList;
+use pipe_column::BytesList;
 use std::alloc::AllocError;
 use std::marker::Model;
 
@@ -38,6 +38,15 @@ impl RowBytes {
     {
         RowBytes {
             held: HeldRows::Ragged(list),
+        }
+    }
+
+    /// Byte strings of one width.
+    pub(crate) fn of_even(rows: EvenRows) -> RowBytes
+        ensures { result ≡ rows.rows }
+    {
+        RowBytes {
+            held: HeldRows::Even(rows),
         }
     }
 
@@ -84,6 +93,16 @@ impl RowBytes {
         match &other.held {
             HeldRows::Even(rows) => self.append_even(rows),
             HeldRows::Ragged(list) => self.append_list(list),
+        }
+    }
+
+    /// Gives back the memory that no byte string takes.
+    pub(crate) fn shrink(&mut self)
+        ensures { self.new ≡ self.old }
+    {
+        match &mut self.held {
+            HeldRows::Even(rows) => rows.shrink(),
+            HeldRows::Ragged(list) => list.shrink(),
         }
     }
 

@@ -4,7 +4,8 @@ ghost use Rattle.std.specs.Prelude.{◌≡◌, ◌<◌, ◌++◌, length, map, I
 ghost use Rattle.pipe_rows.specs.Encoded.{unmarked, encoded_at, marked_rows};
 
 use crate::row_bytes::RowBytes;
-use pipe_frame::{Bytes, BytesList};
+use pipe_column::BytesList;
+use pipe_schema::Bytes;
 use std::alloc::{AllocError, Global};
 use std::marker::Model;
 
@@ -89,5 +90,13 @@ impl RowsEncoded {
         self.rows.append(&other.rows)?;
         self.marks.extend_from_slice(other.marks.as_slice())?;
         Ok(())
+    }
+
+    /// Gives back the memory that no row takes.
+    pub fn shrink(&mut self)
+        ensures { self.new ≡ self.old }
+    {
+        self.rows.shrink();
+        self.marks.shrink_to_fit();
     }
 }

@@ -3,9 +3,9 @@ use Rattle.std.proofs.Common.{◌≡◌, ℕ, Bool, true, false, cond, List, [],
 use Rattle.std.specs.Prelude.{◌||◌, ◌&&◌, filter}
 use Rattle.std.specs.Str.{bytes_eq}
 use Rattle.std.specs.List.{list_any}
-use Rattle.pipe_frame.specs.Schema.{has_name, names_of, first_repeated, first_unknown}
-use Rattle.pipe_frame.specs.declared.data_type.DataType.{DataType}
-use Rattle.pipe_frame.specs.declared.field.Field.{Field}
+use Rattle.pipe_schema.specs.Schema.{has_name, names_of, first_repeated, first_unknown}
+use Rattle.pipe_schema.specs.declared.data_type.DataType.{DataType}
+use Rattle.pipe_schema.specs.declared.field.Field.{Field}
 use Rattle.pipe_expr.specs.Formula.{Formula, NamedFormula, Column}
 use Rattle.pipe_expr.specs.Types.{type_of, type_of_column}
 use Rattle.pipe_expr.specs.Projections.{known_type, fields_named, expr_field, select_fields, expr_named, stacked_field, replaced_field, renamed, renamed_field}

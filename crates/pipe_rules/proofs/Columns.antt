@@ -2,15 +2,15 @@
 use Rattle.std.proofs.Common.{◌≡◌, ℕ, Bool, true, false, cond, List, [], ◌∷◌, ◌++◌, Option, Some, None, map, refl, ap, sym, ◌∙◌, subst}
 use Rattle.std.specs.Prelude.{◌||◌, ◌&&◌, filter}
 use Rattle.std.specs.Str.{bytes_eq}
-use Rattle.pipe_frame.specs.Rows.{Row}
-use Rattle.pipe_frame.specs.Schema.{has_name, names_of, first_repeated}
-use Rattle.pipe_frame.specs.declared.field.Field.{Field}
+use Rattle.pipe_schema.specs.Rows.{Row}
+use Rattle.pipe_schema.specs.Schema.{has_name, names_of, first_repeated}
+use Rattle.pipe_schema.specs.declared.field.Field.{Field}
 use Rattle.pipe_expr.specs.Formula.{Formula, NamedFormula, Column}
 use Rattle.pipe_expr.specs.Values.{value_of, named_cell}
 use Rattle.pipe_expr.specs.Projections.{fields_named, row_named, expr_cell, select_fields, select_row, expr_named, stacked_field, stacked_cell, replaced_field, replaced_cell, renamed, renamed_field}
 use Rattle.pipe_expr.specs.Joins.{Join, is_kept, suffixed, suffixed_name, kept_cells}
 use Rattle.pipe_expr.specs.declared.join_words.RenamePair.{RenamePair}
-use Rattle.pipe_typing.specs.Fits.{FitsRow}
+use Rattle.pipe_laws.specs.Fits.{FitsRow}
 use Rattle.pipe_rules.specs.Placing.{column_of, column_under, is_there, is_plain, name_or, plain_name, is_replacing, old_name, right_name}
 use Rattle.pipe_rules.proofs.Under.{cell_under, own-name, same-name, other-name, once-first, once-rest, in-rest}
 

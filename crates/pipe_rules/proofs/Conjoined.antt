@@ -2,17 +2,17 @@
 use Rattle.std.proofs.Common.{◌≡◌, Bool, true, false, List, [], ◌∷◌, ◌++◌, Option, Some, None, refl, ap, sym, ◌∙◌}
 use Rattle.std.specs.Prelude.{◌&&◌}
 use Rattle.std.specs.List.{list_all}
-use Rattle.pipe_frame.specs.Cell.{is_true_cell, boolean_cell}
-use Rattle.pipe_frame.specs.Rows.{Row}
-use Rattle.pipe_frame.specs.declared.any_value.AnyValue.{AnyValue}
-use Rattle.pipe_frame.specs.declared.any_value.AnyValue.TheVariants as cell
-use Rattle.pipe_frame.specs.declared.field.Field.{Field}
+use Rattle.pipe_schema.specs.Cell.{is_true_cell, boolean_cell}
+use Rattle.pipe_schema.specs.Rows.{Row}
+use Rattle.pipe_schema.specs.declared.any_value.AnyValue.{AnyValue}
+use Rattle.pipe_schema.specs.declared.any_value.AnyValue.TheVariants as cell
+use Rattle.pipe_schema.specs.declared.field.Field.{Field}
 use Rattle.pipe_expr.specs.Formula.{Formula, Column, Literal, Add, Sub, Mul, Eq, NotEq, Lt, LtEq, Gt, GtEq, And, Or, Not, IsNull, IsNotNull}
 use Rattle.pipe_expr.specs.Nullables.{both}
 use Rattle.pipe_expr.specs.Values.{value_of, truth_of}
 use Rattle.pipe_expr.specs.Projections.{passes}
 use Rattle.pipe_rules.specs.Conjuncts.{conjuncts_of, passes_one, passes_each}
-use Rattle.pipe_rules.specs.Laws.{ConjunctsFilter}
+use Rattle.pipe_rules.specs.FilterLaws.{ConjunctsFilter}
 use Rattle.pipe_rules.proofs.Filters.{filter-same, all-always}
 
 -- whether a truth value is there and true

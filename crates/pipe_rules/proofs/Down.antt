@@ -5,11 +5,11 @@ use Rattle.std.specs.Str.{bytes_eq}
 use Rattle.std.specs.List.{list_any, flat_map}
 use Rattle.std.specs.Cmp.Lexicographic.{pointwise}
 use Rattle.std.proofs.lemmas.Bool.Decides.{Decides-eqb}
-use Rattle.pipe_frame.specs.Cell.{eq_dtype, is_true_cell}
+use Rattle.pipe_schema.specs.Cell.{eq_dtype, is_true_cell}
 use Rattle.pipe_frame.specs.Frame.{Table}
-use Rattle.pipe_frame.specs.Rows.{Row}
-use Rattle.pipe_frame.specs.Schema.{has_name, names_of, first_repeated, first_unknown}
-use Rattle.pipe_frame.specs.declared.field.Field.{Field}
+use Rattle.pipe_schema.specs.Rows.{Row}
+use Rattle.pipe_schema.specs.Schema.{has_name, names_of, first_repeated, first_unknown}
+use Rattle.pipe_schema.specs.declared.field.Field.{Field}
 use Rattle.pipe_rows.specs.SortOrder.{sorted}
 use Rattle.pipe_expr.specs.Formula.{Formula, NamedFormula}
 use Rattle.pipe_expr.specs.Types.{columns_in}
@@ -27,13 +27,13 @@ use Rattle.pipe_plan.specs.PlanRows.{node_rows, sort_keys, slice_rows}
 use Rattle.pipe_plan.specs.Faults.{eq_field}
 use Rattle.pipe_plan.specs.declared.ir.PlanSlice.{PlanSlice}
 use Rattle.pipe_plan.specs.declared.ir.SortOptions.{SortOptions}
-use Rattle.pipe_typing.specs.Fits.{FitsRow, FitRows}
-use Rattle.pipe_typing.proofs.Lists.{all-map, all-filter}
-use Rattle.pipe_typing.proofs.Rows.{same-dtype}
+use Rattle.pipe_laws.specs.Fits.{FitsRow, FitRows}
+use Rattle.pipe_laws.proofs.Lists.{all-map, all-filter}
+use Rattle.pipe_laws.proofs.Rows.{same-dtype}
 use Rattle.pipe_rules.specs.Names.{with_names}
 use Rattle.pipe_rules.specs.Placing.{Placing, Above, OnInputs, OnLeft, OnRight, reads_only, on_inputs_if, is_plain, plain_name, is_replacing, is_passed_on, old_name, is_not_in, right_name, on_left_or, on_right_or, below_join, below_slice}
 use Rattle.pipe_rules.specs.Placed.{filtered_all, filtered_at, placing_at, rows_placed, IsReady}
-use Rattle.pipe_rules.specs.Laws.{FiltersGoDown}
+use Rattle.pipe_rules.specs.FilterLaws.{FiltersGoDown}
 use Rattle.pipe_rules.proofs.Filters.{all-always, all-of, all-both, all-tested, filter-map, filter-append, filter-flat, filter-whole, filter-constant, filter-swap}
 use Rattle.pipe_rules.proofs.Renamed.{value-renamed, value-same}
 use Rattle.pipe_rules.proofs.Under.{named-under, same-name, each-known}

@@ -4,9 +4,9 @@ use Rattle.std.specs.Prelude.{◌||◌}
 use Rattle.std.specs.List.{AllByRecursion}
 use Rattle.std.proofs.lemmas.Bool.Decides.{Decides-eqb}
 use Rattle.pipe_frame.specs.Frame.{Table}
-use Rattle.pipe_frame.specs.Rows.{Row}
-use Rattle.pipe_frame.specs.Schema.{first_unknown, has_name, names_of}
-use Rattle.pipe_frame.specs.declared.field.Field.{Field}
+use Rattle.pipe_schema.specs.Rows.{Row}
+use Rattle.pipe_schema.specs.Schema.{first_unknown, has_name, names_of}
+use Rattle.pipe_schema.specs.declared.field.Field.{Field}
 use Rattle.pipe_expr.specs.Formula.{Formula}
 use Rattle.pipe_expr.specs.Types.{columns_in}
 use Rattle.pipe_expr.specs.Projections.{passes, filter_rows}
@@ -20,8 +20,8 @@ use Rattle.pipe_plan.specs.Under.{inputs_of}
 use Rattle.pipe_plan.specs.Schemas.{node_schema, join_over}
 use Rattle.pipe_plan.specs.PlanRows.{node_rows}
 use Rattle.pipe_plan.specs.declared.ir.PlanSlice.{PlanSlice}
-use Rattle.pipe_typing.specs.Fits.{FitsRow, FitRows}
-use Rattle.pipe_typing.proofs.Lists.{all-filter}
+use Rattle.pipe_laws.specs.Fits.{FitsRow, FitRows}
+use Rattle.pipe_laws.proofs.Lists.{all-filter}
 use Rattle.pipe_rules.specs.Conjuncts.{passes_each, filter_each}
 use Rattle.pipe_rules.specs.Placing.{Placing, Above, OnInputs, OnLeft, OnRight, reads_only, on_inputs_if, is_plain, is_passed_on, is_not_in, on_left_or, on_right_or, below_join, below_slice, on_right, right_name, plain_name}
 use Rattle.pipe_rules.specs.Names.{with_names}

@@ -2,8 +2,8 @@
 use Rattle.std.proofs.Common.{◌≡◌, ℕ, List, refl, ap, sym, ◌∙◌}
 use Rattle.std.specs.Ordering.{is_eq, is_ne, is_lt, is_le, is_gt, is_ge}
 use Rattle.std.specs.List.{AllByRecursion}
-use Rattle.pipe_frame.specs.Rows.{Row}
-use Rattle.pipe_frame.specs.declared.field.Field.{Field}
+use Rattle.pipe_schema.specs.Rows.{Row}
+use Rattle.pipe_schema.specs.declared.field.Field.{Field}
 use Rattle.pipe_expr.specs.Formula.{Formula, Column, Literal, Add, Sub, Mul, Eq, NotEq, Lt, LtEq, Gt, GtEq, And, Or, Not, IsNull, IsNotNull}
 use Rattle.pipe_expr.specs.Types.{columns_in, type_of, type_of_column, arithmetic_type, comparison_type, logic_type, not_type, null_test_type}
 use Rattle.pipe_expr.specs.Values.{value_of, named_cell, sum_of, difference_of, product_of, compared, both_of, either_of, opposite_of, is_missing, is_present}
@@ -76,7 +76,7 @@ module _ (name_for : List ℕ → List ℕ) where
   type-renamed (IsNull a) s t h = ap null_test_type (type-renamed a s t h)
   type-renamed (IsNotNull a) s t h = ap null_test_type (type-renamed a s t h)
 
--- the same of a formula as it is
+-- a formula has one value and type where the columns that it reads have
 pub value-same : (f : Formula) (below : List Field) (row : Row) (above : List Field) (made : Row) → AllByRecursion (λ name. named_cell below row name ≡ named_cell above made name) (columns_in f) → value_of f below row ≡ value_of f above made
 value-same f s r t u h = ap (λ g. value_of g s r) (sym (own-names f)) ∙ value-renamed (λ name. name) f s r t u h
 

@@ -5,9 +5,9 @@ use Rattle.std.specs.List.{list_any}
 use Rattle.std.specs.Cmp.Lexicographic.{pointwise}
 use Rattle.std.proofs.lemmas.Bool.Decides.{Decides-eqb}
 use Rattle.pipe_frame.specs.Frame.{Table}
-use Rattle.pipe_frame.specs.Rows.{Row}
-use Rattle.pipe_frame.specs.Schema.{has_name, names_of, first_repeated, first_unknown}
-use Rattle.pipe_frame.specs.declared.field.Field.{Field}
+use Rattle.pipe_schema.specs.Rows.{Row}
+use Rattle.pipe_schema.specs.Schema.{has_name, names_of, first_repeated, first_unknown}
+use Rattle.pipe_schema.specs.declared.field.Field.{Field}
 use Rattle.pipe_expr.specs.Formula.{Formula, NamedFormula}
 use Rattle.pipe_expr.specs.Types.{columns_in, type_of}
 use Rattle.pipe_expr.specs.Projections.{fields_named, select_fields, expr_named, expr_field, new_exprs, hstack_fields, renamed_field, function_fields}
@@ -24,7 +24,7 @@ use Rattle.pipe_plan.specs.declared.ir.PlanSlice.{PlanSlice}
 use Rattle.pipe_rules.specs.Names.{with_names}
 use Rattle.pipe_rules.specs.Placing.{Placing, Above, OnInputs, OnLeft, OnRight, reads_only, on_inputs_if, is_plain, plain_name, is_replacing, is_passed_on, old_name, is_not_in, right_name, on_left_or, on_right_or, below_join, below_slice}
 use Rattle.pipe_rules.specs.Placed.{placing_at, is_input, IsReady, HasTypeOf}
-use Rattle.pipe_rules.specs.Laws.{TypesGoDown}
+use Rattle.pipe_rules.specs.FilterLaws.{TypesGoDown}
 use Rattle.pipe_rules.proofs.Filters.{all-of, all-both, all-tested}
 use Rattle.pipe_rules.proofs.Renamed.{type-renamed, type-same}
 use Rattle.pipe_rules.proofs.Under.{each-known}

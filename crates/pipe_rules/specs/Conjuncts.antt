@@ -1,8 +1,8 @@
 -- The conjuncts of a predicate: its parts joined by `And` at the top.
 use Rattle.std.specs.Prelude.{List, [], ◌∷◌, ◌++◌, Bool, filter}
 use Rattle.std.specs.List.{list_all, flat_map}
-use Rattle.pipe_frame.specs.Rows.{Row}
-use Rattle.pipe_frame.specs.declared.field.Field.{Field}
+use Rattle.pipe_schema.specs.Rows.{Row}
+use Rattle.pipe_schema.specs.declared.field.Field.{Field}
 use Rattle.pipe_expr.specs.Formula.{Formula, Column, Literal, Add, Sub, Mul, Eq, NotEq, Lt, LtEq, Gt, GtEq, And, Or, Not, IsNull, IsNotNull}
 use Rattle.pipe_expr.specs.Projections.{passes}
 

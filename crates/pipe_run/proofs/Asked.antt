@@ -1,6 +1,6 @@
 -- How often a stop check was asked, and how often it said yes.
 use Rattle.std.proofs.Common.{◌≡◌, ℕ, ◌+◌, inl, inr, Bool, true, false, if◌then◌else◌, arith}
-use Rattle.pipe_frame.specs.Counts.{last_count, counted, Counts}
+use Rattle.pipe_schema.specs.Counts.{last_count, counted, Counts}
 
 counts-pick : (t : Bool) (n k a b c : ℕ) → Counts n a b → c ≡ (if t then last_count else (b + k)) → Counts (n + k) a c
 counts-pick true n k a b c known e = inr (omega (arith, e))

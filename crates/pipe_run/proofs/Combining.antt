@@ -3,8 +3,8 @@ use Rattle.std.proofs.Common.{◌≡◌, ℕ, List, [], ◌∷◌, ◌++◌, len
 use Rattle.std.specs.List.{flat_map}
 use Rattle.std.proofs.lemmas.List.{reverse-reverse, reverse-append}
 use Rattle.std.proofs.lemmas.List.Concat.{flat_map-append}
-use Rattle.pipe_frame.specs.Counts.{counted, Counts}
-use Rattle.pipe_frame.specs.Rows.{Row, Same}
+use Rattle.pipe_schema.specs.Counts.{counted, Counts}
+use Rattle.pipe_schema.specs.Rows.{Row, Same}
 use Rattle.pipe_run.specs.declared.lane.Lane.{Lane}
 use Rattle.pipe_run.specs.Gathered.{FirstCombined}
 use Rattle.pipe_run.specs.Lanes.{held_in}

@@ -3,13 +3,13 @@ use Rattle.std.proofs.Common.{◌≡◌, ℕ, zero, suc, ◌+◌, ◌-◌, ◌<�
 use Rattle.std.proofs.lemmas.Bool.{ltb-true, ltb-false}
 use Rattle.std.specs.List.{flat_map, range_with_len}
 use Rattle.std.proofs.lemmas.List.Concat.{flat_map-append}
-use Rattle.pipe_frame.specs.Rows.{Row, Same, Within}
-use Rattle.pipe_frame.specs.Weights.{total as rows_total}
-use Rattle.pipe_frame.proofs.Weights.{total-flat_map, Same-from_bag}
+use Rattle.pipe_schema.specs.Rows.{Row, Same, Within}
+use Rattle.pipe_schema.specs.Weights.{total as rows_total}
+use Rattle.pipe_schema.proofs.Weights.{total-flat_map, Same-from_bag}
 use Rattle.pipe_ops.specs.declared.source.Morsel.{Morsel}
 use Rattle.pipe_words.specs.Sums.{total, SameItems}
 use Rattle.pipe_words.proofs.SumLemmas.{total-append}
-use Rattle.pipe_frame.specs.declared.field.Field.{Field}
+use Rattle.pipe_schema.specs.declared.field.Field.{Field}
 use Rattle.pipe_run.specs.Claimed.{rows_at, past, Lot, chunks_lot, parts_lot, entries_for_part, rows_of_lot}
 use Rattle.pipe_run.specs.Dealt.{in_all, rows_of_all}
 use Rattle.pipe_run.specs.Flushes.{rows_of_parts}

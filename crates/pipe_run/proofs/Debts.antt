@@ -1,10 +1,10 @@
 -- What is owed shrinks with each answer after which more is to come.
 use Rattle.std.proofs.Common.{◌≡◌, ℕ, ◌+◌, ◌<◌, List, [], ◌∷◌, length, refl, arith}
 use Rattle.std.specs.List.{flat_map}
-use Rattle.pipe_frame.specs.Rows.{Row}
+use Rattle.pipe_schema.specs.Rows.{Row}
 use Rattle.pipe_frame.specs.declared.chunk.DataChunk.{DataChunk}
-use Rattle.pipe_frame.specs.Weights.{total}
-use Rattle.pipe_frame.proofs.Weights.{total-append}
+use Rattle.pipe_schema.specs.Weights.{total}
+use Rattle.pipe_schema.proofs.Weights.{total-append}
 use Rattle.pipe_ops.specs.declared.operator.OperatorResult.TheVariants.{HaveMoreOutPut}
 use Rattle.pipe_chain.specs.Flow.{Work, Acts}
 use Rattle.pipe_chain.specs.Executed.{Owed, Executed}

@@ -6,7 +6,7 @@ use Rattle.std.proofs.lemmas.List.Elements.{All-map}
 use Rattle.atomic_table.specs.Seated.{TableId}
 use Rattle.std.specs.declared.vec.Vec.{Vec}
 use Rattle.std.specs.declared.alloc.Global.{Global}
-use Rattle.pipe_frame.specs.declared.field.Field.{Field}
+use Rattle.pipe_schema.specs.declared.field.Field.{Field}
 use Rattle.pipe_ops.specs.declared.sink.Sink.{Ghosts as SinkWords}
 use Rattle.pipe_words.specs.Claims.{SeatClaims, fresh_claimant}
 use Rattle.pipe_chain.specs.declared.operator.Operator.{Ghosts as OperatorWords}
@@ -16,7 +16,7 @@ use Rattle.pipe_run.specs.declared.stage.Refusal.TheVariants.{Memory}
 use Rattle.pipe_run.specs.declared.stage.Stage.{Stage}
 use Rattle.pipe_run.specs.Flushes.{flushed_at, flushed_by, IsFlusher, HasFlusher, IsFlushFit, IsOwnFit}
 use Rattle.pipe_run.specs.Seats.{seated, unseated}
-use Rattle.pipe_frame.specs.Rows.{Row}
+use Rattle.pipe_schema.specs.Rows.{Row}
 use Rattle.pipe_run.specs.Lanes.{IsCalm, IsFit, SameLane, Ran}
 use Rattle.pipe_run.specs.Stages.{Flushed}
 use Rattle.pipe_run.proofs.ClaimSteps.{fit-noted}

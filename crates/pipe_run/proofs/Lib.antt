@@ -12,3 +12,12 @@ pub mod SeatSteps
 pub mod Splits
 pub mod FlushSteps
 pub mod Combining
+pub mod Places
+pub mod NotedRounds
+pub mod Sources
+pub mod Parts
+pub mod Kept
+pub mod GoingOn
+pub mod Few
+pub mod BatchSteps
+pub mod Going

@@ -1,10 +1,10 @@
 -- Rows on their way through operators, with counts: all the way, and a part of it.
 use Rattle.std.proofs.Common.{◌∙◌, sym, ◌≡◌, ℕ, ◌+◌, ◌<◌, List, [], ◌∷◌, ◌++◌, length, refl, ap, arith, inl, inr, append-nil}
 use Rattle.std.specs.List.{flat_map}
-use Rattle.pipe_frame.specs.Rows.{Row, Same, Within}
+use Rattle.pipe_schema.specs.Rows.{Row, Same, Within}
 use Rattle.pipe_frame.specs.declared.chunk.DataChunk.{DataChunk}
-use Rattle.pipe_frame.specs.Weights.{total}
-use Rattle.pipe_frame.proofs.Weights.{total-append, total-flat_map}
+use Rattle.pipe_schema.specs.Weights.{total}
+use Rattle.pipe_schema.proofs.Weights.{total-append, total-flat_map}
 use Rattle.pipe_ops.specs.declared.operator.OperatorResult.TheVariants.{NeedsNewData, HaveMoreOutPut, Finished}
 use Rattle.pipe_chain.specs.Keys.{SameKeys, WithinKeys}
 use Rattle.pipe_chain.specs.Flow.{Work, Acts, no_acts, both_acts, made, Flows, nothing, added, Grown, AllGrown, Few, AllFew}

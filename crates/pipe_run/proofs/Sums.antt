@@ -1,7 +1,7 @@
 -- Counts of all lanes, and the least lane's refusal.
 use Rattle.std.proofs.Common.{◌≡◌, ℕ, zero, suc, ◌+◌, ◌-◌, ◌<◌, ◌≤◌, inl, inr, List, [], ◌∷◌, length, get_or, drop, refl, ap, sym, ◌∙◌, subst, arith, deque_len, length-append, drop-cons}
 use Rattle.std.specs.List.{All, flat_map}
-use Rattle.pipe_frame.specs.Rows.{Row}
+use Rattle.pipe_schema.specs.Rows.{Row}
 use Rattle.pipe_run.specs.declared.stage.Stage.{Stage}
 use Rattle.pipe_run.specs.declared.stage.Basin.{Basin}
 use Rattle.pipe_run.specs.declared.stage.Refusal.{Refusal}

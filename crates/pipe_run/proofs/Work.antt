@@ -1,6 +1,6 @@
 -- Operators that do the same work as others.
 use Rattle.std.proofs.Common.{◌≡◌, List, [], ◌∷◌, length, refl, ap, sym, ◌∙◌, subst, arith}
-use Rattle.pipe_frame.specs.declared.field.Field.{Field}
+use Rattle.pipe_schema.specs.declared.field.Field.{Field}
 use Rattle.pipe_chain.specs.Flow.{Work}
 use Rattle.pipe_chain.specs.Chain.{works_of, acts_of, IsChain, Serves, AllServe, SameOne, EachSame, SameWork}
 use Rattle.pipe_chain.specs.declared.operator.Operator.{Ghosts as OperatorWords}

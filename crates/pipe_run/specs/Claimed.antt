@@ -2,8 +2,8 @@
 use Rattle.std.specs.Prelude.{◌≡◌, ℕ, zero, suc, ◌<◌, List, [], ◌∷◌, ◌++◌, length, Option, Some, None, cond, ltb}
 use Rattle.std.specs.List.{flat_map, range_with_len}
 use Rattle.atomic_table.specs.Seated.{TableId}
-use Rattle.pipe_frame.specs.Rows.{Row}
-use Rattle.pipe_frame.specs.declared.field.Field.{Field}
+use Rattle.pipe_schema.specs.Rows.{Row}
+use Rattle.pipe_schema.specs.declared.field.Field.{Field}
 use Rattle.pipe_chain.specs.declared.operator.Operator.{Ghosts as OperatorWords}
 use Rattle.pipe_ops.specs.declared.sink.Sink.{Ghosts as SinkWords}
 use Rattle.pipe_ops.specs.declared.source.Morsel.{Morsel}

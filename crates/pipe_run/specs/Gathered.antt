@@ -1,8 +1,8 @@
 -- How far the sinks of lanes were combined when the stop check said yes.
 use Rattle.std.specs.Prelude.{◌≡◌, ℕ, ◌+◌, List, ◌++◌, length}
 use Rattle.std.specs.List.{flat_map}
-use Rattle.pipe_frame.specs.Counts.{Counts}
-use Rattle.pipe_frame.specs.Rows.{Row, Same}
+use Rattle.pipe_schema.specs.Counts.{Counts}
+use Rattle.pipe_schema.specs.Rows.{Row, Same}
 use Rattle.pipe_run.specs.declared.lane.Lane.{Lane}
 use Rattle.pipe_run.specs.Lanes.{held_in}
 

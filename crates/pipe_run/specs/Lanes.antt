@@ -1,8 +1,8 @@
 -- Lanes: what holds of one between two chunks, and what it did with some rows.
 use Rattle.std.specs.Prelude.{◌≡◌, ℕ, ◌≤◌, List, length, Option, Some, None}
 use Rattle.std.specs.List.{AllByRecursion}
-use Rattle.pipe_frame.specs.Rows.{Row}
-use Rattle.pipe_frame.specs.declared.field.Field.{Field}
+use Rattle.pipe_schema.specs.Rows.{Row}
+use Rattle.pipe_schema.specs.declared.field.Field.{Field}
 use Rattle.pipe_ops.specs.declared.sink.Sink.{Ghosts as SinkWords}
 use Rattle.pipe_chain.specs.Flow.{Work, Acts}
 use Rattle.pipe_chain.specs.Chain.{works_of, acts_of, IsChain, AllServe, SameWork}

@@ -16,3 +16,15 @@ pub mod Opens
 pub mod Flushes
 -- how far sinks were combined
 pub mod Gathered
+-- what lanes noted in a round, and as events
+pub mod Notes
+-- a round whose lanes' notes went behind others
+pub mod Noted
+-- what a source gave, round by round
+pub mod NotedRounds
+-- how often workers take to a question
+pub mod Paced
+-- the laws
+pub mod Laws
+-- rounds one after another, until a source is out
+pub mod Rounds

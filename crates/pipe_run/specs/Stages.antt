@@ -1,7 +1,7 @@
 -- Stages: what a lane has of a pipeline, with counts of rows, and why it stopped.
 use Rattle.std.specs.Prelude.{◌≡◌, ℕ, List, [], ◌∷◌, length}
-use Rattle.pipe_frame.specs.Rows.{Row}
-use Rattle.pipe_frame.specs.declared.field.Field.{Field}
+use Rattle.pipe_schema.specs.Rows.{Row}
+use Rattle.pipe_schema.specs.declared.field.Field.{Field}
 use Rattle.pipe_chain.specs.Flow.{Work, Acts}
 use Rattle.pipe_chain.specs.Counts.{plus, Over, Broke}
 use Rattle.pipe_chain.specs.declared.operator.Operator.{Ghosts as OperatorWords}

@@ -15,8 +15,8 @@ use crate::entry::Entry;
 use crate::lane::Lane;
 use crate::stage::{Basin, Refusal, Stage};
 use pipe_chain::{FlushParts, Operator};
-use pipe_frame::Gate;
 use pipe_ops::{PExecutionContext, Sink};
+use pipe_schema::Gate;
 use pipe_words::Claims;
 use std::alloc::{AllocError, Global};
 

@@ -2,8 +2,8 @@
 
 ghost use Rattle.std.specs.Prelude.{◌≡◌, ◌+◌, ◌≤◌, ◌++◌, length, All, IfOk, Err, true, vec_len};
 ghost use Rattle.std.specs.List.{flat_map};
-ghost use Rattle.pipe_frame.specs.Counts.{Counts};
-ghost use Rattle.pipe_frame.specs.Rows.{Same};
+ghost use Rattle.pipe_schema.specs.Counts.{Counts};
+ghost use Rattle.pipe_schema.specs.Rows.{Same};
 ghost use Rattle.pipe_run.specs.Gathered.{FirstCombined};
 ghost use Rattle.pipe_run.specs.Halts.{stops};
 ghost use Rattle.pipe_run.specs.Lanes.{IsSet, held_in};
@@ -12,8 +12,8 @@ use crate::halt::Halt;
 use crate::lane::Lane;
 use crate::stage::{Basin, Refusal};
 use pipe_chain::Operator;
-use pipe_frame::StopCheck;
 use pipe_ops::Sink;
+use pipe_schema::StopCheck;
 use std::alloc::Global;
 
 /// Combines the sinks of all lanes into one, in the order of the lanes. The stop check is asked before each of them.

@@ -2,7 +2,7 @@
 
 ghost use Rattle.std.specs.Prelude.{◌≡◌, List, [], All, IfOk, vec_len};
 ghost use Rattle.std.specs.List.{flat_map};
-ghost use Rattle.pipe_frame.specs.declared.field.Field.{Field};
+ghost use Rattle.pipe_schema.specs.declared.field.Field.{Field};
 ghost use Rattle.pipe_chain.specs.Chain.{works_of, IsChain, AllSuit};
 ghost use Rattle.pipe_chain.specs.Counts.{AllWithin};
 ghost use Rattle.pipe_chain.specs.Flow.{nothing};

@@ -2,15 +2,16 @@
 
 ghost use Rattle.std.specs.Prelude.{◌≡◌, ◌+◌, ◌≤◌, List, [], ◌∷◌, ◌++◌, length, IfOk, IfErr};
 ghost use Rattle.std.specs.List.{AllByRecursion};
-ghost use Rattle.pipe_frame.specs.Rows.{Same};
+ghost use Rattle.pipe_schema.specs.Rows.{Same};
 ghost use Rattle.pipe_chain.specs.Chain.{works_of, acts_of, IsChain, AllServe, SameWork};
 ghost use Rattle.pipe_chain.specs.Counts.{AllWithin, Went};
 ghost use Rattle.pipe_run.specs.Stages.{operators_of, nodes_of, counts, IsOver, IsOverAbove};
 
 use crate::stage::{Basin, Refusal, Stage, count};
 use pipe_chain::Operator;
-use pipe_frame::{DataChunk, TryClone};
+use pipe_frame::DataChunk;
 use pipe_ops::{OperatorResult, PExecutionContext, Sink};
+use pipe_schema::TryClone;
 use std::alloc::Global;
 
 /// Pushes a chunk through operators into a sink. Each operator has begun nothing, takes what the one before it
@@ -66,7 +67,7 @@ pub fn push<O: Operator, K: Sink>(
         others,
         &mut stage.operator,
         rest,
-        &chunk,
+        chunk,
         basin,
     )
 }
@@ -101,7 +102,7 @@ fn fill<K: Sink>(
     }
 }
 
-/// Pushes the pieces that an operator makes of a chunk.
+/// Pushes the pieces that an operator makes of a chunk, which is given back before the last of them goes on.
 #[cycle(push)]
 fn pump<O: Operator, K: Sink>(
     alloc: Global,
@@ -110,15 +111,15 @@ fn pump<O: Operator, K: Sink>(
     others: &[O::Shared],
     operator: &mut O,
     rest: &mut [Stage<O>],
-    chunk: &DataChunk,
+    chunk: DataChunk,
     basin: &mut Basin<K>,
 ) -> Result<(), Refusal>
     requires idle { AllByRecursion O.idle (operator.old ∷ operators_of rest.old) }
     requires serves { AllServe O.Operator (operator.old ∷ operators_of rest.old)
         (own.now ∷ others.now) }
-    requires chain { IsChain O.Operator chunk.now.frame.schema
+    requires chain { IsChain O.Operator chunk.frame.schema
         (operator.old ∷ operators_of rest.old) (K.schema basin.old.sink) }
-    requires size { length chunk.now.frame.rows ≤ context.now.row_limit }
+    requires size { length chunk.frame.rows ≤ context.now.row_limit }
     requires within { AllWithin context.now.row_limit (counts rest.old basin.old) }
     requires held { length (K.held basin.old.sink) ≤ basin.old.given }
     ensures work { SameWork O.Operator (operator.old ∷ operators_of rest.old)
@@ -131,20 +132,20 @@ fn pump<O: Operator, K: Sink>(
     ensures within { IfOk result (λ _. AllWithin context.now.row_limit
         (counts rest.new basin.new)) }
     ensures room { IfOk result (λ _. length (K.held basin.new.sink) ≤ basin.new.given) }
-    ensures went { IfOk result (λ _. Went (works_of O.Operator chunk.now.frame.schema
+    ensures went { IfOk result (λ _. Went (works_of O.Operator chunk.frame.schema
         (operator.old ∷ operators_of rest.old) (own.now ∷ others.now))
         (acts_of O.Operator (operator.old ∷ operators_of rest.old))
         (acts_of O.Operator (operator.new ∷ operators_of rest.new))
-        (0 ∷ counts rest.old basin.old) (length chunk.now.frame.rows ∷ counts rest.new basin.new)
-        chunk.now.frame.rows (K.held basin.old.sink) (K.held basin.new.sink)) }
+        (0 ∷ counts rest.old basin.old) (length chunk.frame.rows ∷ counts rest.new basin.new)
+        chunk.frame.rows (K.held basin.old.sink) (K.held basin.new.sink)) }
     ensures over { IfErr result (IsOverAbove context.now.row_limit (works_of O.Operator
-        chunk.now.frame.schema (operator.old ∷ operators_of rest.old) (own.now ∷ others.now))
+        chunk.frame.schema (operator.old ∷ operators_of rest.old) (own.now ∷ others.now))
         (acts_of O.Operator (operator.old ∷ operators_of rest.old))
         (acts_of O.Operator (operator.new ∷ operators_of rest.new))
-        (counts rest.old basin.old) (nodes_of rest.old basin.old) chunk.now.frame.rows) }
+        (counts rest.old basin.old) (nodes_of rest.old basin.old) chunk.frame.rows) }
 {
     loop {
-        let Ok(answer) = operator.execute(alloc, context, own, chunk) else {
+        let Ok(answer) = operator.execute(alloc, context, own, &chunk) else {
             return Err(Refusal::Memory);
         };
         match answer {
@@ -153,6 +154,7 @@ fn pump<O: Operator, K: Sink>(
                 push(alloc, context, others, rest, piece, basin)?
             }
             OperatorResult::Finished(piece) => {
+                drop(chunk);
                 return push(alloc, context, others, rest, piece, basin);
             }
         }
@@ -193,26 +195,8 @@ pub fn push_shared<O: Operator, K: Sink>(
         (acts_of O.Operator (operators_of stages.old)) (acts_of O.Operator (operators_of stages.new))
         (counts stages.old basin.old) (nodes_of stages.old basin.old) chunk.now.frame.rows) }
 {
-    let Some((stage, rest)) = stages.split_first_mut() else {
-        let Ok(own) = chunk.try_clone() else {
-            return Err(Refusal::Memory);
-        };
-        return fill(alloc, context, own, basin);
+    let Ok(held) = chunk.try_clone() else {
+        return Err(Refusal::Memory);
     };
-    let Some((own, others)) = shared.split_first() else {
-        unreachable!()
-    };
-    if !count(context, &mut stage.given, chunk.frame.height()) {
-        return Err(Refusal::TooMany(stage.node));
-    }
-    pump(
-        alloc,
-        context,
-        own,
-        others,
-        &mut stage.operator,
-        rest,
-        chunk,
-        basin,
-    )
+    push(alloc, context, shared, stages, held, basin)
 }

@@ -1,10 +1,10 @@
 -- The length of the same rows; the counts of a stop check over runs one after another.
 use Rattle.std.proofs.Common.{◌≡◌, ℕ, ◌+◌, ◌≤◌, List, [], ◌∷◌, length, inl, inr, refl, arith}
 use Rattle.pipe_exec.specs.Runs.{Stays}
-use Rattle.pipe_frame.specs.Counts.{Counts, Rises}
-use Rattle.pipe_frame.specs.Rows.{Row, Same}
-use Rattle.pipe_frame.specs.Weights.{total}
-use Rattle.pipe_frame.proofs.Weights.{SameBag-from_rows}
+use Rattle.pipe_schema.specs.Counts.{Counts, Rises}
+use Rattle.pipe_schema.specs.Rows.{Row, Same}
+use Rattle.pipe_schema.specs.Weights.{total}
+use Rattle.pipe_schema.proofs.Weights.{SameBag-from_rows}
 
 total-length : (rows : List Row) → total (λ row. 1) rows ≡ length rows
 total-length [] = refl

@@ -10,12 +10,12 @@
 use Rattle.std.specs.Prelude.{ℕ, zero, suc, pos, ◌+◌, ◌*◌, ◌/◌, ◌%◌, ◌^◌, ◌==◌, List, [], ◌∷◌, codes, map, if◌then◌else◌}
 use Rattle.std.specs.List.{range_with_len}
 use Rattle.pipe_frame.specs.Frame.{Table}
-use Rattle.pipe_frame.specs.Rows.{Row}
-use Rattle.pipe_frame.specs.Series.{Cells, named_cells}
-use Rattle.pipe_frame.specs.declared.any_value.AnyValue.{AnyValue}
-use Rattle.pipe_frame.specs.declared.any_value.AnyValue.TheVariants as cell
-use Rattle.pipe_frame.specs.declared.data_type.DataType.TheVariants as dtype
-use Rattle.pipe_frame.specs.declared.field.Field.{Field}
+use Rattle.pipe_schema.specs.Rows.{Row}
+use Rattle.pipe_column.specs.Series.{Cells, named_cells}
+use Rattle.pipe_schema.specs.declared.any_value.AnyValue.{AnyValue}
+use Rattle.pipe_schema.specs.declared.any_value.AnyValue.TheVariants as cell
+use Rattle.pipe_schema.specs.declared.data_type.DataType.TheVariants as dtype
+use Rattle.pipe_schema.specs.declared.field.Field.{Field}
 
 -- the state after a state: Knuth's linear congruential generator for 64 bits (MMIX; The Art of Computer Programming,
 -- volume 2, section 3.3.4)
@@ -57,7 +57,7 @@ frame_from start name rows = record {
   rows = map (row_of start rows) (range_with_len 0 rows);
 }
 
--- the same by its columns
+-- the columns of such a table
 abbrev pub columns_from : (start : ℕ) → List ℕ → (rows : ℕ) → List Cells
 columns_from start name rows =
     named_cells (codes "k") dtype.Int64 (map (key_at start rows) (range_with_len 0 rows))

@@ -2,10 +2,12 @@
 
 ghost use Rattle.std.specs.Prelude.{◌≡◌, ◌∷◌, [], map, IfOk};
 ghost use Rattle.std.specs.List.{range_with_len};
-ghost use Rattle.pipe_frame.specs.Cell.{int64_cell};
+ghost use Rattle.pipe_schema.specs.Cell.{int64_cell};
 ghost use Rattle.pipe_selftest.specs.Frames.{columns_from, frame_from, key_at, key_of, left_frame, next, number_at, right_frame, state_after};
 
-use pipe_frame::{Column, DataFrame, List, Series, Text};
+use pipe_column::{Column, Series};
+use pipe_frame::DataFrame;
+use pipe_schema::{List, Text};
 use std::alloc::{AllocError, Global};
 
 /// What a state is multiplied by.

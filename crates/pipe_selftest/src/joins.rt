@@ -6,8 +6,8 @@ ghost use Rattle.pipe_plan.specs.Node.{node_of};
 ghost use Rattle.pipe_selftest.specs.Joins.{hint, join, left_scan, nodes, options, right_scan};
 
 use pipe_expr::{Expr, JoinCoalesce, JoinType};
-use pipe_frame::{List, Text};
 use pipe_plan::{IR, JoinOptions, RowsHint};
+use pipe_schema::{List, Text};
 use std::alloc::{AllocError, Global};
 
 /// The number of the left frame.

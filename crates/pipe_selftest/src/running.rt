@@ -5,7 +5,7 @@ ghost use Rattle.pipe_driver.specs.Within.{AllWithin};
 ghost use Rattle.pipe_exec.specs.Evaluated.{EndsWith, stops};
 ghost use Rattle.pipe_exec.specs.Runs.{IsMemory, Stays};
 ghost use Rattle.pipe_exec.specs.Sound.{IsSound};
-ghost use Rattle.pipe_frame.specs.Counts.{Counts, Rises};
+ghost use Rattle.pipe_schema.specs.Counts.{Counts, Rises};
 ghost use Rattle.pipe_plan.specs.Plan.{plan_of};
 ghost use Rattle.pipe_plan.specs.PlanRows.{rows_of};
 ghost use Rattle.pipe_selftest.specs.Ends.{Ends, IsWithin};
@@ -14,8 +14,8 @@ ghost use Rattle.pipe_selftest.specs.Lines.{rows_at};
 
 use crate::arena::selftest_arena;
 use pipe_exec::run_plan;
-use pipe_frame::{Gate, StopCheck};
 use pipe_plan::{Arena, PipeConfig, PipeError};
+use pipe_schema::{Gate, StopCheck};
 use std::alloc::Global;
 use std::thread::Threads;
 

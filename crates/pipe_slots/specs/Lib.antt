@@ -1,3 +1,6 @@
+pub mod Sinks
+pub mod SinkLaws
+pub mod SinkWords
 -- which probe a join has
 pub mod Kinds
 -- places of probes

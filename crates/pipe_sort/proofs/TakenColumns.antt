@@ -2,12 +2,13 @@
 use Rattle.std.proofs.Common.{◌≡◌, ℕ, ◌+◌, ◌<◌, List, [], ◌∷◌, length, map, refl, ap, sym, subst, ◌∙◌, arith}
 use Rattle.std.specs.Prelude.{All}
 use Rattle.std.proofs.lemmas.List.{length-map}
-use Rattle.pipe_frame.specs.Rows.{Row}
-use Rattle.pipe_frame.specs.Schema.{IsSchema}
-use Rattle.pipe_frame.specs.declared.field.Field.{Field}
-use Rattle.pipe_frame.specs.Series.{Cells, cell_at}
-use Rattle.pipe_frame.specs.Frame.{Table, AllOfHeight, field_of, column_rows, table_of, height_of, columns_of, columns_from, chosen, chosen_columns}
-use Rattle.pipe_frame.proofs.NamePlaces.{some_field}
+use Rattle.pipe_schema.specs.Rows.{Row}
+use Rattle.pipe_schema.specs.Schema.{IsSchema}
+use Rattle.pipe_schema.specs.declared.field.Field.{Field}
+use Rattle.pipe_column.specs.Series.{Cells, cell_at}
+use Rattle.pipe_column.specs.Columns.{AllOfHeight, field_of, column_rows, height_of, chosen_columns}
+use Rattle.pipe_frame.specs.Frame.{Table, table_of, columns_of, columns_from, chosen}
+use Rattle.pipe_schema.proofs.NamePlaces.{some_field}
 use Rattle.pipe_frame.proofs.Tables.{fields-chosen, even-chosen, table_taken}
 
 -- columns are those of a frame

@@ -1,7 +1,7 @@
 //! What a sort is told: its keys, and the part of the sorted list that it keeps.
 
-use pipe_frame::TryClone;
 use pipe_rows::SortField;
+use pipe_schema::TryClone;
 use std::alloc::AllocError;
 
 /// A key: a column by its place, and how its cells are ordered.

@@ -3,13 +3,14 @@
 ghost use Rattle.std.specs.Prelude.{◌≡◌, ℕ, ◌≤◌, ◌<◌, ◌^◌, List, [], length, All, IfOk};
 ghost use Rattle.std.specs.List.{flat_map};
 ghost use Rattle.pipe_frame.specs.Chunks.{HasSchema, chunk_rows, chunks_table};
-ghost use Rattle.pipe_frame.specs.declared.field.Field.{Field};
+ghost use Rattle.pipe_schema.specs.declared.field.Field.{Field};
 ghost use Rattle.pipe_sort.specs.SortKeys.{AreWithin, Settings, Sorting, may_end};
 
 use crate::key::{SortKey, SortSlice};
 use crate::sorted::{sorted_frame, sorted_frame_on};
-use pipe_frame::{DataChunk, DataFrame, List, Schema, TryClone, chunks_to_df_unchecked};
+use pipe_frame::{DataChunk, DataFrame, chunks_to_df_unchecked};
 use pipe_ops::{FinalizedSink, PExecutionContext, Sink, SinkResult};
+use pipe_schema::{List, Schema, TryClone};
 use std::alloc::{AllocError, Global};
 use std::marker::Model;
 use std::mem::replace;

@@ -1,9 +1,12 @@
 //! The rows of a frame at some places, its columns on threads.
 
 ghost use Rattle.std.specs.Prelude.{◌≡◌, ℕ, ◌<◌, length, map, All, IfOk, Some, Ok, slice_get, slice_index_or};
-ghost use Rattle.pipe_frame.specs.Frame.{AllOfHeight, chosen, chosen_columns};
+ghost use Rattle.pipe_column.specs.Columns.{AllOfHeight, chosen_columns};
+ghost use Rattle.pipe_frame.specs.Frame.{chosen};
 
-use pipe_frame::{DataFrame, Series, TryClone};
+use pipe_column::Series;
+use pipe_frame::DataFrame;
+use pipe_schema::TryClone;
 use std::alloc::{AllocError, Global};
 use std::mem::replace;
 use std::thread::{self, Threads};

@@ -9,11 +9,11 @@ use Rattle.std.proofs.lemmas.List.Elements.{All-append}
 use Rattle.std.proofs.lemmas.List.Sorted.{IsNonDecreasingBy-push, IsNonDecreasingBy-short, IsPermutation-refl}
 use Rattle.pipe_frame.specs.Chunks.{HasSchema, chunk_rows}
 use Rattle.pipe_frame.specs.Frame.{Table}
-use Rattle.pipe_frame.specs.Rows.{Row}
+use Rattle.pipe_schema.specs.Rows.{Row}
 use Rattle.pipe_frame.specs.declared.chunk.DataChunk.{DataChunk}
-use Rattle.pipe_frame.specs.declared.field.Field.{Field}
+use Rattle.pipe_schema.specs.declared.field.Field.{Field}
 use Rattle.pipe_source.specs.Ordered.{index_in, IsByIndex, AreRowsByIndex}
-use Rattle.pipe_source.specs.Runs.{Run, IsRun, IsUpTo, HasRunSchema, height_in, cut_rows, chunks_in, chunks_of, run_of}
+use Rattle.pipe_source.specs.Runs.{Run, IsRun, IsUpTo, IsFrom, BeginsFrom, HasRunSchema, height_in, cut_rows, chunks_in, chunks_of, run_of}
 use Rattle.pipe_source.specs.declared.chunk_run.Piece.{Piece}
 
 -- one piece more
@@ -41,6 +41,20 @@ pub cut_schema : (schema : List Field) (rows : List Row) (pieces : List Piece) �
 cut_schema schema rows [] k d less = absurd (omega arith)
 cut_schema schema rows (p ∷ pieces) zero d less = refl
 cut_schema schema rows (p ∷ pieces) (suc k) d less = cut_schema schema (drop p.height rows) pieces k d (omega (arith, less))
+
+-- where the first piece has no lower index, no chunk has
+pub from_first : (schema : List Field) (rows : List Row) (pieces : List Piece) (first : ℕ) → BeginsFrom first pieces → IsNonDecreasingBy index_in (cut_rows schema rows pieces) → All (IsFrom first) (cut_rows schema rows pieces)
+from_first schema rows [] first begins rises k d less = absurd (omega (arith, less))
+from_first schema rows (p ∷ pieces) first begins rises k d less = omega (arith, begins, rises 0 k d (omega arith) less)
+
+-- the only piece is the frame
+pub only_piece : (schema : List Field) (rows : List Row) (pieces : List Piece) (piece : Piece) → length pieces ≡ 1 → piece ≡ slice_index_or pieces 0 piece → sum_by height_in pieces ≡ length rows
+    → cut_rows schema rows pieces ≡ record { chunk_index = piece.chunk_index; frame = record { schema = schema; rows = rows } } ∷ []
+only_piece schema rows [] piece one at whole = absurd (omega (arith, one))
+only_piece schema rows (p ∷ []) piece one at whole =
+    let high : p.height ≡ length rows = omega (arith, whole, sum_by-cons height_in p []) in
+    rw (at, high, take_all (length rows) rows (omega arith)) refl
+only_piece schema rows (p ∷ q ∷ pieces) piece one at whole = absurd (omega (arith, one))
 
 -- a run of one chunk
 pub run_of_one : (chunk : DataChunk) (piece : Piece) → piece.chunk_index ≡ chunk.chunk_index → piece.height ≡ length chunk.frame.rows

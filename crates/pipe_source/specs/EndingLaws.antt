@@ -1,7 +1,7 @@
 -- A sink around a sink ends alike, in whatever order rows came.
 use Rattle.std.proofs.Common.{List, Bool, true, false}
-use Rattle.pipe_frame.specs.Rows.{Row, Same}
-use Rattle.pipe_frame.specs.declared.field.Field.{Field}
+use Rattle.pipe_schema.specs.Rows.{Row, Same}
+use Rattle.pipe_schema.specs.declared.field.Field.{Field}
 use Rattle.pipe_source.specs.Endings.{Around, ends_by, may_end_around}
 
 ends_alike : (builds : Bool) (p q : List Row → Type 0) (given schema : List Field) (rows : List Row) → ((r : List Row) → p r → q r) → ends_by builds p given schema rows → ends_by builds q given schema rows

@@ -1,8 +1,8 @@
 -- What sinks around sources end as: the rows and the schemas of a source, and of a sink around a sink.
 use Rattle.std.specs.Prelude.{◌≡◌, List, Bool, true, false, All, map}
-use Rattle.pipe_frame.specs.Rows.{Row}
-use Rattle.pipe_frame.specs.Schema.{names_of}
-use Rattle.pipe_frame.specs.declared.field.Field.{Field}
+use Rattle.pipe_schema.specs.Rows.{Row}
+use Rattle.pipe_schema.specs.Schema.{names_of}
+use Rattle.pipe_schema.specs.declared.field.Field.{Field}
 use Rattle.pipe_expr.specs.Projections.{row_named}
 use Rattle.pipe_ops.specs.Batches.{Left}
 use Rattle.pipe_source.specs.Law.{all_rows}

@@ -1,7 +1,7 @@
 -- The law of sources: chunks joined in order, and then what is left, are the rows.
 use Rattle.std.specs.Prelude.{◌≡◌, ℕ, ◌<◌, ◌≤◌, List, ◌++◌, length}
 use Rattle.std.specs.List.{flat_map, AllByRecursion}
-use Rattle.pipe_frame.specs.Rows.{Row}
+use Rattle.pipe_schema.specs.Rows.{Row}
 use Rattle.pipe_ops.specs.Batches.{Left, batch, after_batch}
 use Rattle.pipe_ops.specs.declared.source.Morsel.{Morsel}
 use Rattle.pipe_source.specs.Morsels.{morsel_rows}

@@ -1,8 +1,8 @@
 -- Chunks on their way out of a source.
 use Rattle.std.specs.Prelude.{◌≡◌, ℕ, ◌+◌, ◌<◌, List, map}
 use Rattle.std.specs.List.{AllByRecursion}
-use Rattle.pipe_frame.specs.Rows.{Row}
-use Rattle.pipe_frame.specs.declared.field.Field.{Field}
+use Rattle.pipe_schema.specs.Rows.{Row}
+use Rattle.pipe_schema.specs.declared.field.Field.{Field}
 use Rattle.pipe_ops.specs.Each.{HasFields, reprojected}
 use Rattle.pipe_ops.specs.declared.source.Morsel.{Morsel}
 use Rattle.pipe_ops.specs.declared.source.SourceResult.{SourceResult}

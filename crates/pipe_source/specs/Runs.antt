@@ -3,9 +3,9 @@ use Rattle.std.specs.Prelude.{◌≡◌, ℕ, ◌≤◌, List, [], ◌∷◌, Al
 use Rattle.std.specs.List.{flat_map, sum_by}
 use Rattle.std.specs.List.Sorted.{IsNonDecreasingBy}
 use Rattle.pipe_frame.specs.Frame.{Table}
-use Rattle.pipe_frame.specs.Rows.{Row}
+use Rattle.pipe_schema.specs.Rows.{Row}
 use Rattle.pipe_frame.specs.declared.chunk.DataChunk.{DataChunk}
-use Rattle.pipe_frame.specs.declared.field.Field.{Field}
+use Rattle.pipe_schema.specs.declared.field.Field.{Field}
 use Rattle.pipe_source.specs.Ordered.{index_in}
 use Rattle.pipe_source.specs.declared.chunk_run.Piece.{Piece}
 
@@ -31,6 +31,15 @@ run_of all pieces = record { schema = all.frame.schema; last = all.chunk_index; 
 -- a chunk's index is no higher
 abbrev pub IsUpTo : ℕ → DataChunk → Type 0
 IsUpTo last chunk = chunk.chunk_index ≤ last
+
+-- a chunk's index is no lower
+abbrev pub IsFrom : ℕ → DataChunk → Type 0
+IsFrom first chunk = first ≤ chunk.chunk_index
+
+-- the first of some pieces, if there is one, has no lower index
+abbrev pub BeginsFrom : ℕ → List Piece → Type 0
+BeginsFrom first [] = Unit {0}
+BeginsFrom first (piece ∷ pieces) = first ≤ piece.chunk_index
 
 -- pieces that are all rows of a frame, and whose indexes don't fall and end with the frame's
 pub record IsRun (all : DataChunk) (pieces : List Piece) : Type 0 where

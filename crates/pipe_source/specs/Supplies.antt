@@ -1,8 +1,8 @@
 -- Sources of sources: what is left of them, how deep they are, and what they answer.
 use Rattle.std.specs.Prelude.{◌≡◌, ℕ, ◌+◌, ◌*◌, ◌<◌, List, [], ◌∷◌, ◌++◌, map, length, codes}
 use Rattle.std.specs.List.{AllByRecursion}
-use Rattle.pipe_frame.specs.Schema.{names_of}
-use Rattle.pipe_frame.specs.declared.field.Field.{Field}
+use Rattle.pipe_schema.specs.Schema.{names_of}
+use Rattle.pipe_schema.specs.declared.field.Field.{Field}
 use Rattle.pipe_expr.specs.Projections.{row_named}
 use Rattle.pipe_ops.specs.Batches.{Left, batch, after_batch}
 use Rattle.pipe_ops.specs.Each.{HasFields}

@@ -1,20 +1,21 @@
 //! Chunks of which each stands behind the one before it, in one frame.
 
 ghost use Rattle.std.specs.Prelude.{◌≡◌, ◌≤◌, true, [], ◌∷◌, ◌++◌, All, length, IfOk, OnOk, OnErr};
-ghost use Rattle.std.specs.List.{sum_by};
+ghost use Rattle.std.specs.List.{flat_map, sum_by};
 ghost use Rattle.std.specs.List.Sorted.{IsNonDecreasingBy};
-ghost use Rattle.pipe_frame.specs.Chunks.{HasSchema, chunks_table};
+ghost use Rattle.pipe_frame.specs.Chunks.{HasSchema, chunk_rows, chunks_table};
 ghost use Rattle.pipe_frame.specs.declared.chunk.DataChunk.{DataChunk};
 ghost use Rattle.pipe_source.specs.Ordered.{index_in};
-ghost use Rattle.pipe_source.specs.Runs.{cut_rows, height_in};
+ghost use Rattle.pipe_source.specs.Runs.{cut_rows, height_in, BeginsFrom, IsFrom, IsUpTo};
 
 use pipe_frame::{DataChunk, DataFrame};
 use std::alloc::{AllocError, Global};
 use std::marker::Model;
 use std::mem::replace;
 
-/// A run that has as many rows takes no further chunk but the next one, so that its memory is soon given back.
-const MANY_ROWS: usize = 65_536;
+/// A run of several chunks has at most as many rows: a large chunk is a run of its own, whose rows stay where they are
+/// and take no more memory than they need.
+const MANY_ROWS: usize = 16_384;
 
 /// A chunk of a run: its index, and how many of the rows are its.
 #[derive(Clone, Copy, Debug)]
@@ -71,13 +72,29 @@ impl ChunkRun {
         Ok(ChunkRun { all: chunk, pieces })
     }
 
-    /// Whether the run takes a chunk of this index: one of the same index or of the next, and a later one as long as
-    /// the run has few rows.
-    pub(crate) fn takes(&self, chunk_index: u64) -> bool
-        ensures { result ≡ true → self.now.last ≤ chunk_index }
+    /// Whether the run takes a chunk: one of the same index or of a later one, where both together have few rows.
+    pub(crate) fn takes(&self, chunk: &DataChunk) -> bool
+        ensures { result ≡ true → self.now.last ≤ chunk.now.chunk_index }
     {
-        let last = self.all.chunk_index;
-        last <= chunk_index && (chunk_index - last < 2 || self.all.frame.height() < MANY_ROWS)
+        let rows = self.all.frame.height().saturating_add(chunk.frame.height());
+        self.all.chunk_index <= chunk.chunk_index && rows <= MANY_ROWS
+    }
+
+    /// Whether none of the chunks stands before this index, and the last is told no lower one.
+    pub(crate) fn is_behind(&self, index: u64) -> bool
+        ensures from { result ≡ true → All (IsFrom index) self.now.chunks }
+        ensures last { result ≡ true → index ≤ self.now.last }
+        ensures rises { IsNonDecreasingBy index_in self.now.chunks }
+    {
+        index <= self.all.chunk_index && begins_from(self.pieces.as_slice(), index)
+    }
+
+    /// The highest index that a chunk has.
+    pub(crate) fn last(&self) -> u64
+        ensures last { result ≡ self.now.last }
+        ensures below { All (IsUpTo self.now.last) self.now.chunks }
+    {
+        self.all.chunk_index
     }
 
     /// Puts a chunk behind the others, whose indexes aren't higher.
@@ -109,7 +126,17 @@ impl ChunkRun {
         Ok(frame_of(alloc, all)?)
     }
 
-    /// Puts the chunks behind others. They share the memory of the run, which is given back with the last of them.
+    /// All rows as one chunk, without a copy.
+    pub(crate) fn into_chunk(self) -> DataChunk
+        ensures schema { result.frame.schema ≡ self.schema }
+        ensures rows { result.frame.rows ≡ flat_map chunk_rows self.chunks }
+    {
+        let ChunkRun { all, pieces } = self;
+        drop(pieces);
+        all
+    }
+
+    /// Puts the chunks behind others. Several share the memory of the run, which is given back with the last of them.
     pub(crate) fn cut_into(
         self,
         alloc: Global,
@@ -119,10 +146,40 @@ impl ChunkRun {
         ensures schema { OnOk result (All (HasSchema self.schema) self.chunks) }
     {
         let ChunkRun { all, pieces } = self;
-        let frame = frame_of(alloc, all)?.shared()?;
-        cut_pieces(&frame, pieces.as_slice(), chunks)?;
+        let frame = frame_of(alloc, all)?;
+        cut_frame(frame, pieces.as_slice(), chunks)?;
         Ok(())
     }
+}
+
+/// Whether the first of some chunks doesn't stand before this index.
+fn begins_from(pieces: &[Piece], index: u64) -> bool
+    ensures { result ≡ true → BeginsFrom index pieces.now }
+{
+    match pieces {
+        [] => true,
+        [first, ..] => index <= first.chunk_index,
+    }
+}
+
+/// Puts the chunks behind others that are these pieces of a frame: the frame itself where it is the only piece.
+fn cut_frame(
+    frame: DataFrame,
+    pieces: &[Piece],
+    chunks: &mut Vec<DataChunk>,
+) -> Result<(), AllocError>
+    requires { sum_by height_in pieces.now ≡ length frame.rows }
+    ensures { OnOk result (chunks.new.items ≡ chunks.old.items
+        ++ cut_rows frame.schema frame.rows pieces.now) }
+{
+    if pieces.len() == 1 {
+        let only = DataChunk::new(pieces[0].chunk_index, frame);
+        chunks.push(only)?;
+        return Ok(());
+    }
+    let frame = frame.shared()?;
+    cut_pieces(&frame, pieces, chunks)?;
+    Ok(())
 }
 
 /// Puts the chunks behind others that are these pieces of a frame.

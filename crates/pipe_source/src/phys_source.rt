@@ -6,8 +6,8 @@ ghost use Rattle.pipe_source.specs.Supplies.{left_of, all_left, HaveFields, repr
 
 use crate::batches::{frames_of, reproject_batches, source_batches, union_batches};
 use crate::frame_source::DataFrameSource;
-use pipe_frame::Schema;
 use pipe_ops::{PExecutionContext, Source, SourceResult};
+use pipe_schema::Schema;
 use std::alloc::{AllocError, Global};
 use std::marker::Model;
 

@@ -1,13 +1,14 @@
 //! The sink around a sink, which brings the columns that it ends with into the order of a schema.
 
 ghost use Rattle.std.specs.Prelude.{◌≡◌, ℕ, List, IfOk};
-ghost use Rattle.pipe_frame.specs.declared.field.Field.{Field};
+ghost use Rattle.pipe_schema.specs.declared.field.Field.{Field};
 ghost use Rattle.pipe_ops.specs.Each.{HasFields, reprojected};
 ghost use Rattle.pipe_source.specs.Endings.{GivesRowsOf, SuppliesSchemas};
 
 use crate::phys_source::{PhysSource, ReProjectSource};
-use pipe_frame::{DataChunk, DataFrame, Schema, TryClone};
+use pipe_frame::{DataChunk, DataFrame};
 use pipe_ops::{FinalizedSink, PExecutionContext, Sink, SinkResult, reproject_chunk};
+use pipe_schema::{Schema, TryClone};
 use std::alloc::{AllocError, Global};
 use std::mem::replace;
 

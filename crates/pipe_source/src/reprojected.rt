@@ -4,8 +4,8 @@ ghost use Rattle.std.specs.Prelude.{◌≡◌, ℕ, ◌+◌, ◌^◌, ◌<◌, m
 ghost use Rattle.std.specs.List.{AllByRecursion};
 ghost use Rattle.pipe_source.specs.Morsels.{HasAll, AnswerHas, IsReprojectedAnswer, ArePartsBelow, later, reprojected_morsel};
 
-use pipe_frame::Schema;
 use pipe_ops::{Morsel, SourceResult, reproject_chunk};
+use pipe_schema::Schema;
 use std::alloc::{AllocError, Global};
 
 /// An answer whose chunks get the columns of a schema, each of whose fields they have.

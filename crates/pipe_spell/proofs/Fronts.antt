@@ -23,7 +23,7 @@ use Rattle.serde_json.specs.Written.{number_text, unless_float, WritesValue, Wri
 use Rattle.serde_json.proofs.Numbers.{number_of-decimal, number_of-negative}
 use Rattle.serde_json.proofs.Texts.{unless_float-number_of}
 use Rattle.pipe_value.specs.Read.{items_before}
-use Rattle.pipe_frame.specs.Column.{nullable_at}
+use Rattle.pipe_column.specs.Column.{nullable_at}
 use Rattle.pipe_spell.specs.Written.{HasWritten, WritesFront}
 
 -- ---- one value

@@ -3,8 +3,8 @@ use Rattle.std.specs.Prelude.{◌^◌, ◌<◌, ⊤, FitsSigned}
 use Rattle.std.specs.Int.{w32, w64, w128}
 use Rattle.std.specs.List.{AllByRecursion}
 use Rattle.hex.specs.Hex.{IsBytes}
-use Rattle.pipe_frame.specs.declared.any_value.AnyValue.{AnyValue}
-use Rattle.pipe_frame.specs.declared.any_value.AnyValue.TheVariants as cell
+use Rattle.pipe_schema.specs.declared.any_value.AnyValue.{AnyValue}
+use Rattle.pipe_schema.specs.declared.any_value.AnyValue.TheVariants as cell
 use Rattle.pipe_expr.specs.Formula.{Formula, Column, Literal, Add, Sub, Mul, Eq, NotEq, Lt, LtEq, Gt, GtEq, And, Or, Not, IsNull, IsNotNull, NamedFormula, formula_of, named_formula_of}
 use Rattle.pipe_expr.specs.declared.expr.Expr.{Expr}
 use Rattle.pipe_expr.specs.declared.expr.NamedExpr.{NamedExpr}

@@ -7,7 +7,7 @@ ghost use Rattle.pipe_job.specs.Spelling.{cell_spelling, type_name};
 ghost use Rattle.pipe_spell.specs.Ranges.{CellInRange};
 
 use itoa::Buffer;
-use pipe_frame::{AnyValue, DataType};
+use pipe_schema::{AnyValue, DataType};
 use pipe_value::Value;
 use serde_json::Number;
 use std::alloc::{AllocError, Global};

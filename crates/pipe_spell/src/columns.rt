@@ -14,7 +14,7 @@ use crate::object::Object;
 use crate::packed::{integers_value, texts_value, wholes_value};
 use crate::spell::Spell;
 use itoa::Buffer;
-use pipe_frame::{BinaryColumn, Column, Series, StringColumn};
+use pipe_column::{BinaryColumn, Column, Series, StringColumn};
 use pipe_value::Value;
 use std::alloc::{AllocError, Global};
 

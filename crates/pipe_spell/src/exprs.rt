@@ -11,7 +11,7 @@ use crate::lists::couple;
 use crate::object::{Object, single};
 use crate::spell::Spell;
 use pipe_expr::{Expr, NamedExpr};
-use pipe_frame::{AnyValue, DataType};
+use pipe_schema::{AnyValue, DataType};
 use pipe_value::Value;
 use std::alloc::{AllocError, Global};
 

@@ -12,8 +12,8 @@ use crate::lists::couple;
 use crate::object::Object;
 use crate::spell::Spell;
 use pipe_expr::{Expr, JoinCoalesce, JoinType};
-use pipe_frame::List;
 use pipe_plan::{JoinOptions, RowsHint};
+use pipe_schema::List;
 use pipe_value::Value;
 use std::alloc::{AllocError, Global};
 

@@ -6,7 +6,7 @@ ghost use Rattle.pipe_value.specs.View.{view};
 ghost use Rattle.pipe_job.specs.Spelling.{MaybeFits, couple, list, maybe};
 
 use crate::spell::Spell;
-use pipe_frame::List;
+use pipe_schema::List;
 use pipe_value::Value;
 use std::alloc::{AllocError, Global};
 

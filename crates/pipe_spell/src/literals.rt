@@ -8,9 +8,9 @@ ghost use Rattle.pipe_job.specs.JobSpelling.{task_of};
 ghost use Rattle.pipe_spell.specs.Literals.{formula_known, literal_known, named_known, node_known, task_known};
 
 use pipe_expr::{Expr, NamedExpr};
-use pipe_frame::{AnyValue, DataType};
 use pipe_job::Job;
 use pipe_plan::IR;
+use pipe_schema::{AnyValue, DataType};
 
 /// Whether a literal is null or of the type beside it, which the version has.
 fn is_literal_known(version: u32, dtype: DataType, value: &AnyValue) -> bool

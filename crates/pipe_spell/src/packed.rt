@@ -7,7 +7,7 @@ ghost use Rattle.pipe_value.specs.Columns.{columns_data, integer_data, text_data
 ghost use Rattle.pipe_value.specs.View.{view};
 ghost use Rattle.pipe_job.specs.Spelling.{list};
 
-use pipe_frame::{Column, StringColumn};
+use pipe_column::{Column, StringColumn};
 use pipe_value::{Columns, Value};
 use std::alloc::{AllocError, Global};
 

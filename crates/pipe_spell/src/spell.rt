@@ -5,7 +5,7 @@ ghost use Rattle.serde_json.specs.Data.{Data, boolean, string};
 ghost use Rattle.pipe_value.specs.View.{view};
 ghost use Rattle.pipe_job.specs.Spelling.{whole};
 
-use pipe_frame::Text;
+use pipe_schema::Text;
 use pipe_value::Value;
 use serde_json::Number;
 use std::alloc::{AllocError, Global};

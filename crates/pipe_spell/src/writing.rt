@@ -9,7 +9,7 @@ ghost use Rattle.pipe_spell.specs.Written.{WritesFront};
 
 use crate::numbers::{write_integer, write_null, write_number, write_str, write_text, write_whole};
 use json::Writer;
-use pipe_frame::{Column, StringColumn};
+use pipe_column::{Column, StringColumn};
 use pipe_value::{Columns, Value};
 use std::alloc::AllocError;
 use std::collections::BTreeMap;

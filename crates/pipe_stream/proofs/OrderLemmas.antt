@@ -6,8 +6,8 @@ use Rattle.std.proofs.Math.Nat.{lt-div-mul-add}
 use Rattle.std.proofs.lemmas.List.{drop_all, take-append-drop, take-map}
 use Rattle.std.proofs.lemmas.List.Folds.{flat_map-map}
 use Rattle.std.proofs.lemmas.Grind.{flat_map-append}
-use Rattle.pipe_frame.proofs.Weights.{Same-from_bag, SameBag, SameBag-flat_map, SameBag-from_equal, SameBag-split, SameBag-sym, SameBag-trans}
-use Rattle.pipe_frame.specs.Rows.{Row, Same}
+use Rattle.pipe_schema.proofs.Weights.{Same-from_bag, SameBag, SameBag-flat_map, SameBag-from_equal, SameBag-split, SameBag-sym, SameBag-trans}
+use Rattle.pipe_schema.specs.Rows.{Row, Same}
 use Rattle.pipe_stream.specs.Blocks.{IsBlockOrder, block_count, block_of_list, block_text, in_blocks, is_of}
 
 -- a number is even or odd

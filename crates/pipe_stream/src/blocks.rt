@@ -5,7 +5,8 @@ ghost use Rattle.std.specs.List.{range_with_len};
 ghost use Rattle.pipe_stream.specs.Blocks.{block_count, block_text, is_of};
 
 use crate::render::Lines;
-use pipe_frame::{Bytes, DataFrame};
+use pipe_frame::DataFrame;
+use pipe_schema::Bytes;
 use std::alloc::{AllocError, Global};
 
 /// A frame that is cut into blocks of so many rows, and what makes lines of these.

@@ -1,7 +1,7 @@
 //! Laws of the orders in which blocks are put.
 
 ghost use Rattle.std.specs.Prelude.{◌≡◌, ◌<◌, ℕ, List, [], length, flat_map, map, slice_index_or};
-ghost use Rattle.pipe_frame.specs.Rows.{Row as Cells, Same};
+ghost use Rattle.pipe_schema.specs.Rows.{Row as Cells, Same};
 ghost use Rattle.pipe_job.specs.Line.{row_line};
 ghost use Rattle.pipe_stream.specs.Blocks.{IsBlockOrder, block_count, block_text, in_blocks};
 

@@ -1,6 +1,6 @@
 //! What goes from a worker to the caller.
 
-use pipe_frame::Bytes;
+use pipe_schema::Bytes;
 
 /// A message of one of the two workers.
 #[derive(Drop)]

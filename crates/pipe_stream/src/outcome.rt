@@ -1,6 +1,6 @@
 //! What a stream ends with.
 
-use pipe_frame::List;
+use pipe_schema::List;
 use std::alloc::AllocError;
 use thiserror::Error;
 

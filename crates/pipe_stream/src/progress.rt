@@ -3,7 +3,7 @@
 ghost use Rattle.std.specs.Prelude.{◌≡◌, ◌&&◌, ◌||◌, not, true, false, []};
 ghost use Rattle.pipe_stream.specs.Desk.{share, with_share};
 
-use pipe_frame::List;
+use pipe_schema::List;
 use std::alloc::Global;
 
 /// How far one worker's blocks are put.

@@ -3,7 +3,8 @@
 ghost use Rattle.std.specs.Prelude.{◌≡◌, ◌<◌, ℕ, List, length, IfOk};
 ghost use Rattle.pipe_frame.specs.Frame.{Table};
 
-use pipe_frame::{Bytes, DataFrame};
+use pipe_frame::DataFrame;
+use pipe_schema::Bytes;
 use std::alloc::{AllocError, Global};
 use std::marker::Sync;
 

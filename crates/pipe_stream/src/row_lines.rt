@@ -4,8 +4,9 @@ ghost use Rattle.std.specs.Prelude.{◌≡◌, ◌<◌, [], length, slice_index_
 ghost use Rattle.pipe_job.specs.Line.{row_line};
 
 use crate::render::Render;
-use pipe_frame::{Bytes, DataFrame};
+use pipe_frame::DataFrame;
 use pipe_job::row_line;
+use pipe_schema::Bytes;
 use std::alloc::{AllocError, Global};
 
 /// Renders each row as the array of its cells.

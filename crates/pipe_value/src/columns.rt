@@ -4,13 +4,13 @@ ghost use Rattle.std.specs.Prelude.{◌≡◌, ◌<◌, ◌∷◌, [], ◌++◌,
 ghost use Rattle.std.specs.Option.{option_copied};
 ghost use Rattle.serde_json.specs.Data.{null, number as number_data};
 ghost use Rattle.serde_json.specs.View.{number_view};
-ghost use Rattle.pipe_frame.specs.Column.{nullable_at};
+ghost use Rattle.pipe_column.specs.Column.{nullable_at};
 ghost use Rattle.pipe_value.specs.Columns.{Puts, columns_data, integer_data, text_data, whole_data};
 ghost use Rattle.pipe_value.specs.View.{view};
 ghost use Rattle.pipe_value.specs.Items.{IsFound, IsFoundText, nullable_text};
 
 use crate::value::Value;
-use pipe_frame::{Column, StringColumn};
+use pipe_column::{Column, StringColumn};
 use serde_json::Number;
 use std::alloc::{AllocError, Global};
 

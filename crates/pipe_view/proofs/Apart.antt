@@ -3,8 +3,8 @@ use Rattle.std.proofs.Common.{◌≡◌, ℕ, ◌+◌, Bool, true, false, cond, 
 use Rattle.std.specs.Prelude.{filter, not, ◌&&◌, ◌⊎◌}
 use Rattle.std.specs.List.{AllByRecursion}
 use Rattle.std.proofs.lemmas.List.{take_at, drop_at, length-map}
-use Rattle.pipe_frame.specs.Rows.{Row, eq_row, times}
-use Rattle.pipe_frame.proofs.Weights.{eq_row-sound, eq_row-refl}
+use Rattle.pipe_schema.specs.Rows.{Row, eq_row, times}
+use Rattle.pipe_schema.proofs.Weights.{eq_row-sound, eq_row-refl}
 use Rattle.pipe_expr.specs.Joins.{Join, pair, pad_left, pad_right, left_padding, kept_cells, is_kept, null_of}
 use Rattle.pipe_expr.specs.Shares.{probe_pair, pad_built, pad_probed, row_where}
 use Rattle.pipe_plan.specs.Faults.{is_empty}

@@ -2,9 +2,9 @@
 use Rattle.std.proofs.Common.{◌≡◌, ℕ, ◌+◌, ◌≤◌, Bool, true, false, cond, List, [], ◌∷◌, ◌++◌, map, length, refl, ap, sym, ◌∙◌, subst, arith, append-nil}
 use Rattle.std.specs.Prelude.{filter, not, ◌&&◌, ◌||◌}
 use Rattle.std.specs.List.{flat_map, list_any}
-use Rattle.pipe_frame.specs.Rows.{Row, eq_row}
-use Rattle.pipe_frame.specs.Weights.{total}
-use Rattle.pipe_frame.proofs.Weights.{SameBag, SameBag-trans, SameBag-sym, total-append, total-map, total-filter, total-flat_map, total-same, total-plus, eq_row-sound, eq_row-refl}
+use Rattle.pipe_schema.specs.Rows.{Row, eq_row}
+use Rattle.pipe_schema.specs.Weights.{total}
+use Rattle.pipe_schema.proofs.Weights.{SameBag, SameBag-trans, SameBag-sym, total-append, total-map, total-filter, total-flat_map, total-same, total-plus, eq_row-sound, eq_row-refl}
 use Rattle.pipe_expr.specs.Joins.{Join, joins}
 use Rattle.pipe_expr.specs.Shares.{meets, met_by, probe_pair, pad_built, lacks_probed_match, has_probed_match, probe_share, built_share, padded_built, unmatched_built, all_shares}
 use Rattle.pipe_view.specs.Sides.{probed_key, built_key, has_probed_key, has_built_key, is_view_kind, keeps_built}

@@ -23,3 +23,15 @@ mod CodeOrder
 -- views with the same tables, and edits played on them
 pub mod Listed
 pub mod Lists
+pub mod Triples
+pub mod Outlines
+pub mod Replaying
+pub mod Texts
+pub mod Numbers
+pub mod TypedEdits
+pub mod Embedded
+pub mod Again
+pub mod OneReplay
+pub mod Unread
+pub mod Replayed
+pub mod OneEnd

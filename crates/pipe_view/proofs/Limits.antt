@@ -1,10 +1,10 @@
 -- Before an edit: what goes is there, and what is too much.
 use Rattle.std.proofs.Common.{◌≡◌, ℕ, ◌+◌, ◌≤◌, ◌<◌, Bool, true, false, cond, List, [], ◌∷◌, ◌++◌, map, length, take, drop, suc, refl, ap, sym, ◌∙◌, subst, arith, append-nil, inl, inr}
 use Rattle.std.specs.Prelude.{not, ◌&&◌, ◌⊎◌}
-use Rattle.pipe_frame.specs.Rows.{Row, Same, eq_row, times}
-use Rattle.pipe_frame.specs.declared.field.Field.{Field}
-use Rattle.pipe_frame.specs.Weights.{total}
-use Rattle.pipe_frame.proofs.Weights.{total-append, SameBag-from_rows}
+use Rattle.pipe_schema.specs.Rows.{Row, Same, eq_row, times}
+use Rattle.pipe_schema.specs.declared.field.Field.{Field}
+use Rattle.pipe_schema.specs.Weights.{total}
+use Rattle.pipe_schema.proofs.Weights.{total-append, SameBag-from_rows}
 use Rattle.pipe_expr.specs.Formula.{formulas_of}
 use Rattle.pipe_expr.specs.declared.expr.Expr.{Expr}
 use Rattle.pipe_expr.specs.Joins.{Join, join_rows}

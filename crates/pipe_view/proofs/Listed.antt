@@ -1,9 +1,9 @@
 -- Edits that are played: tables and rows as bags, and what rows lie beyond others.
 use Rattle.std.proofs.Common.{◌≡◌, ◌==◌, ℕ, ◌+◌, ◌-◌, ◌≤◌, ◌<◌, Bool, true, false, cond, List, [], ◌∷◌, ◌++◌, length, if◌then◌else◌, inl, inr, refl, ap, sym, ◌∙◌, subst, arith}
 use Rattle.std.proofs.lemmas.Bool.{ne_eqb}
-use Rattle.pipe_frame.specs.Rows.{Row, Same, eq_row, times}
-use Rattle.pipe_frame.specs.Weights.{total}
-use Rattle.pipe_frame.proofs.Weights.{SameBag, SameBag-from_rows, Same-from_bag, eq_row-sound}
+use Rattle.pipe_schema.specs.Rows.{Row, Same, eq_row, times}
+use Rattle.pipe_schema.specs.Weights.{total}
+use Rattle.pipe_schema.proofs.Weights.{SameBag, SameBag-from_rows, Same-from_bag, eq_row-sound}
 use Rattle.pipe_expr.specs.Joins.{join_rows}
 use Rattle.pipe_view.specs.Kept.{Kept, kept_join, view_rows, times_on, with_row, IsSameView, IsDelta, IsOver, IsWithin}
 use Rattle.pipe_view.specs.Played.{after_kind, beyond, changed, outcome_by, without_first, without_row}

@@ -1,7 +1,7 @@
 -- Lists of edits: one edit more.
 use Rattle.std.proofs.Common.{◌≡◌, true, List, [], ◌∷◌, ◌++◌, length, inl, inr, refl, ap, sym, ◌∙◌, subst, arith}
 use Rattle.std.specs.List.{AllByRecursion}
-use Rattle.pipe_frame.specs.Rows.{Row}
+use Rattle.pipe_schema.specs.Rows.{Row}
 use Rattle.pipe_view.specs.Kept.{Kept, fields_on, view_rows, IsOver, IsSameView}
 use Rattle.pipe_view.specs.Played.{AreWide, IsEditRefusal, IsPlayRefusal, IsStuck, IsTooMuch, IsWide, after_edit, after_edits, after_kind, outcome_of, outcomes_of}
 use Rattle.pipe_view.specs.Sides.{is_view_kind}

@@ -6,10 +6,10 @@ use Rattle.std.specs.Map.{keys_of, values_of, lookup, remove_entry}
 use Rattle.std.specs.BTreeMap.{is_at}
 use Rattle.std.proofs.lemmas.Map.Keys.{sorted_head, sorted_tail}
 use Rattle.std.proofs.lemmas.Map.Entries.{sum_by-remove_entry}
-use Rattle.pipe_frame.specs.Rows.{Row, eq_row, times}
-use Rattle.pipe_frame.specs.declared.any_value.AnyValue.{AnyValue}
-use Rattle.pipe_frame.specs.Weights.{total}
-use Rattle.pipe_frame.proofs.Weights.{total-append, SameBag-from_rows, eq_row-sound, eq_row-refl}
+use Rattle.pipe_schema.specs.Rows.{Row, eq_row, times}
+use Rattle.pipe_schema.specs.declared.any_value.AnyValue.{AnyValue}
+use Rattle.pipe_schema.specs.Weights.{total}
+use Rattle.pipe_schema.proofs.Weights.{total-append, SameBag-from_rows, eq_row-sound, eq_row-refl}
 use Rattle.pipe_expr.specs.Joins.{Join, joins, join_rows}
 use Rattle.pipe_expr.specs.Shares.{all_shares}
 use Rattle.pipe_expr.proofs.ShareLaw.{shares-right_built, shares-left_built}

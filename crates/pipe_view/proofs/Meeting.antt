@@ -2,9 +2,9 @@
 use Rattle.std.proofs.Common.{◌≡◌, Bool, true, false, cond, List, [], ◌∷◌, ◌++◌, map, refl, ap, sym, ◌∙◌, arith, append-nil}
 use Rattle.std.specs.Prelude.{filter, not, ◌&&◌, ◌||◌}
 use Rattle.std.specs.List.{flat_map, list_any}
-use Rattle.pipe_frame.specs.Rows.{Row, eq_row}
-use Rattle.pipe_frame.specs.declared.any_value.AnyValue.{AnyValue}
-use Rattle.pipe_frame.proofs.Weights.{eq_row-sound, eq_row-refl}
+use Rattle.pipe_schema.specs.Rows.{Row, eq_row}
+use Rattle.pipe_schema.specs.declared.any_value.AnyValue.{AnyValue}
+use Rattle.pipe_schema.proofs.Weights.{eq_row-sound, eq_row-refl}
 use Rattle.pipe_expr.specs.Joins.{Join, joins, key_of, matches, pair}
 use Rattle.pipe_expr.specs.Shares.{meets, met_by, probe_pair, pad_probed, pad_built, has_built_match, has_probed_match, lacks_probed_match, row_where, probe_pairs, share_by, own_by, probe_share, built_share, padded_built, unmatched_built}
 use Rattle.pipe_expr.specs.declared.join_words.JoinType.{JoinType}

@@ -10,9 +10,9 @@ use Rattle.std.specs.declared.cmp.Ordering.{Ordering}
 use Rattle.std.specs.declared.cmp.Ordering.TheVariants.{Less, Equal, Greater}
 use Rattle.pipe_view.proofs.CodeOrder.{code_itself, same_code}
 use Rattle.std.proofs.lemmas.Map.Keys.{sorted_head, sorted_tail}
-use Rattle.pipe_frame.specs.Rows.{Row, eq_row, times}
-use Rattle.pipe_frame.specs.Weights.{total}
-use Rattle.pipe_frame.proofs.Weights.{SameBag, SameBag-refl, SameBag-trans, SameBag-sym, SameBag-from_equal, SameBag-append, SameBag-from_rows, total-append, total-same, eq_row-sound, eq_row-refl}
+use Rattle.pipe_schema.specs.Rows.{Row, eq_row, times}
+use Rattle.pipe_schema.specs.Weights.{total}
+use Rattle.pipe_schema.proofs.Weights.{SameBag, SameBag-refl, SameBag-trans, SameBag-sym, SameBag-from_equal, SameBag-append, SameBag-from_rows, total-append, total-same, eq_row-sound, eq_row-refl}
 use Rattle.pipe_expr.specs.Joins.{Join, joins, join_rows}
 use Rattle.pipe_expr.specs.Shares.{meets, met_by, has_built_match, has_probed_match, lacks_probed_match, row_where, probe_pairs, probe_pair, pad_probed, pad_built, pairs_or_padding, share_by, own_by, probe_share, built_share, padded_built, all_shares}
 use Rattle.pipe_expr.specs.declared.join_words.JoinType.{JoinType}

@@ -22,7 +22,7 @@ pub pieces-alike : {X Y : Type 0} (f g : X → List Y) (xs : List X) → ((x : X
 pieces-alike f g [] h = refl
 pieces-alike f g (x ∷ xs) h = ap (λ l. l ++ flat_map f xs) (h x) ∙ ap (λ l. g x ++ l) (pieces-alike f g xs h)
 
--- the same, where they agree at the elements of a list
+-- lists that are filtered, searched or mapped alike by what agrees at their elements alone
 pub filter-alike_in : {X : Type 0} (p q : X → Bool) (xs : List X) → AllByRecursion (λ x. p x ≡ q x) xs → filter p xs ≡ filter q xs
 filter-alike_in p q [] h = refl
 filter-alike_in p q (x ∷ xs) h = ap (λ b. cond b (x ∷ filter p xs) (filter p xs)) h.0 ∙ ap (λ l. cond (q x) (x ∷ l) l) (filter-alike_in p q xs h.1)

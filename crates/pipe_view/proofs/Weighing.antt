@@ -6,9 +6,9 @@ use Rattle.std.specs.Map.{keys_of, values_of, lookup}
 use Rattle.std.specs.BTreeMap.{is_at}
 use Rattle.std.proofs.lemmas.List.Sums.{sum_by-cons}
 use Rattle.std.proofs.lemmas.Bool.{eqb-true, eq-eqb}
-use Rattle.pipe_frame.specs.Rows.{Row, eq_row, times, Same}
-use Rattle.pipe_frame.specs.Weights.{total}
-use Rattle.pipe_frame.proofs.Weights.{total-append, total-flat_map, SameBag, Same-from_bag}
+use Rattle.pipe_schema.specs.Rows.{Row, eq_row, times, Same}
+use Rattle.pipe_schema.specs.Weights.{total}
+use Rattle.pipe_schema.proofs.Weights.{total-append, total-flat_map, SameBag, Same-from_bag}
 use Rattle.pipe_view.specs.Codes.{GroupRows, GroupList, no_rows, group_rows, group_at, rows_in, side_rows, with_group_rows, group_with, group_without, HasGroup, Code, code_cmp}
 use Rattle.pipe_view.specs.Held.{HaveWidth}
 use Rattle.pipe_view.proofs.Tests.{all-first, all-last}

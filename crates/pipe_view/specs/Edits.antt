@@ -1,7 +1,7 @@
 -- An edit before it is made, told by the groups alone.
 use Rattle.std.specs.Prelude.{◌≡◌, ℕ, ◌+◌, ◌<◌, ◌≤◌, ◌⊎◌, List, [], ◌++◌, Bool, not, ◌&&◌, length, take, drop, slice_index_or}
 use Rattle.std.specs.List.{list_any}
-use Rattle.pipe_frame.specs.Rows.{Row, eq_row, times}
+use Rattle.pipe_schema.specs.Rows.{Row, eq_row, times}
 use Rattle.pipe_expr.specs.Joins.{Join}
 use Rattle.pipe_view.specs.Sides.{probed_key, has_probed_key, keeps_built}
 use Rattle.pipe_view.specs.Changes.{rows_that_come, rows_that_go}

@@ -1,8 +1,8 @@
 -- What a view keeps beside its rows, and what is true of it.
 use Rattle.std.specs.Prelude.{◌≡◌, ℕ, List, Bool, true, false, length}
 use Rattle.std.specs.List.{AllByRecursion}
-use Rattle.pipe_frame.specs.Rows.{Row}
-use Rattle.pipe_frame.specs.declared.field.Field.{Field}
+use Rattle.pipe_schema.specs.Rows.{Row}
+use Rattle.pipe_schema.specs.declared.field.Field.{Field}
 use Rattle.pipe_expr.specs.declared.expr.Expr.{Expr}
 use Rattle.pipe_plan.specs.declared.ir.JoinOptions.{JoinOptions}
 use Rattle.pipe_view.specs.Kept.{Kept, kept_join, view_fields, view_rows, IsWithin}

@@ -2,7 +2,7 @@
 use Rattle.std.specs.Prelude.{◌≡◌, ◌==◌, ◌⊎◌, List, [], ◌∷◌, length, if◌then◌else◌}
 use Rattle.std.specs.List.{AllByRecursion}
 use Rattle.pipe_frame.specs.Frame.{Table, with_rows}
-use Rattle.pipe_frame.specs.Rows.{Row, eq_row}
+use Rattle.pipe_schema.specs.Rows.{Row, eq_row}
 use Rattle.pipe_view.specs.Kept.{Kept, view_rows, fields_on, times_on, with_row, IsOver}
 use Rattle.pipe_view.specs.declared.error.ViewError.{ViewError}
 use Rattle.pipe_view.specs.declared.error.ViewError.TheVariants as refusal

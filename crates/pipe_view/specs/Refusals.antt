@@ -6,7 +6,7 @@ use Rattle.pipe_plan.specs.declared.error.PipeError.TheVariants as error
 use Rattle.pipe_check.specs.Checked.{check_fault}
 use Rattle.pipe_view.specs.Kept.{Kept, view_plan, view_rows, with_row, times_on, IsOver}
 use Rattle.pipe_view.specs.Sides.{is_view_kind}
-use Rattle.pipe_frame.specs.Rows.{Row}
+use Rattle.pipe_schema.specs.Rows.{Row}
 use Rattle.pipe_view.specs.declared.error.ViewError.{ViewError}
 use Rattle.pipe_view.specs.declared.error.ViewError.TheVariants as refusal
 use Rattle.pipe_view.specs.declared.side.ViewSide.{ViewSide}

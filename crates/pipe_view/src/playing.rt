@@ -8,7 +8,7 @@ ghost use Rattle.pipe_view.specs.Sides.{is_view_kind};
 use crate::error::ViewError;
 use crate::row_edit::{EditKind, Outcome, RowEdit};
 use crate::view::View;
-use pipe_frame::List;
+use pipe_schema::List;
 use std::alloc::Global;
 
 impl View {

@@ -1,7 +1,7 @@
 -- The columns of a key have one height.
 use Rattle.std.proofs.Common.{◌≡◌, ℕ, ◌<◌, List, [], ◌∷◌, length, sym, subst, arith}
-use Rattle.pipe_frame.specs.Frame.{AllOfHeight, height_of}
-use Rattle.pipe_frame.specs.Series.{Cells}
+use Rattle.pipe_column.specs.Columns.{AllOfHeight, height_of}
+use Rattle.pipe_column.specs.Series.{Cells}
 
 height_is : (columns : List Cells) (height : ℕ) → 0 < length columns → AllOfHeight height columns → height_of columns ≡ height
 height_is [] height some even = absurd (omega (arith, some))

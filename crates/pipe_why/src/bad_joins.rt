@@ -1,10 +1,10 @@
 //! What is told of a join with bad keys.
 
 use crate::node_words::push_kind;
+use pipe_check::plain_names;
 use pipe_expr::{Expr, JoinType};
-use pipe_fields::plain_names;
-use pipe_frame::first_repeated;
 use pipe_plan::{Arena, IR, JoinOptions};
+use pipe_schema::first_repeated;
 use pipe_why_text::{push_count, push_name};
 use std::alloc::{AllocError, Global};
 use std::fmt::Write;

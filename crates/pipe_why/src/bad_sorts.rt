@@ -1,8 +1,8 @@
 //! What is told of a bad sort.
 
 use crate::node_words::push_kind;
-use pipe_frame::{Text, first_repeated};
 use pipe_plan::{Arena, IR, SortOptions};
+use pipe_schema::{Text, first_repeated};
 use pipe_why_text::{push_count, push_name};
 use std::alloc::{AllocError, Global};
 use std::fmt::Write;

@@ -3,8 +3,8 @@
 use crate::inputs::{columns_of, schema_of};
 use crate::node_words::{push_kind, push_node};
 use pipe_expr::{FunctionIR, NamedExpr, RenamePair};
-use pipe_frame::Text;
 use pipe_plan::{Arena, IR};
+use pipe_schema::Text;
 use pipe_why_text::{push_fields, push_name};
 use std::alloc::{AllocError, Global};
 use std::fmt::Write;

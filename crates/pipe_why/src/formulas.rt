@@ -1,8 +1,8 @@
 //! Why an expression has no type: the first of its parts whose sides don't fit each other.
 
+use pipe_check::{Columns, expr_type};
 use pipe_expr::Expr;
-use pipe_fields::{Columns, expr_type};
-use pipe_frame::DataType;
+use pipe_schema::DataType;
 use pipe_why_text::type_word;
 use std::alloc::AllocError;
 use std::fmt::Write;

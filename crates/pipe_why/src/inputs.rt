@@ -1,10 +1,9 @@
 //! The columns that a node of a plan has, where the nodes under it have no fault.
 
 use crate::node_words::under;
-use pipe_check::{CheckedPlan, check_plan};
-use pipe_fields::{Columns, node_fields};
-use pipe_frame::{FrameError, Schema, TryClone};
+use pipe_check::{CheckedPlan, Columns, check_plan, node_fields};
 use pipe_plan::{Arena, IR, PipeError};
+use pipe_schema::{FrameError, Schema, TryClone};
 use std::alloc::{AllocError, Global};
 
 /// The schema of a plan's root.

@@ -3,10 +3,10 @@
 use crate::formulas::{push_untyped, type_or_none};
 use crate::inputs::{columns_of, schema_of, schemas_below};
 use crate::node_words::push_kind;
+use pipe_check::{Columns, are_same_types, column_type, columns_of as columns_at, expr_type};
 use pipe_expr::{Expr, FunctionIR, NamedExpr};
-use pipe_fields::{Columns, are_same_types, column_type, columns_of as columns_at, expr_type};
-use pipe_frame::{Field, Text};
 use pipe_plan::{Arena, IR};
+use pipe_schema::{Field, Text};
 use pipe_why_text::{push_count, push_field, push_name};
 use std::alloc::{AllocError, Global};
 use std::fmt::Write;

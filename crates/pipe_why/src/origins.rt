@@ -1,8 +1,9 @@
 //! Which column of a frame a column of a node is, where the node has all rows of the frame.
 
 use pipe_expr::{Expr, FunctionIR, NamedExpr, RenamePair};
-use pipe_frame::{DataFrame, Text, TryClone};
+use pipe_frame::DataFrame;
 use pipe_plan::{Arena, IR};
+use pipe_schema::{Text, TryClone};
 use std::alloc::{AllocError, Global};
 
 /// A node below, and the name of a column there.

@@ -3,8 +3,8 @@
 use crate::inputs::schema_of;
 use crate::node_words::{numbers_read, push_kind, push_node};
 use pipe_expr::Expr;
-use pipe_frame::{Field, Schema, Text};
 use pipe_plan::{Arena, IR};
+use pipe_schema::{Field, Schema, Text};
 use pipe_why_text::{distance, is_near, push_field, push_name};
 use std::alloc::{AllocError, Global};
 use std::fmt::Write;

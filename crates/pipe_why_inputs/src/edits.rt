@@ -5,11 +5,11 @@ ghost use Rattle.pipe_job.specs.Reading.{Reading};
 
 use pipe_check::{CheckedPlan, check_plan};
 use pipe_expr::JoinType;
-use pipe_frame::List;
 use pipe_job::Job;
 use pipe_plan::{Arena, IR, PipeConfig, PipeError};
+use pipe_schema::List;
 use pipe_value::Value;
-use pipe_view_text::{KeptJoin, Replay, replay_of};
+use pipe_view::{KeptJoin, Replay, replay_of};
 use pipe_why::{fault_text, outcome_text, push_config};
 use pipe_why_text::push_count;
 use pipe_why_value::{InputKind, push_misfit};

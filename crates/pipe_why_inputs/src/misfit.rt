@@ -3,7 +3,7 @@
 ghost use Rattle.std.specs.Prelude.{◌≡◌, IfOk, string_bytes};
 ghost use Rattle.pipe_value.specs.View.{view};
 ghost use Rattle.pipe_job.specs.Reading.{Reading};
-ghost use Rattle.pipe_why_wants.specs.Wanted.{SpellsJob};
+ghost use Rattle.pipe_why_text.specs.Wanted.{SpellsJob};
 ghost use Rattle.pipe_why_value.specs.Places.{kind_of};
 ghost use Rattle.pipe_why_value.specs.Telling.{TellsNoJob};
 

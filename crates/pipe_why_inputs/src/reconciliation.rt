@@ -4,10 +4,10 @@ ghost use Rattle.pipe_value.specs.View.{view};
 ghost use Rattle.pipe_job.specs.Reading.{Reading};
 
 use pipe_expr::JoinType;
-use pipe_frame::{DataFrame, Field, Schema, Text, first_repeated};
+use pipe_frame::DataFrame;
 use pipe_plan::PipeError;
-use pipe_recon::check_spec;
-use pipe_recon_text::{ReconJob, recon_job_of};
+use pipe_recon::{ReconJob, check_spec, recon_job_of};
+use pipe_schema::{Field, Schema, Text, first_repeated};
 use pipe_value::Value;
 use pipe_why::{matches_of, push_columns, push_config};
 use pipe_why_text::{push_count, push_field, push_name, type_word};

@@ -5,7 +5,7 @@ ghost use Rattle.pipe_why_text.specs.Places.{Appends, IsBracketed, IsNameText, I
 
 use crate::words::push_quoted;
 use itoa::Buffer;
-use pipe_frame::Text;
+use pipe_schema::Text;
 use std::alloc::{AllocError, Global};
 
 /// A step into a value.

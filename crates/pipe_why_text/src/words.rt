@@ -1,6 +1,6 @@
 //! Parts of sentences.
 
-use pipe_frame::{DataType, Field, Text};
+use pipe_schema::{DataType, Field, Text};
 use std::alloc::AllocError;
 use std::fmt::Write;
 

@@ -12,16 +12,16 @@ use Rattle.serde_json.specs.Find.{as_array, at, get, get_item}
 use Rattle.pipe_value.specs.View.{members_view, view}
 use Rattle.pipe_value.specs.declared.value.Value.{Value}
 use Rattle.pipe_value.specs.Items.{IsArrayOf, elements, list_of}
-use Rattle.pipe_frame.specs.declared.data_type.DataType.{DataType}
+use Rattle.pipe_schema.specs.declared.data_type.DataType.{DataType}
 use Rattle.pipe_job.specs.Shape.{is_object}
 use Rattle.pipe_why_text.specs.declared.steps.Step.{Step}
 use Rattle.pipe_why_text.specs.declared.steps.Step.TheVariants as step
-use Rattle.pipe_why_wants.specs.Members.{beside, item_wanted, member_wanted, members_in, members_of, type_of, want_in}
-use Rattle.pipe_why_wants.specs.Wanted.{is_wanted}
-use Rattle.pipe_why_wants.specs.declared.want.Foreign.{Foreign}
-use Rattle.pipe_why_wants.specs.declared.want.Foreign.TheVariants as foreign
-use Rattle.pipe_why_wants.specs.declared.want.Want.{Want}
-use Rattle.pipe_why_wants.specs.declared.want.Want.TheVariants as want
+use Rattle.pipe_why_text.specs.Members.{beside, item_wanted, member_wanted, members_in, members_of, type_of, want_in}
+use Rattle.pipe_why_text.specs.Wanted.{is_wanted}
+use Rattle.pipe_why_text.specs.declared.want.Foreign.{Foreign}
+use Rattle.pipe_why_text.specs.declared.want.Foreign.TheVariants as foreign
+use Rattle.pipe_why_text.specs.declared.want.Want.{Want}
+use Rattle.pipe_why_text.specs.declared.want.Want.TheVariants as want
 use Rattle.pipe_why_value.specs.Order.{IsLast, IsWritten, names_of, tree_part}
 use Rattle.pipe_why_value.specs.Places.{AreGoodBefore, AreGoodParts, IsGood, IsGoodItem, IsGoodPart, IsTold, PassGoodParts, Place, TellsInner, part, wanted, wanted_at, wanted_part}
 use Rattle.pipe_why_value.specs.Walks.{AreCellsBefore, Looked}

@@ -12,15 +12,15 @@ use Rattle.serde_json.specs.View.{items_of}
 use Rattle.pipe_value.specs.View.{members_view, view}
 use Rattle.pipe_value.specs.declared.value.Value.{Object, Value, the_lemmas}
 use Rattle.pipe_value.specs.Items.{IsArrayOf, elements, list_of, nullable_text}
-use Rattle.pipe_frame.specs.declared.data_type.DataType.{DataType}
+use Rattle.pipe_schema.specs.declared.data_type.DataType.{DataType}
 use Rattle.pipe_job.specs.Shape.{all_items, is_cell, is_list, is_maybe, is_single, is_text, text_in}
 use Rattle.pipe_why_text.specs.declared.steps.Step.{Step}
 use Rattle.pipe_why_text.specs.declared.steps.Step.TheVariants as step
-use Rattle.pipe_why_wants.specs.Members.{HasMember, beside, couple_at, couple_items, edit_part, is_edit, item_wanted, list_item, member_wanted, plain_item, members_in, members_of, plain, type_of, want_in}
-use Rattle.pipe_why_wants.specs.Wanted.{is_wanted}
-use Rattle.pipe_why_wants.specs.declared.want.Foreign.TheVariants as foreign
-use Rattle.pipe_why_wants.specs.declared.want.Want.{Want}
-use Rattle.pipe_why_wants.specs.declared.want.Want.TheVariants as want
+use Rattle.pipe_why_text.specs.Members.{HasMember, beside, couple_at, couple_items, edit_part, is_edit, item_wanted, list_item, member_wanted, plain_item, members_in, members_of, plain, type_of, want_in}
+use Rattle.pipe_why_text.specs.Wanted.{is_wanted}
+use Rattle.pipe_why_text.specs.declared.want.Foreign.TheVariants as foreign
+use Rattle.pipe_why_text.specs.declared.want.Want.{Want}
+use Rattle.pipe_why_text.specs.declared.want.Want.TheVariants as want
 use Rattle.pipe_why_value.specs.Order.{tree_part}
 use Rattle.pipe_why_value.specs.Places.{AreGoodBefore, AreGoodParts, IsBadCell, IsGood, IsGoodItem, IsGoodPart, IsInner, IsInnermost, IsOwn, IsTold, IsWrong, PassGoodParts, Passes, Place, both, last_name, part, part_at, wanted, wanted_at, wanted_part}
 use Rattle.pipe_why_value.specs.Walks.{AreCellsBefore, IsFirstBad, Looked, Within, Noted, Entered, Left}

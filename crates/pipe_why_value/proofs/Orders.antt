@@ -13,12 +13,12 @@ use Rattle.json.specs.Value.{members_of, value_view}
 use Rattle.json.specs.declared.value.Value.{Value as Tree}
 use Rattle.serde_json.specs.Data.{Data, null, boolean, number, string, array, object, Members, no_members, member}
 use Rattle.serde_json.specs.Find.{get}
-use Rattle.pipe_frame.specs.declared.data_type.DataType.{DataType}
+use Rattle.pipe_schema.specs.declared.data_type.DataType.{DataType}
 use Rattle.pipe_job.specs.Shape.{is_single}
 use Rattle.pipe_why_text.specs.declared.steps.Step.TheVariants as step
-use Rattle.pipe_why_wants.specs.Members.{type_of, beside}
-use Rattle.pipe_why_wants.specs.declared.want.Want.{Want}
-use Rattle.pipe_why_wants.specs.declared.want.Want.TheVariants as want
+use Rattle.pipe_why_text.specs.Members.{type_of, beside}
+use Rattle.pipe_why_text.specs.declared.want.Want.{Want}
+use Rattle.pipe_why_text.specs.declared.want.Want.TheVariants as want
 use Rattle.pipe_why_value.specs.Order.{AreLasts, IsLast, StandsBefore, names, names_in, names_of, or_null, written}
 use Rattle.pipe_why_value.specs.Places.{IsGoodPart, Passes, Place, both, part, wanted, wanted_part}
 use Rattle.pipe_why_value.specs.declared.order.Last.{Last}

@@ -4,15 +4,15 @@ use Rattle.serde_json.specs.Data.{Data, null, string}
 use Rattle.serde_json.specs.Find.{at, get}
 use Rattle.json.specs.Json.{Json}
 use Rattle.pipe_value.specs.Items.{elements}
-use Rattle.pipe_frame.specs.declared.data_type.DataType.{DataType}
+use Rattle.pipe_schema.specs.declared.data_type.DataType.{DataType}
 use Rattle.pipe_job.specs.Shape.{contains_text, is_cell, is_single, text_in}
 use Rattle.pipe_why_text.specs.declared.steps.Step.{Step}
 use Rattle.pipe_why_text.specs.declared.steps.Step.TheVariants as step
-use Rattle.pipe_why_wants.specs.Members.{HasMember, item_wanted, member_wanted, members_in, members_of, want_in}
-use Rattle.pipe_why_wants.specs.Wanted.{Misspells, form_words, is_wanted}
-use Rattle.pipe_why_wants.specs.declared.want.Foreign.TheVariants as foreign
-use Rattle.pipe_why_wants.specs.declared.want.Want.{Want}
-use Rattle.pipe_why_wants.specs.declared.want.Want.TheVariants as want
+use Rattle.pipe_why_text.specs.Members.{HasMember, item_wanted, member_wanted, members_in, members_of, want_in}
+use Rattle.pipe_why_text.specs.Wanted.{Misspells, form_words, is_wanted}
+use Rattle.pipe_why_text.specs.declared.want.Foreign.TheVariants as foreign
+use Rattle.pipe_why_text.specs.declared.want.Want.{Want}
+use Rattle.pipe_why_text.specs.declared.want.Want.TheVariants as want
 use Rattle.pipe_why_value.specs.Order.{StandsBefore, tree_part}
 use Rattle.pipe_why_value.specs.declared.input_kind.InputKind.{InputKind}
 use Rattle.pipe_why_value.specs.declared.input_kind.InputKind.TheVariants as kind

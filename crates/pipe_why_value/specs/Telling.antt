@@ -4,7 +4,7 @@ use Rattle.std.specs.declared.alloc.Global.{Global}
 use Rattle.serde_json.specs.Data.{Data}
 use Rattle.pipe_why_text.specs.Places.{Appends, IsPlaceText}
 use Rattle.pipe_why_text.specs.declared.steps.Step.{Step}
-use Rattle.pipe_why_wants.specs.declared.want.Want.TheVariants as want
+use Rattle.pipe_why_text.specs.declared.want.Want.TheVariants as want
 use Rattle.pipe_why_value.specs.Order.{tree_of}
 use Rattle.pipe_why_value.specs.Places.{IsTold, Place}
 use Rattle.pipe_why_value.specs.declared.wrong.Misfit.{Misfit}

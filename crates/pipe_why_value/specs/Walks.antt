@@ -5,11 +5,11 @@ use Rattle.std.specs.declared.alloc.Global.{Global}
 use Rattle.serde_json.specs.Data.{Data, null}
 use Rattle.pipe_value.specs.Items.{elements}
 use Rattle.pipe_job.specs.Shape.{is_cell}
-use Rattle.pipe_frame.specs.declared.data_type.DataType.{DataType}
+use Rattle.pipe_schema.specs.declared.data_type.DataType.{DataType}
 use Rattle.pipe_why_text.specs.declared.steps.Step.{Step}
-use Rattle.pipe_why_wants.specs.Members.{beside}
-use Rattle.pipe_why_wants.specs.declared.want.Want.{Want}
-use Rattle.pipe_why_wants.specs.declared.want.Want.TheVariants as want
+use Rattle.pipe_why_text.specs.Members.{beside}
+use Rattle.pipe_why_text.specs.declared.want.Want.{Want}
+use Rattle.pipe_why_text.specs.declared.want.Want.TheVariants as want
 use Rattle.pipe_why_value.specs.Places.{IsBadCell, IsInner, IsOwn, IsTold, IsWrong, PassGoodParts, Place, name_at, part_at, wanted_at}
 use Rattle.pipe_why_value.specs.declared.looking.MemberWant.{MemberWant}
 use Rattle.pipe_why_value.specs.declared.looking.MemberWant.TheVariants as member

@@ -7,9 +7,9 @@ ghost use Rattle.pipe_value.specs.View.{view};
 ghost use Rattle.pipe_job.specs.Shape.{is_cell};
 ghost use Rattle.pipe_why_value.specs.Walks.{IsFirstBad};
 
-use pipe_frame::DataType;
+use pipe_schema::DataType;
 use pipe_value::Value;
-use pipe_why_wants::is_cell;
+use pipe_why_text::is_cell;
 use std::alloc::{AllocError, Global};
 
 /// The row of the first bad cell, and how many there are.

@@ -5,15 +5,15 @@ ghost use Rattle.json.specs.Json.{Json as Written};
 ghost use Rattle.serde_json.specs.Find.{as_array};
 ghost use Rattle.pipe_value.specs.Items.{elements};
 ghost use Rattle.pipe_value.specs.View.{view};
-ghost use Rattle.pipe_why_wants.specs.Members.{item_wanted};
+ghost use Rattle.pipe_why_text.specs.Members.{item_wanted};
 ghost use Rattle.pipe_why_value.specs.Places.{AreGoodBefore, AreGoodParts, IsBadPair, IsGood, IsGoodItem};
 ghost use Rattle.pipe_why_value.specs.Walks.{Looked};
 
 use crate::walk::{Walk, type_in, word_in};
 use crate::wrong::Wrong;
-use pipe_frame::DataType;
+use pipe_schema::DataType;
 use pipe_value::Value;
-use pipe_why_wants::{Foreign, Want, is_cell};
+use pipe_why_text::{Foreign, Want, is_cell};
 use std::alloc::{AllocError, Global};
 
 /// A column of a table: its name, and its type where that is told.

@@ -4,7 +4,7 @@ ghost use Rattle.std.specs.Prelude.{◌≡◌, ◌↔◌, None, Some, true, fals
 ghost use Rattle.serde_json.specs.Read.{read as read_text};
 ghost use Rattle.pipe_value.specs.View.{view};
 ghost use Rattle.pipe_job.specs.Reading.{Reading};
-ghost use Rattle.pipe_why_wants.specs.Wanted.{Misspells, SpellsJob};
+ghost use Rattle.pipe_why_text.specs.Wanted.{Misspells, SpellsJob};
 ghost use Rattle.pipe_why_value.specs.Order.{tree_of};
 ghost use Rattle.pipe_why_value.specs.Places.{IsTold, TellsInner, whole_want};
 ghost use Rattle.pipe_why_value.specs.Telling.{Tells};
@@ -19,7 +19,7 @@ use crate::walk::Walk;
 use crate::wrong::{Misfit, Misfits, Wrong};
 use json::Scratch;
 use pipe_value::Value;
-use pipe_why_wants::{Foreign, Want, is_spelled};
+use pipe_why_text::{Foreign, Want, is_spelled};
 use std::alloc::{AllocError, Global};
 
 /// Whether types may be Int128.

@@ -10,7 +10,7 @@ ghost use Rattle.pipe_why_value.specs.Walks.{AreNames, Looked};
 use crate::walk::{Walk, text_of};
 use crate::wrong::Wrong;
 use pipe_value::Value;
-use pipe_why_wants::Want;
+use pipe_why_text::Want;
 use std::alloc::{AllocError, Global};
 use std::collections::BTreeMap;
 

@@ -6,10 +6,9 @@ ghost use Rattle.pipe_why_value.specs.Telling.{BeginsWithPlace};
 
 use crate::wrong::{Misfit, Wrong};
 use pipe_why_text::{
-    Literal, Step, offset_of, push_count, push_place, push_quoted, push_steps, push_words,
-    type_word,
+    FORMS, Foreign, Literal, Member, Step, TYPES, Want, offset_of, push_count, push_expected,
+    push_hint, push_nearest, push_place, push_quoted, push_steps, push_words, type_word,
 };
-use pipe_why_wants::{FORMS, Foreign, Member, TYPES, Want, push_expected, push_hint, push_nearest};
 use std::alloc::{AllocError, Global};
 use std::fmt::Write;
 

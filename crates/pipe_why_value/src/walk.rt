@@ -7,8 +7,8 @@ ghost use Rattle.serde_json.specs.Find.{at, get};
 ghost use Rattle.pipe_value.specs.Items.{IsArrayOf};
 ghost use Rattle.pipe_value.specs.View.{view};
 ghost use Rattle.pipe_job.specs.Shape.{text_in};
-ghost use Rattle.pipe_why_wants.specs.Members.{HasMember, members_in, members_of, plain, type_of};
-ghost use Rattle.pipe_why_wants.specs.Wanted.{SpellsJob, is_wanted};
+ghost use Rattle.pipe_why_text.specs.Members.{HasMember, members_in, members_of, plain, type_of};
+ghost use Rattle.pipe_why_text.specs.Wanted.{SpellsJob, is_wanted};
 ghost use Rattle.pipe_why_value.specs.Places.{AreGoodBefore, AreGoodParts, IsBadCell, IsGood, IsInner, IsOwn, IsWrong, Place, wanted_at};
 ghost use Rattle.pipe_why_value.specs.Walks.{Entered, Left, Looked, Noted};
 
@@ -16,10 +16,9 @@ use crate::cells::bad_cells;
 use crate::edits::Tables;
 use crate::order::Last;
 use crate::wrong::{Misfit, Misfits, Wrong};
-use pipe_frame::{DataType, Text};
+use pipe_schema::{DataType, Text};
 use pipe_value::Value;
-use pipe_why_text::{Step, copies};
-use pipe_why_wants::{Member, Want, is_spelled, type_named};
+use pipe_why_text::{Member, Step, Want, copies, is_spelled, type_named};
 use std::alloc::{AllocError, Global};
 
 /// What was found so far.

@@ -1,8 +1,7 @@
 //! What is wrong at a place of a value.
 
-use pipe_frame::DataType;
-use pipe_why_text::Step;
-use pipe_why_wants::{Member, Want};
+use pipe_schema::DataType;
+use pipe_why_text::{Member, Step, Want};
 
 /// What is wrong at a place.
 #[derive(Drop)]

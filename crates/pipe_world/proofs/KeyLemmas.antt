@@ -9,8 +9,8 @@ use Rattle.pipe_plain.specs.Tables.{at_place}
 use Rattle.pipe_world.specs.Shown.{flag_in}
 use Rattle.std.specs.Prelude.{◌||◌}
 use Rattle.std.specs.List.{list_any}
-use Rattle.pipe_frame.specs.Rows.{Row, eq_row}
-use Rattle.pipe_frame.proofs.Weights.{eq_row-sound}
+use Rattle.pipe_schema.specs.Rows.{Row, eq_row}
+use Rattle.pipe_schema.proofs.Weights.{eq_row-sound}
 use Rattle.pipe_world.specs.Changes.{AreAdded}
 
 or_right : (b : Bool) → (b || false) ≡ b

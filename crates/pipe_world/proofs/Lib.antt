@@ -1,2 +1,4 @@
+pub mod RowByRow
+pub mod Tables
 pub mod KeyLemmas
 pub mod BlankLists

@@ -1,7 +1,7 @@
 -- What the calls of a world change.
 use Rattle.std.specs.Prelude.{◌≡◌, ℕ, List, ◌∷◌, ◌++◌, ◌||◌}
 use Rattle.std.specs.List.{list_any, range_with_len}
-use Rattle.pipe_frame.specs.Rows.{Row, eq_row}
+use Rattle.pipe_schema.specs.Rows.{Row, eq_row}
 use Rattle.pipe_events.specs.Stages.{Key}
 use Rattle.pipe_events.specs.Worlds.{Load, World, put, load_of, with_load, others}
 
@@ -57,7 +57,7 @@ notes_flags join keys w = record {
   bag = w.bag;
 }
 
--- the same, and the rows that this gives are on their way
+-- keys are flagged, and the rows that this gives are on their way
 abbrev pub flags : (worker join : ℕ) → List Key → List Row → World → World
 flags worker join keys rows w = sends_some worker join rows (notes_flags join keys w)
 

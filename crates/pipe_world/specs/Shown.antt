@@ -1,7 +1,7 @@
 -- The world that lists of data stand for.
 use Rattle.std.specs.Prelude.{◌≡◌, ℕ, List, [], Bool, true, false, length}
 use Rattle.std.specs.List.{list_any}
-use Rattle.pipe_frame.specs.Rows.{Row, eq_row}
+use Rattle.pipe_schema.specs.Rows.{Row, eq_row}
 use Rattle.pipe_events.specs.Stages.{Key}
 use Rattle.pipe_events.specs.Worlds.{Load, World}
 use Rattle.pipe_plain.specs.Tables.{at_place}

@@ -2,7 +2,7 @@
 
 ghost use Rattle.std.specs.Prelude.{◌≡◌, [], replicate, IfOk};
 
-use pipe_frame::List;
+use pipe_schema::List;
 use std::alloc::{AllocError, Global};
 
 /// So many empty lists.

@@ -2,12 +2,13 @@
 
 ghost use Rattle.std.specs.Prelude.{◌≡◌, [], ◌∷◌, OnOk};
 ghost use Rattle.std.specs.List.{list_any};
-ghost use Rattle.pipe_frame.specs.Rows.{eq_row};
+ghost use Rattle.pipe_schema.specs.Rows.{eq_row};
 ghost use Rattle.pipe_events.specs.Decided.{stands_in};
 ghost use Rattle.pipe_world.specs.Changes.{AreAdded};
 
-use pipe_frame::{List, Row, TryClone};
-use pipe_plain::is_same_row;
+use pipe_frame::Row;
+use pipe_pairs::is_same_row;
+use pipe_schema::{List, TryClone};
 use std::alloc::AllocError;
 
 /// Whether a row is among some.

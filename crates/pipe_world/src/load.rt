@@ -3,7 +3,8 @@
 ghost use Rattle.std.specs.Prelude.{◌≡◌};
 ghost use Rattle.pipe_events.specs.Worlds.{load_of};
 
-use pipe_frame::{List, Row};
+use pipe_frame::Row;
+use pipe_schema::List;
 use std::marker::Model;
 
 /// Rows that a worker has on their way, from a node.

@@ -11,8 +11,9 @@ use crate::blanks::empty_lists;
 use crate::keys::{is_row_among, push_keys};
 use crate::load::Load;
 use crate::positions::{Positions, no_positions};
-use pipe_frame::{List, Row};
+use pipe_frame::Row;
 use pipe_plain::push_rows;
+use pipe_schema::List;
 use std::alloc::{AllocError, Global};
 use std::marker::Model;
 

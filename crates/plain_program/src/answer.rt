@@ -4,10 +4,11 @@ ghost use Rattle.std.specs.Prelude.{◌<◌, ◌^◌, length};
 
 use crate::refusal::{BAD_CONFIG, NOT_A_JOB, NOT_JSON, TOO_MANY_NODES, fault_line, too_many_line};
 use crate::table::{first_above, text_of_rows};
-use pipe_frame::{List, Row};
+use pipe_frame::Row;
 use pipe_job::{Job, JobError, read_job};
 use pipe_plain::{plan_fault, plan_rows, schema};
 use pipe_plan::PipeConfig;
+use pipe_schema::List;
 use std::alloc::{AllocError, Global};
 
 /// A status, and the lines of the rows where it is 0, else the line of the refusal.

@@ -1,7 +1,7 @@
 //! The lines that say why there are no rows.
 
-use pipe_frame::Text;
 use pipe_plan::PipeError;
+use pipe_schema::Text;
 use serde_json::Value;
 use std::alloc::{AllocError, Global};
 

@@ -1,9 +1,11 @@
 //! The rows of nodes: which are too many, and their lines.
 
-use pipe_frame::{DataFrame, Field, List, Row, Series, TryClone};
+use pipe_column::Series;
+use pipe_frame::{DataFrame, Row};
 use pipe_job::{push_head_line, push_rows};
 use pipe_plain::is_below;
 use pipe_plan::Arena;
+use pipe_schema::{Field, List, TryClone};
 use std::alloc::{AllocError, Global};
 
 /// Whether a node under the root has too many rows.

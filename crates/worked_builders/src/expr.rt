@@ -1,7 +1,7 @@
 //! Expressions as they are written in a plan.
 
 use pipe_expr::{Expr, NamedExpr};
-use pipe_frame::{AnyValue, DataType, List, Text};
+use pipe_schema::{AnyValue, DataType, List, Text};
 use std::alloc::{AllocError, Global};
 use worked_columns::cell_of;
 

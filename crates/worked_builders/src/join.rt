@@ -2,8 +2,8 @@
 
 use crate::expr::{Operand, WrittenExpr};
 use pipe_expr::{JoinCoalesce, JoinType};
-use pipe_frame::Text;
 use pipe_plan::{JoinOptions, RowsHint};
+use pipe_schema::Text;
 use std::alloc::{AllocError, Global};
 
 /// How many rows an input may have: the number if it is known, and an estimate.

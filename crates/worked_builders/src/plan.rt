@@ -5,8 +5,9 @@ use crate::join::WrittenJoin;
 use crate::node::WrittenNode;
 use crate::sort::WrittenSort;
 use pipe_expr::{FunctionIR, RenamePair};
-use pipe_frame::{DataFrame, List, Text};
+use pipe_frame::DataFrame;
 use pipe_plan::{Arena, IR};
+use pipe_schema::{List, Text};
 use std::alloc::{AllocError, Global};
 use worked_columns::{WrittenColumn, frame_of, texts};
 

@@ -1,7 +1,7 @@
 //! How sorts are written in a plan.
 
-use pipe_frame::List;
 use pipe_plan::{PlanSlice, SortOptions};
+use pipe_schema::List;
 use std::alloc::{AllocError, Global};
 
 /// The keys of a sort and its options: a flag per key, or one for all keys; a slice is its offset and its length.

@@ -1,6 +1,7 @@
 //! Cells written as texts.
 
-use pipe_frame::{AnyValue, Bytes, DataType, List, Native, Text};
+use pipe_column::Native;
+use pipe_schema::{AnyValue, Bytes, DataType, List, Text};
 use std::alloc::{AllocError, Global};
 
 /// The bytes that some hexadecimal digits spell, none where they spell no bytes.

@@ -1,7 +1,9 @@
 //! Columns and frames written as texts.
 
 use crate::cells::cell_of;
-use pipe_frame::{DataFrame, DataType, FrameError, Series, Text};
+use pipe_column::Series;
+use pipe_frame::DataFrame;
+use pipe_schema::{DataType, FrameError, Text};
 use std::alloc::{AllocError, Global};
 
 /// A column: its name, its type and its cells.

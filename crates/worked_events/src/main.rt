@@ -1,24 +1,20 @@
-//! Works lists of events out: prints what each shows, and which event is the first that isn't allowed, or whether the
-//! list is complete, and the rows of the root.
+//! Works lists of events and of edits out: prints what each shows, and what comes of it.
 #![tactic(auto)]
 
-mod answers;
-mod anti_joins;
-mod calls;
-mod full_joins;
-mod nested_joins;
-mod refused_closings;
-mod refused_flushes;
-mod refused_marks;
-mod refused_takes;
-mod semi_joins;
-mod sorts;
-mod table;
-mod written;
+mod events;
+mod views;
 
+use std::alloc::AllocError;
 use std::io;
 
-fn main(rt: HostRuntime) -> io::Result<()> {
-    let answers = table::answers(rt.alloc())?;
+/// Prints the answers of a part.
+fn print_part(rt: &impl Print, answers: Result<String, AllocError>) -> io::Result<()> {
+    let answers = answers?;
     print!(rt; "{answers}")
+}
+
+fn main(rt: HostRuntime) -> io::Result<()> {
+    let alloc = rt.alloc();
+    print_part(&rt, events::answers(alloc))?;
+    print_part(&rt, views::answers(alloc))
 }

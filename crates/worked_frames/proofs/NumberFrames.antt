@@ -2,18 +2,22 @@
 use Rattle.std.proofs.Common.{◌≡◌, ℕ, Bool, true, false, cond, Option, Some, None, List, [], ◌∷◌, ◌*◌, ◌/◌, length, map, refl, sym, ap, ◌∙◌, arith}
 use Rattle.std.proofs.lemmas.Bool.Decides.{nat_tests}
 use Rattle.std.specs.Prelude.{nat_lt, IfSome, IfOk, OnOk, Result, Ok, Err, sum_by}
-use Rattle.pipe_frame.specs.Native.{has_fixed_width}
-use Rattle.pipe_frame.specs.Series.{Cells, named_cells}
-use Rattle.pipe_frame.specs.declared.any_value.AnyValue.{AnyValue}
-use Rattle.pipe_frame.specs.declared.any_value.AnyValue.TheVariants as cell
-use Rattle.pipe_frame.specs.declared.data_type.DataType.{DataType}
-use Rattle.pipe_frame.specs.declared.data_type.DataType.TheVariants as dtype
-use Rattle.pipe_frame.specs.declared.error.FrameError.{FrameError}
-use Rattle.pipe_frame.specs.Frame.{Table, field_of, column_rows, table_of, AllOfHeight}
-use Rattle.pipe_frame.specs.Sizes.{frame_size, column_size, width_of, length_of}
+use Rattle.pipe_column.specs.Native.{has_fixed_width}
+use Rattle.pipe_column.specs.Series.{Cells, named_cells}
+use Rattle.pipe_schema.specs.declared.any_value.AnyValue.{AnyValue}
+use Rattle.pipe_schema.specs.declared.any_value.AnyValue.TheVariants as cell
+use Rattle.pipe_schema.specs.declared.data_type.DataType.{DataType}
+use Rattle.pipe_schema.specs.declared.data_type.DataType.TheVariants as dtype
+use Rattle.pipe_schema.specs.declared.error.FrameError.{FrameError}
+use Rattle.pipe_column.specs.Columns.{field_of, column_rows, AllOfHeight}
+use Rattle.pipe_frame.specs.Frame.{Table, table_of}
+use Rattle.pipe_schema.specs.Sizes.{width_of, length_of}
+use Rattle.pipe_column.specs.Sizes.{column_size}
+use Rattle.pipe_frame.specs.Sizes.{frame_size}
 use Rattle.pipe_frame.specs.Stacker.{Holding, stacked_on, joined, still_held}
-use Rattle.pipe_frame.proofs.Weights.{total-sum_by}
-use Rattle.pipe_frame.proofs.Sizes.{sized, size-columns}
+use Rattle.pipe_schema.proofs.Weights.{total-sum_by}
+use Rattle.pipe_column.proofs.Sizes.{sized}
+use Rattle.pipe_frame.proofs.Sizes.{size-columns}
 use Rattle.worked_frames.specs.Numbers.{one_field, HoldsNumbers}
 
 -- ---- what a stacker holds

@@ -1,26 +1,20 @@
-//! Works frames out: prints what each call on columns, frames, chunks and stackers gives.
+//! Works frames and the encodings of their rows out: prints what each call gives.
 #![tactic(auto)]
 
-mod chunks;
-mod columns;
-mod copied;
-mod copies;
-mod names;
-mod numbers;
-mod refusals;
-mod rows;
-mod series;
-mod shared;
-mod sizes;
-mod stacks;
-mod stops;
-mod table;
-mod told;
-mod wide;
+mod frames;
+mod keys;
 
+use std::alloc::AllocError;
 use std::io;
 
-fn main(rt: HostRuntime) -> io::Result<()> {
-    let answers = table::answers(&rt, rt.alloc())?;
+/// Prints the answers of a part.
+fn print_part(rt: &impl Print, answers: Result<String, AllocError>) -> io::Result<()> {
+    let answers = answers?;
     print!(rt; "{answers}")
+}
+
+fn main(rt: HostRuntime) -> io::Result<()> {
+    let alloc = rt.alloc();
+    print_part(&rt, frames::answers(&rt, alloc))?;
+    keys::print_all(&rt, alloc)
 }

@@ -1,17 +1,22 @@
-//! Works out the journals of runs: the pipelines of each plan and the order in which their sources are taken; what one
-//! worker takes and which sides are closed, in order; and, by several workers, that each took as often as it entered the
-//! gate.
+//! Works out what the engine does over plans: prints the journals of runs, what reconciliations tell, and self-tests.
 #![tactic(auto)]
 
-mod gates;
-mod pipelines;
-mod plans;
-mod runs;
-mod table;
+mod journals;
+mod recon;
+mod selftest;
 
+use std::alloc::AllocError;
 use std::io;
 
-fn main(rt: HostRuntime) -> io::Result<()> {
-    let answers = table::answers(&rt, rt.alloc())?;
+/// Prints the answers of a part.
+fn print_part(rt: &impl Print, answers: Result<String, AllocError>) -> io::Result<()> {
+    let answers = answers?;
     print!(rt; "{answers}")
+}
+
+fn main(rt: HostRuntime) -> io::Result<()> {
+    let alloc = rt.alloc();
+    print_part(&rt, journals::answers(&rt, alloc))?;
+    print_part(&rt, recon::answers(&rt, alloc))?;
+    print_part(&rt, selftest::answers(&rt, alloc))
 }

@@ -1,6 +1,6 @@
 -- What is owed of rows that are given so many times.
 use Rattle.std.proofs.Common.{◌≡◌, ℕ, zero, suc, ◌+◌, ◌-◌, ◌<◌, List, [], ◌∷◌, ◌++◌, length, refl, ap, sym, ◌∙◌, subst, arith, append-nil, length-append}
-use Rattle.pipe_frame.specs.Rows.{Row, Same}
+use Rattle.pipe_schema.specs.Rows.{Row, Same}
 use Rattle.pipe_ops.specs.Pieces.{IsFirstOf}
 use Rattle.worked_lanes.specs.Repeats.{copies}
 

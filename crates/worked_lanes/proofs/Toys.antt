@@ -2,7 +2,7 @@
 use Rattle.std.proofs.Common.{◌≡◌, ℕ, suc, ◌≤◌, List, [], ◌∷◌, length, get_or, refl, ap, sym, ◌∙◌, subst, arith}
 use Rattle.std.specs.List.{All, AllByRecursion}
 use Rattle.std.proofs.lemmas.List.Elements.{All-cons, All-head, All-nil, All-tail, All-weaker, recursion_from_All}
-use Rattle.pipe_frame.specs.declared.field.Field.{Field}
+use Rattle.pipe_schema.specs.declared.field.Field.{Field}
 use Rattle.pipe_ops.specs.declared.sink.Sink.{Ghosts as SinkWords}
 use Rattle.pipe_chain.specs.Chain.{IsChain, AllSuit, AllSeated}
 use Rattle.pipe_chain.specs.Counts.{AllWithin}
@@ -14,7 +14,7 @@ use Rattle.pipe_run.specs.Stages.{operators_of}
 use Rattle.pipe_run.specs.declared.lane.Lane.{Lane}
 use Rattle.pipe_run.specs.declared.stage.Basin.{Basin}
 use Rattle.pipe_run.specs.declared.stage.Stage.{Stage}
-use Rattle.pipe_takings.specs.Notes.{HasNothing}
+use Rattle.pipe_run.specs.Notes.{HasNothing}
 
 pub within-more : (less more : ℕ) (ns : List ℕ) → less ≤ more → AllWithin less ns → AllWithin more ns
 within-more less more [] up h = tt

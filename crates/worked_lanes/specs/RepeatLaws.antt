@@ -4,8 +4,8 @@ use Rattle.std.proofs.Math.Nat.{sub-zero}
 use Rattle.std.specs.List.{flat_map}
 use Rattle.std.proofs.lemmas.List.{map-id}
 use Rattle.std.proofs.lemmas.List.Concat.{flat_map_single}
-use Rattle.pipe_frame.specs.Rows.{Row, Same}
-use Rattle.pipe_frame.proofs.Weights.{SameBag, SameBag-refl, SameBag-sym, SameBag-trans, SameBag-append, SameBag-from_rows, SameBag-pieces_apart, Same-from_bag}
+use Rattle.pipe_schema.specs.Rows.{Row, Same}
+use Rattle.pipe_schema.proofs.Weights.{SameBag, SameBag-refl, SameBag-sym, SameBag-trans, SameBag-append, SameBag-from_rows, SameBag-pieces_apart, Same-from_bag}
 use Rattle.worked_lanes.specs.Repeats.{times_of, copies}
 
 none_of : (rows : List Row) → [] ≡ flat_map (times_of 0) rows

@@ -1,26 +1,25 @@
-//! Works lanes out: pieces, counts, refusals, the stop check, and what only several threads show.
+//! Works out what lanes are made of: prints what sources give, what sinks end as, and what lanes do between them.
 #![tactic(auto)]
 
-mod alone;
-mod gates;
-mod harness;
-mod repeat;
-mod threads;
+mod lanes;
+mod shared;
+mod sorts;
+mod sources;
 mod told;
 
-use std::alloc::{AllocError, Global};
+use std::alloc::AllocError;
 use std::io;
-use std::thread::Threads;
 
-/// What each case shows, and its answer.
-fn answers<R: Threads + Sync>(rt: &R, alloc: Global) -> Result<String, AllocError> {
-    let mut answers = String::new(alloc);
-    alone::tell(rt, alloc, &mut answers)?;
-    threads::tell(rt, alloc, &mut answers)?;
-    Ok(answers)
+/// Prints the answers of a part.
+fn print_part(rt: &impl Print, answers: Result<String, AllocError>) -> io::Result<()> {
+    let answers = answers?;
+    print!(rt; "{answers}")
 }
 
 fn main(rt: HostRuntime) -> io::Result<()> {
-    let answers = answers(&rt, rt.alloc())?;
-    print!(rt; "{answers}")
+    let alloc = rt.alloc();
+    print_part(&rt, shared::answers(&rt, alloc))?;
+    print_part(&rt, sources::answers(alloc))?;
+    print_part(&rt, sorts::answers(&rt, alloc))?;
+    print_part(&rt, lanes::answers(&rt, alloc))
 }

@@ -1,90 +1,58 @@
-//! How outcomes are told.
+//! Answers as texts.
 
-use pipe_frame::{AnyValue, DataFrame};
-use pipe_run::{Entry, Halt, Refusal};
-use pipe_takings::Note;
+use pipe_frame::{DataFrame, Row};
+use pipe_schema::AnyValue;
 use std::alloc::{AllocError, Global};
 
-/// The words for how lanes ended.
-pub(crate) fn ending_text(alloc: Global, ending: &Result<(), Halt>) -> Result<String, AllocError> {
-    match ending {
-        Ok(()) => String::from_str(alloc, "all rows"),
-        Err(Halt::Stopped) => String::from_str(alloc, "stopped"),
-        Err(Halt::Refused(Refusal::Memory)) => String::from_str(alloc, "memory"),
-        Err(Halt::Refused(Refusal::TooMany(node))) => {
-            format!(in alloc; "too many rows of node {node}")
+/// A cell: `-` for null, bytes in hexadecimal digits.
+fn cell_text(alloc: Global, cell: &AnyValue) -> Result<String, AllocError> {
+    match cell {
+        AnyValue::Null => String::from_str(alloc, "-"),
+        AnyValue::Int32(x) => format!(in alloc; "{x}"),
+        AnyValue::Int64(x) => format!(in alloc; "{x}"),
+        AnyValue::UInt32(x) => format!(in alloc; "{x}"),
+        AnyValue::UInt64(x) => format!(in alloc; "{x}"),
+        AnyValue::Boolean(x) => format!(in alloc; "{x}"),
+        AnyValue::String(x) => String::from_str(alloc, x.as_str()),
+        AnyValue::Binary(x) => hex::encode(alloc, x.as_slice()),
+        AnyValue::Int128(x) => format!(in alloc; "{x}"),
+    }
+}
+
+/// Puts the cells of a row behind a line.
+fn push_row(alloc: Global, line: &mut String, row: &Row) -> Result<(), AllocError> {
+    line.push_str(" |")?;
+    for cell in row.as_slice() {
+        line.push_str(" ")?;
+        line.push_str(cell_text(alloc, cell)?.as_str())?;
+    }
+    Ok(())
+}
+
+/// A frame: the names of its columns, and each row behind a bar.
+pub(crate) fn frame_text(alloc: Global, frame: &DataFrame) -> Result<String, AllocError> {
+    let mut line = String::new(alloc);
+    for (place, field) in frame.schema().fields().iter().enumerate() {
+        if place > 0 {
+            line.push_str(" ")?;
         }
+        line.push_str(field.name.as_str())?;
     }
+    for i in 0..frame.height() {
+        push_row(alloc, &mut line, &frame.row(i)?)?;
+    }
+    Ok(line)
 }
 
-/// Puts an entry of a lane behind others.
-fn push_entry(text: &mut String, alloc: Global, entry: &Entry) -> Result<(), AllocError> {
-    let word = match entry {
-        Entry::Take { part, from, count } => format!(in alloc; " take {part} {from} {count}")?,
-        Entry::Flush { part } => format!(in alloc; " flush {part}")?,
-        Entry::Done => String::from_str(alloc, " done")?,
-    };
-    text.push_str(word.as_str())
+/// The line of a case.
+pub(crate) fn line(answers: &mut String, shows: &str, told: String) -> Result<(), AllocError> {
+    answers.push_str(shows)?;
+    answers.push_str(": ")?;
+    answers.push_str(told.as_str())?;
+    answers.push_str("\n")
 }
 
-/// What the first lane noted, in the rounds that ended well and then in the one that didn't.
-pub(crate) fn entries_text(
-    alloc: Global,
-    notes: &[Note],
-    kept: &[Entry],
-) -> Result<String, AllocError> {
-    let mut text = String::new(alloc);
-    for note in notes {
-        if note.worker == 0 {
-            push_entry(&mut text, alloc, &note.entry)?;
-        }
-    }
-    for entry in kept {
-        push_entry(&mut text, alloc, entry)?;
-    }
-    Ok(text)
-}
-
-/// 1 where a chunk was taken.
-fn takes_by(entry: &Entry) -> u64 {
-    if matches!(entry, Entry::Take { .. }) {
-        1
-    } else {
-        0
-    }
-}
-
-/// How many chunks were taken, by what all lanes noted in the rounds that ended well.
-pub(crate) fn takes_noted(notes: &[Note]) -> u64 {
-    let mut takes = 0u64;
-    for note in notes {
-        takes = takes.saturating_add(takes_by(&note.entry));
-    }
-    takes
-}
-
-/// How many chunks a lane took, by what it keeps of a round that didn't.
-pub(crate) fn takes_kept(entries: &[Entry]) -> u64 {
-    let mut takes = 0u64;
-    for entry in entries {
-        takes = takes.saturating_add(takes_by(entry));
-    }
-    takes
-}
-
-/// The cells of the first column.
-pub(crate) fn cells_text(alloc: Global, frame: &DataFrame) -> Result<String, AllocError> {
-    let mut text = String::new(alloc);
-    let columns = frame.get_columns();
-    let Some(column) = columns.first() else {
-        return Ok(text);
-    };
-    for i in 0..column.len() {
-        let word = match column.get(i)? {
-            AnyValue::Int64(x) => format!(in alloc; " {x}")?,
-            _ => String::from_str(alloc, " -")?,
-        };
-        text.push_str(word.as_str())?;
-    }
-    Ok(text)
+/// What is told where the frame or the sort of a case couldn't be made.
+pub(crate) fn not_made(alloc: Global) -> Result<String, AllocError> {
+    String::from_str(alloc, "not made")
 }

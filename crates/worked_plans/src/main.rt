@@ -1,30 +1,24 @@
-//! Works plans out: prints what each shows, and what the plain program gives for it.
+//! Works expressions and plans out: prints what each shows, and what is told of it.
 #![tactic(auto)]
 
-mod answers;
-mod arithmetic;
-mod bad_joins;
-mod bad_nodes;
-mod bad_sorts;
-mod cross_and_left;
-mod duplicate_names;
-mod faults;
-mod full_joins;
-mod functions;
-mod inner_joins;
-mod ledger;
-mod projections;
-mod semi_and_anti;
-mod sides;
-mod sorts;
-mod table;
-mod truth;
-mod type_mismatches;
-mod unknown_columns;
+mod alike;
+mod checks;
+mod exprs;
+mod lines;
+mod plans;
 
+use std::alloc::AllocError;
 use std::io;
 
-fn main(rt: HostRuntime) -> io::Result<()> {
-    let answers = table::answers(rt.alloc())?;
+/// Prints the answers of a part.
+fn print_part(rt: &impl Print, answers: Result<String, AllocError>) -> io::Result<()> {
+    let answers = answers?;
     print!(rt; "{answers}")
+}
+
+fn main(rt: HostRuntime) -> io::Result<()> {
+    let alloc = rt.alloc();
+    print_part(&rt, exprs::answers(alloc))?;
+    print_part(&rt, checks::answers(alloc))?;
+    print_part(&rt, plans::answers(alloc))
 }

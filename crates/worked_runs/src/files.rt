@@ -1,7 +1,7 @@
 //! Files in memory.
 
 use pipe_cli::NamedBytes;
-use pipe_frame::Bytes;
+use pipe_schema::Bytes;
 use std::alloc::{AllocError, Global};
 
 /// A file of a name and some text.

@@ -3,7 +3,7 @@
 ghost use Rattle.std.specs.Prelude.{◌<◌};
 
 use pipe_cli::{JobReader, MemReader, MemWriter, RowWriter, run_program};
-use pipe_frame::{Bytes, Gate, List, NeverStop, OpenGate, StopCheck, Text};
+use pipe_schema::{Bytes, Gate, List, NeverStop, OpenGate, StopCheck, Text};
 use std::alloc::{AllocError, Global};
 use std::thread::Threads;
 

@@ -4,7 +4,7 @@ use Rattle.std.specs.Prelude.{ℕ, ◌≡◌, ◌==◌, List, Bool, Option, Some
 use Rattle.std.specs.List.{list_all}
 use Rattle.pipe_frame.specs.Frame.{Table}
 use Rattle.pipe_job.specs.JobSpelling.{Task}
-use Rattle.pipe_parts_text.specs.PartsLines.{IsPartsLine}
+use Rattle.pipe_parts.specs.PartsLines.{IsPartsLine}
 use Rattle.pipe_cli.specs.Contract.{Contract}
 use Rattle.pipe_cli.specs.Jobs.{looks_at_those}
 

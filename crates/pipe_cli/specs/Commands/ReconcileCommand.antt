@@ -1,7 +1,7 @@
 -- `reconcile`: the partners of the rows of two tables.
 use Rattle.std.specs.Prelude.{◌≡◌, [], ◌∷◌, true}
 use Rattle.pipe_recon.specs.FullJoin.{HasTooMany}
-use Rattle.pipe_recon_text.specs.ReconLines.{recon_lines}
+use Rattle.pipe_recon.specs.ReconLines.{recon_lines}
 use Rattle.pipe_cli.specs.Contract.{Contract}
 use Rattle.pipe_cli.specs.Recons.{IsRefusedRecon, IsSoundRecon, IsWithinRecon, recon_kind, recon_of}
 

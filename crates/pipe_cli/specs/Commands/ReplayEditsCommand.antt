@@ -1,7 +1,7 @@
 -- `replay-edits`: a join that is kept while its tables are edited. A view or an edit of it that is too long is refused as
 -- its faults are, so no sound one has a node of too many rows.
 use Rattle.std.specs.Prelude.{[], ◌∷◌, false}
-use Rattle.pipe_view_text.specs.ReplayEnds.{AreReplayLines, IsRefusedReplay, IsSoundReplay}
+use Rattle.pipe_view.specs.ReplayEnds.{AreReplayLines, IsRefusedReplay, IsSoundReplay}
 use Rattle.pipe_cli.specs.Contract.{Contract}
 use Rattle.pipe_cli.specs.Replays.{replay_kind}
 

@@ -1,7 +1,7 @@
 -- `stream`: the rows of a job, block by block. `run_words` answers it, and `run_program` doesn't know it.
 use Rattle.std.specs.Prelude.{ℕ, ◌≡◌, List, [], ◌∷◌, length, map, true}
 use Rattle.pipe_driver.specs.Within.{HasTooMany}
-use Rattle.pipe_frame.specs.Rows.{Row, SameLines}
+use Rattle.pipe_schema.specs.Rows.{Row, SameLines}
 use Rattle.pipe_job.specs.JobSpelling.{Task}
 use Rattle.pipe_job.specs.Line.{head_line, row_line, lines}
 use Rattle.pipe_plan.specs.Node.{Sort}

@@ -16,8 +16,8 @@ use crate::jobs::{checked, job_in};
 use crate::status::Refusal;
 use pipe_branches::explain as texts_of;
 use pipe_check::CheckedPlan;
-use pipe_frame::Text;
 use pipe_job::Job;
+use pipe_schema::Text;
 use std::alloc::{AllocError, Global};
 
 /// Puts a text and the end of its line.

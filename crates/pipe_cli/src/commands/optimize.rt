@@ -5,7 +5,7 @@ ghost use Rattle.std.specs.Prelude.{◌≡◌, ◌≤◌, map, IfOk, IfErr, OnOk
 ghost use Rattle.pipe_job.specs.JobSpelling.{TaskFits, task_of};
 ghost use Rattle.pipe_plan.specs.Node.{node_of};
 ghost use Rattle.pipe_plan.specs.Plan.{plan_of};
-ghost use Rattle.pipe_opt.specs.Sizes.{IsTooLarge, count_under};
+ghost use Rattle.pipe_rules.specs.Sizes.{IsTooLarge, count_under};
 ghost use Rattle.pipe_cli.specs.Answers.{text_of};
 ghost use Rattle.pipe_cli.specs.Contract.{Answered, Because, Causes};
 ghost use Rattle.pipe_cli.specs.Commands.OptimizeCommand.{optimize};

@@ -15,9 +15,10 @@ use crate::answer::Answer;
 use crate::heights::heights_told;
 use crate::jobs::{checked, job_in};
 use crate::status::Refusal;
-use pipe_frame::{DataFrame, Text};
+use pipe_frame::DataFrame;
 use pipe_job::Job;
-use pipe_parts_text::parts_line;
+use pipe_parts::parts_line;
+use pipe_schema::Text;
 use std::alloc::{AllocError, Global};
 
 /// Whether no frame has a row.

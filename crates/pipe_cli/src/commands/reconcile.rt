@@ -1,7 +1,7 @@
 //! `reconcile`: two tables are read and reconciled by a key, and the partners of their rows are told.
 
 ghost use Rattle.std.specs.Prelude.{◌≡◌, true, IfOk, IfErr, IsErrOf, OnOk};
-ghost use Rattle.pipe_frame.specs.Counts.{Counts, Rises};
+ghost use Rattle.pipe_schema.specs.Counts.{Counts, Rises};
 ghost use Rattle.pipe_cli.specs.Answers.{text_of};
 ghost use Rattle.pipe_cli.specs.Contract.{Answered, Because, Causes};
 ghost use Rattle.pipe_cli.specs.Commands.ReconcileCommand.{reconcile};
@@ -12,9 +12,8 @@ use crate::answer::Answer;
 use crate::recons::recon_job_in;
 use crate::refused::refused;
 use crate::status::Refusal;
-use pipe_frame::{Gate, StopCheck};
-use pipe_recon::{Recon, reconcile as partners_of};
-use pipe_recon_text::{ReconJob, recon_lines};
+use pipe_recon::{Recon, ReconJob, recon_lines, reconcile as partners_of};
+use pipe_schema::{Gate, StopCheck};
 use std::alloc::Global;
 use std::thread::Threads;
 

@@ -2,9 +2,9 @@
 
 ghost use Rattle.std.specs.Prelude.{◌≡◌, IfOk, IfErr, IsErrOf, OnOk};
 ghost use Rattle.std.specs.List.{AllByRecursion};
-ghost use Rattle.pipe_view_text.specs.EditSpelling.{EditFits};
-ghost use Rattle.pipe_view_text.specs.ReplayEnds.{AreReplayLines, IsSoundReplay};
-ghost use Rattle.pipe_view_text.specs.ReplaySpelling.{replay_task};
+ghost use Rattle.pipe_view.specs.EditSpelling.{EditFits};
+ghost use Rattle.pipe_view.specs.ReplayEnds.{AreReplayLines, IsSoundReplay};
+ghost use Rattle.pipe_view.specs.ReplaySpelling.{replay_task};
 ghost use Rattle.pipe_cli.specs.Answers.{text_of};
 ghost use Rattle.pipe_cli.specs.Contract.{Answered, Because, Causes};
 ghost use Rattle.pipe_cli.specs.Commands.ReplayEditsCommand.{replay_edits};
@@ -14,7 +14,7 @@ use crate::answer::Answer;
 use crate::refused::refused;
 use crate::replays::replay_in;
 use crate::status::Refusal;
-use pipe_view_text::{Replay, replay_lines};
+use pipe_view::{Replay, replay_lines};
 use std::alloc::Global;
 
 /// The lines of a view and its edits.

@@ -3,7 +3,7 @@
 ghost use Rattle.std.specs.Prelude.{◌≡◌, ◌++◌, true, IfOk, IfErr, IsErrOf, OnOk};
 ghost use Rattle.std.specs.List.{flat_map};
 ghost use Rattle.pipe_exec.specs.Evaluated.{HasRowsOf};
-ghost use Rattle.pipe_frame.specs.Counts.{Counts, Rises};
+ghost use Rattle.pipe_schema.specs.Counts.{Counts, Rises};
 ghost use Rattle.pipe_job.specs.JobSpelling.{task_of};
 ghost use Rattle.pipe_job.specs.Line.{head_line, row_line};
 ghost use Rattle.pipe_plan.specs.Plan.{plan_of};
@@ -19,8 +19,9 @@ use crate::jobs::job_in;
 use crate::refused::refused;
 use crate::status::Refusal;
 use pipe_exec::run_plan;
-use pipe_frame::{DataFrame, Gate, StopCheck};
+use pipe_frame::DataFrame;
 use pipe_job::{Job, push_head_line, push_rows};
+use pipe_schema::{Gate, StopCheck};
 use std::alloc::{AllocError, Global};
 use std::thread::Threads;
 

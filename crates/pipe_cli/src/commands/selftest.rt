@@ -1,7 +1,7 @@
 //! `selftest START ROWS`: two frames are drawn and joined in three ways, and it is told how many rows each join has.
 
 ghost use Rattle.std.specs.Prelude.{◌≡◌, ◌≤◌, ℕ, List, true, IfOk, IfErr, IsErrOf, OnOk};
-ghost use Rattle.pipe_frame.specs.Counts.{Counts, Rises};
+ghost use Rattle.pipe_schema.specs.Counts.{Counts, Rises};
 ghost use Rattle.pipe_selftest.specs.Ends.{IsWithin};
 ghost use Rattle.pipe_selftest.specs.Joins.{full_root, inner_root, left_root, plan_from};
 ghost use Rattle.pipe_selftest.specs.Lines.{rows_at};
@@ -13,7 +13,7 @@ ghost use Rattle.pipe_cli.specs.Status.{OneOf, status_of, yes_in};
 use crate::answer::Answer;
 use crate::refused::refused;
 use crate::status::Refusal;
-use pipe_frame::{Gate, StopCheck};
+use pipe_schema::{Gate, StopCheck};
 use pipe_selftest::{JoinCounts, selftest as counts_of, selftest_lines};
 use std::alloc::Global;
 use std::thread::Threads;

@@ -1,5 +1,5 @@
 use Rattle.pipe_plan.specs.Node.{node_of}
-use Rattle.pipe_fields.specs.Kept.{kept_schema}
+use Rattle.pipe_check.specs.Kept.{kept_schema}
 use Rattle.pipe_check.proofs.Full.{node_full_by}
 use Rattle.pipe_check.proofs.node_check.check_node.Goals as goal
 

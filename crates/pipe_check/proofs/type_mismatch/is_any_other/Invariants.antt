@@ -1,6 +1,6 @@
 use Rattle.std.proofs.Common.{drop, ◌≡◌}
 use Rattle.std.specs.List.{list_any}
-use Rattle.pipe_fields.specs.Kept.{kept_schema}
+use Rattle.pipe_check.specs.Kept.{kept_schema}
 use Rattle.pipe_check.specs.Differences.{is_other_schema}
 use Rattle.pipe_check.proofs.type_mismatch.is_any_other.Given as goal
 

@@ -1,5 +1,5 @@
 use Rattle.std.proofs.Common.{◌≡◌, None, sym, ◌∙◌, arith}
-use Rattle.pipe_frame.specs.Schema.{first_unknown}
+use Rattle.pipe_schema.specs.Schema.{first_unknown}
 use Rattle.pipe_expr.specs.Formula.{formula_of}
 use Rattle.pipe_expr.specs.Types.{columns_in}
 use Rattle.pipe_check.proofs.Unknown.{exprs_unknown, exprs_known}

@@ -1,6 +1,6 @@
 use Rattle.pipe_expr.specs.Types.{columns_in}
 use Rattle.std.proofs.Common.{drop, map, ◌≡◌}
-use Rattle.pipe_frame.specs.Schema.{first_unknown}
+use Rattle.pipe_schema.specs.Schema.{first_unknown}
 use Rattle.std.specs.List.{flat_map}
 use Rattle.pipe_expr.specs.Formula.{formula_of}
 use Rattle.pipe_check.proofs.unknown_column.unknown_in_exprs.Given as goal

@@ -1,5 +1,5 @@
 use Rattle.std.proofs.Common.{drop, ◌≡◌}
-use Rattle.pipe_frame.specs.Schema.{first_unknown}
+use Rattle.pipe_schema.specs.Schema.{first_unknown}
 use Rattle.pipe_check.proofs.unknown_column.unknown_of.Given as goal
 
 abbrev pub invariant-loop-name : goal.invariant-loop-name

@@ -1,5 +1,5 @@
 use Rattle.std.proofs.Common.{subst}
-use Rattle.pipe_frame.specs.Schema.{IsSchema}
+use Rattle.pipe_schema.specs.Schema.{IsSchema}
 use Rattle.pipe_convert.proofs.Operators.{function_of}
 use Rattle.pipe_convert.proofs.function.function_operator.Goals as goal
 

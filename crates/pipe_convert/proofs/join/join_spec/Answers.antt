@@ -1,7 +1,7 @@
 use Rattle.std.proofs.Common.{subst, sym, ◌∙◌, List}
 use Rattle.std.specs.List.{AllByRecursion}
-use Rattle.pipe_frame.specs.Schema.{IsSchema}
-use Rattle.pipe_frame.specs.declared.field.Field.{Field}
+use Rattle.pipe_schema.specs.Schema.{IsSchema}
+use Rattle.pipe_schema.specs.declared.field.Field.{Field}
 use Rattle.pipe_expr.specs.Formula.{formulas_of}
 use Rattle.pipe_table.specs.Spec.{IsMadeFor}
 use Rattle.pipe_convert.specs.Keys.{AreKeys}

@@ -1,7 +1,7 @@
 use Rattle.std.proofs.Common.{refl, subst, List}
 use Rattle.pipe_expr.specs.Formula.{named_formula_of, named_formulas_of}
-use Rattle.pipe_frame.specs.Schema.{IsSchema}
-use Rattle.pipe_frame.specs.declared.field.Field.{Field}
+use Rattle.pipe_schema.specs.Schema.{IsSchema}
+use Rattle.pipe_schema.specs.declared.field.Field.{Field}
 use Rattle.pipe_plan.specs.Node as node
 use Rattle.pipe_convert.specs.Converted.{AreMadeFor}
 use Rattle.pipe_convert.proofs.Operators.{input_under, exprs_typed, projection_of}

@@ -1,5 +1,5 @@
 use Rattle.std.proofs.Common.{subst, ◌∙◌, Option, List, ℕ}
-use Rattle.pipe_frame.specs.Schema.{IsSchema}
+use Rattle.pipe_schema.specs.Schema.{IsSchema}
 use Rattle.pipe_plan.specs.Node as node
 use Rattle.pipe_convert.specs.Converted.{IsNode}
 use Rattle.pipe_convert.proofs.Sources.{frame_there, names_scanned, scan_all, scan_named, frame_same}

@@ -1,5 +1,5 @@
 use Rattle.std.proofs.Common.{refl, subst, ◌∙◌}
-use Rattle.pipe_frame.specs.Schema.{IsSchema}
+use Rattle.pipe_schema.specs.Schema.{IsSchema}
 use Rattle.pipe_plan.specs.Node as node
 use Rattle.pipe_convert.proofs.Operators.{input_under, names_kept, names_of_node}
 use Rattle.pipe_convert.proofs.simple_projection.simple_projection_operator.Goals as goal

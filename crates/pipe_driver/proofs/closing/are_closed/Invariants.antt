@@ -1,5 +1,5 @@
 use Rattle.std.proofs.Common.{◌≡◌, ℕ, ◌<◌, take}
-use Rattle.pipe_legs.specs.Ways.{occurs}
+use Rattle.pipe_driver.specs.Ways.{occurs}
 use Rattle.pipe_driver.specs.Tables.{number_at}
 use Rattle.pipe_driver.proofs.closing.are_closed.Given as goal
 

@@ -7,7 +7,7 @@ use Rattle.pipe_engine.specs.Finished.{EndsAsRoot}
 use Rattle.pipe_engine.specs.Known.{words_of}
 use Rattle.pipe_engine.specs.Stands.{Settings}
 use Rattle.pipe_driver.specs.Runner.{Finalizes, MayFinish}
-use Rattle.pipe_legs.specs.Meaning.{Meaning}
+use Rattle.pipe_driver.specs.Meaning.{Meaning}
 use Rattle.pipe_driver.proofs.Drives.{run_with}
 use Rattle.pipe_driver.specs.Runs.{Unparks, StartsElsewhere}
 use Rattle.pipe_engine.proofs.Pacing.{pace_closed}

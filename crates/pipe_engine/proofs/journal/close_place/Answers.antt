@@ -1,6 +1,6 @@
 use Rattle.std.proofs.Common.{List, map, ap, ◌∙◌, ◌++◌}
 use Rattle.pipe_events.specs.EventValues.{event_value}
-use Rattle.pipe_recording.specs.Written.{closing}
+use Rattle.pipe_driver.specs.Written.{closing}
 use Rattle.pipe_engine.proofs.Asked.{stops_passed}
 use Rattle.pipe_engine.proofs.Breaking.{err_same}
 use Rattle.pipe_engine.proofs.Kept.{finalizes_on}

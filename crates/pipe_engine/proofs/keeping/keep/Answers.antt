@@ -1,4 +1,4 @@
-use Rattle.pipe_sinks.specs.Sinks.{sink_rows}
+use Rattle.pipe_slots.specs.Sinks.{sink_rows}
 use Rattle.pipe_engine.specs.Engine.{whole_rows}
 use Rattle.pipe_engine.proofs.Breaking.{err_same}
 use Rattle.pipe_engine.proofs.Wholes.{both_held, put_before}

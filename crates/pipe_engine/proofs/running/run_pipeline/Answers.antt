@@ -1,7 +1,7 @@
 use Rattle.std.proofs.Common.{◌≡◌, ◌∷◌, List, Option, ℕ, sym, subst, ◌<◌, arith, ◌∙◌, refl}
 use Rattle.std.proofs.lemmas.List.{nil_from_length}
 use Rattle.pipe_frame.specs.Frame.{Table}
-use Rattle.pipe_legs.specs.Ways.{occurs}
+use Rattle.pipe_driver.specs.Ways.{occurs}
 use Rattle.pipe_ops.specs.declared.context.PExecutionContext.{PExecutionContext}
 use Rattle.pipe_source.specs.declared.phys_source.PhysSource.{PhysSource}
 use Rattle.pipe_driver.specs.declared.pipe_line.PipeLine.{PipeLine}

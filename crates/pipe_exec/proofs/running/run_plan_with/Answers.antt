@@ -3,7 +3,7 @@ use Rattle.pipe_plan.specs.Plan.{plan_of}
 use Rattle.pipe_check.specs.Checked.{Checked}
 use Rattle.pipe_driver.specs.Within.{AllWithin}
 use Rattle.pipe_events.specs.declared.event.Event.{Event}
-use Rattle.pipe_takings.specs.Paced.{KeepsPace}
+use Rattle.pipe_run.specs.Paced.{KeepsPace}
 use Rattle.pipe_lines.specs.Journals.{IsJournalOf}
 use Rattle.pipe_exec.proofs.running.run_plan_with.Goals as goal
 

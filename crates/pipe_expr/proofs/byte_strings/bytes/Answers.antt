@@ -1,5 +1,5 @@
 use Rattle.std.specs.Option.{option_copied}
-use Rattle.pipe_frame.specs.Cell.{binary_cell}
+use Rattle.pipe_schema.specs.Cell.{binary_cell}
 use Rattle.pipe_expr.proofs.Operands.{repeated_cell}
 use Rattle.pipe_expr.proofs.byte_strings.bytes.Goals as goal
 

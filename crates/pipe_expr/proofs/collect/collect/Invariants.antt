@@ -1,5 +1,5 @@
 use Rattle.std.proofs.Common.{◌≡◌, ◌≤◌, length, take, vec_capacity}
-use Rattle.pipe_frame.specs.Column.{nullables}
+use Rattle.pipe_column.specs.Column.{nullables}
 use Rattle.pipe_expr.proofs.collect.collect.Given as goal
 
 abbrev pub invariant-loop-i : goal.invariant-loop-i

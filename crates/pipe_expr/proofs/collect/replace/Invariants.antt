@@ -1,5 +1,5 @@
 use Rattle.std.proofs.Common.{◌≡◌, length}
-use Rattle.pipe_frame.specs.Column.{nullables}
+use Rattle.pipe_column.specs.Column.{nullables}
 use Rattle.pipe_expr.proofs.Replaced.{zip_first}
 use Rattle.pipe_expr.proofs.collect.replace.Given as goal
 

@@ -1,5 +1,5 @@
 use Rattle.std.proofs.Common.{ap, map, ◌∙◌}
-use Rattle.pipe_frame.specs.Cell.{boolean_cell}
+use Rattle.pipe_schema.specs.Cell.{boolean_cell}
 use Rattle.pipe_expr.specs.Operands.{byte_strings}
 use Rattle.pipe_expr.proofs.ComparedCells.{compared-string}
 use Rattle.pipe_expr.proofs.comparison.compare_texts.Goals as goal

@@ -1,5 +1,5 @@
 use Rattle.std.proofs.Common.{◌≡◌, Some, None, sym, ◌∙◌, arith}
-use Rattle.pipe_frame.specs.Schema.{place_of}
+use Rattle.pipe_schema.specs.Schema.{place_of}
 use Rattle.pipe_expr.proofs.NamedColumns.{no_place, place_below, named_is_value}
 use Rattle.pipe_expr.proofs.evaluate.column_named.Goals as goal
 

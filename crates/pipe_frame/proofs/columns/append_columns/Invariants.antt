@@ -1,5 +1,5 @@
 use Rattle.std.proofs.Common.{◌≡◌}
-use Rattle.pipe_frame.specs.Columns.{stacked_front}
+use Rattle.pipe_column.specs.Columns.{stacked_front}
 use Rattle.pipe_frame.proofs.columns.append_columns.Given as goal
 
 abbrev pub invariant-loop-i : goal.invariant-loop-i

@@ -1,5 +1,5 @@
 use Rattle.std.proofs.Common.{◌≡◌, drop}
-use Rattle.pipe_frame.specs.Frame.{other_height}
+use Rattle.pipe_column.specs.Columns.{other_height}
 use Rattle.pipe_frame.proofs.columns.differing_height.Given as goal
 
 abbrev pub invariant-loop-column : goal.invariant-loop-column

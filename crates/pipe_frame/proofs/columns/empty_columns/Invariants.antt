@@ -1,5 +1,5 @@
 use Rattle.std.proofs.Common.{◌≡◌, map, take}
-use Rattle.pipe_frame.specs.Frame.{field_of, AllOfHeight}
+use Rattle.pipe_column.specs.Columns.{field_of, AllOfHeight}
 use Rattle.pipe_frame.proofs.columns.empty_columns.Given as goal
 
 abbrev pub invariant-loop-field : goal.invariant-loop-field

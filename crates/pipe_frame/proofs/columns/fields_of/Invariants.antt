@@ -1,5 +1,5 @@
 use Rattle.std.proofs.Common.{◌≡◌, map, take}
-use Rattle.pipe_frame.specs.Frame.{field_of}
+use Rattle.pipe_column.specs.Columns.{field_of}
 use Rattle.pipe_frame.proofs.columns.fields_of.Given as goal
 
 abbrev pub invariant-loop-column : goal.invariant-loop-column

@@ -1,5 +1,5 @@
 use Rattle.std.proofs.Common.{◌≡◌, ◌++◌, drop}
-use Rattle.pipe_frame.specs.Columns.{true_places}
+use Rattle.pipe_column.specs.Columns.{true_places}
 use Rattle.pipe_frame.proofs.columns.places_of_true.Given as goal
 
 abbrev pub invariant-loop-i : goal.invariant-loop-i

@@ -1,5 +1,5 @@
 use Rattle.std.proofs.Common.{◌≡◌, take}
-use Rattle.pipe_frame.specs.Frame.{row_at}
+use Rattle.pipe_column.specs.Columns.{row_at}
 use Rattle.pipe_frame.proofs.columns.row_of.Given as goal
 
 abbrev pub invariant-loop-column : goal.invariant-loop-column

@@ -1,9 +1,9 @@
 use Rattle.std.proofs.Common.{◌≡◌, ◌<◌, ◌+◌, ◌∙◌, ◌∷◌, ap, sym, length, rules, Some, None, drop, inr, arith}
 use Rattle.std.specs.Prelude.{option_map}
 use Rattle.std.proofs.lemmas.List.{drop_more}
-use Rattle.pipe_frame.specs.Schema.{place_of, first_unknown}
-use Rattle.pipe_frame.specs.declared.error.FrameError.TheVariants.{UnknownColumn}
-use Rattle.pipe_frame.proofs.NamePlaces.{unknown_here}
+use Rattle.pipe_schema.specs.Schema.{place_of, first_unknown}
+use Rattle.pipe_schema.specs.declared.error.FrameError.TheVariants.{UnknownColumn}
+use Rattle.pipe_schema.proofs.NamePlaces.{unknown_here}
 use Rattle.pipe_frame.proofs.Selects.{place_of-inside, selected-more, known-more}
 use Rattle.pipe_frame.proofs.columns.select_columns.Goals as goal
 

@@ -1,5 +1,5 @@
 use Rattle.std.proofs.Common.{◌≡◌, take, drop}
-use Rattle.pipe_frame.specs.Schema.{first_unknown}
+use Rattle.pipe_schema.specs.Schema.{first_unknown}
 use Rattle.pipe_frame.specs.Frame.{at_places, places_named}
 use Rattle.pipe_frame.proofs.columns.select_columns.Given as goal
 

@@ -1,5 +1,5 @@
 use Rattle.std.proofs.Common.{◌≡◌, map, take}
-use Rattle.pipe_frame.specs.Columns.{part_column}
+use Rattle.pipe_column.specs.Columns.{part_column}
 use Rattle.pipe_frame.proofs.columns.slice_columns.Given as goal
 
 abbrev pub invariant-loop-column : goal.invariant-loop-column

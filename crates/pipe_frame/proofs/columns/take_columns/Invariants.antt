@@ -1,5 +1,5 @@
 use Rattle.std.proofs.Common.{◌≡◌, map, take}
-use Rattle.pipe_frame.specs.Columns.{taken_columns}
+use Rattle.pipe_column.specs.Columns.{taken_columns}
 use Rattle.pipe_frame.proofs.columns.take_columns.Given as goal
 
 abbrev pub invariant-loop-column : goal.invariant-loop-column

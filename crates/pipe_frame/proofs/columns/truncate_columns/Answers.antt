@@ -1,4 +1,4 @@
-use Rattle.pipe_frame.specs.Columns.{front_column}
+use Rattle.pipe_column.specs.Columns.{front_column}
 use Rattle.pipe_frame.proofs.RowOps.{fronted-more}
 use Rattle.pipe_frame.proofs.columns.truncate_columns.Goals as goal
 

@@ -1,5 +1,5 @@
 use Rattle.std.proofs.Common.{◌≡◌, ◌++◌, map, take, drop}
-use Rattle.pipe_frame.specs.Columns.{front_column}
+use Rattle.pipe_column.specs.Columns.{front_column}
 use Rattle.pipe_frame.proofs.columns.truncate_columns.Given as goal
 
 abbrev pub invariant-loop-column : goal.invariant-loop-column

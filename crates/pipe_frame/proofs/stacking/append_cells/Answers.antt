@@ -1,6 +1,7 @@
 use Rattle.std.proofs.Common.{rules, ◌≡◌, ap, get_or}
-use Rattle.pipe_frame.specs.Frame.{columns_of, field_of}
-use Rattle.pipe_frame.specs.Series.{Cells}
+use Rattle.pipe_column.specs.Columns.{field_of}
+use Rattle.pipe_frame.specs.Frame.{columns_of}
+use Rattle.pipe_column.specs.Series.{Cells}
 use Rattle.pipe_frame.proofs.Stacks.{same_dtype, cells_more}
 use Rattle.pipe_frame.proofs.stacking.append_cells.Goals as goal
 

@@ -3,7 +3,7 @@ use Rattle.std.specs.List.{flat_map}
 use Rattle.std.specs.Prelude.{All}
 use Rattle.pipe_frame.specs.Chunks.{chunk_rows, chunks_table}
 use Rattle.pipe_frame.specs.Frame.{columns_of}
-use Rattle.pipe_frame.specs.Rows.{HasWidth}
+use Rattle.pipe_schema.specs.Rows.{HasWidth}
 use Rattle.pipe_frame.specs.declared.chunk.DataChunk.{DataChunk}
 use Rattle.pipe_frame.proofs.Stacks.{made_fields, made_even, made_table}
 use Rattle.pipe_frame.proofs.stacking.chunks_to_df_on.Goals as goal

@@ -2,7 +2,7 @@ use Rattle.std.proofs.Common.{◌≡◌, length, take}
 use Rattle.std.specs.Prelude.{All}
 use Rattle.std.specs.List.{flat_map}
 use Rattle.pipe_frame.specs.Chunks.{chunk_rows}
-use Rattle.pipe_frame.specs.Rows.{HasWidth}
+use Rattle.pipe_schema.specs.Rows.{HasWidth}
 use Rattle.pipe_frame.proofs.stacking.height_of_all.Given as goal
 
 abbrev pub invariant-loop-chunk : goal.invariant-loop-chunk

@@ -1,5 +1,5 @@
 use Rattle.std.proofs.Common.{◌≡◌, ◌∙◌, ap, length, arith}
-use Rattle.pipe_frame.specs.Series.{Cells}
+use Rattle.pipe_column.specs.Series.{Cells}
 use Rattle.pipe_function.proofs.ColumnsAt.{column-at, whole-height}
 use Rattle.pipe_function.proofs.named.named_column.Goals as goal
 

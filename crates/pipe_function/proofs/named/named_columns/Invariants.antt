@@ -1,5 +1,5 @@
 use Rattle.std.proofs.Common.{◌≡◌, None, map, take, drop}
-use Rattle.pipe_frame.specs.Schema.{first_unknown}
+use Rattle.pipe_schema.specs.Schema.{first_unknown}
 use Rattle.pipe_function.specs.Unpivots.{column_at}
 use Rattle.pipe_function.proofs.named.named_columns.Given as goal
 

@@ -1,6 +1,6 @@
 use Rattle.std.proofs.Common.{◌≡◌, ◌+◌, ◌∙◌, arith, ap, sym, subst, map}
 use Rattle.std.specs.List.{AllByRecursion}
-use Rattle.pipe_frame.specs.Series.{named_cells}
+use Rattle.pipe_column.specs.Series.{named_cells}
 use Rattle.pipe_function.specs.Lent.{cells_between}
 use Rattle.pipe_function.specs.Parts.{HasPlaces}
 use Rattle.pipe_function.proofs.PartRows.{parts_there, fewer_places, between-cells}

@@ -1,6 +1,6 @@
 use Rattle.std.proofs.Common.{◌≡◌, length}
 use Rattle.std.specs.List.{flat_map, range_with_len}
-use Rattle.pipe_frame.specs.Column.{nullables}
+use Rattle.pipe_column.specs.Column.{nullables}
 use Rattle.pipe_function.specs.Parts.{parts_at}
 use Rattle.pipe_function.proofs.parts.flattened_values.Given as goal
 

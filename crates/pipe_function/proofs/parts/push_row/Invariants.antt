@@ -1,6 +1,6 @@
 use Rattle.std.proofs.Common.{◌≡◌, ◌≤◌, ◌+◌, ◌++◌, length, take, drop, vec_capacity}
 use Rattle.std.specs.List.{AllByRecursion}
-use Rattle.pipe_frame.specs.Column.{nullables}
+use Rattle.pipe_column.specs.Column.{nullables}
 use Rattle.pipe_function.specs.Parts.{parts_at, HasPlaces}
 use Rattle.pipe_function.proofs.parts.push_row.Given as goal
 

@@ -1,5 +1,5 @@
 use Rattle.std.proofs.Common.{◌≡◌, ◌++◌, map, take}
-use Rattle.pipe_frame.specs.Cell.{string_cell}
+use Rattle.pipe_schema.specs.Cell.{string_cell}
 use Rattle.pipe_function.specs.Unpivots.{name_cell}
 use Rattle.pipe_function.proofs.repeated.push_names.Given as goal
 

@@ -1,5 +1,5 @@
 use Rattle.std.proofs.Common.{◌≡◌, map}
-use Rattle.pipe_frame.specs.Cell.{string_cell}
+use Rattle.pipe_schema.specs.Cell.{string_cell}
 use Rattle.pipe_function.specs.Unpivots.{repeated_cells}
 use Rattle.pipe_function.proofs.repeated.repeated_names.Given as goal
 

@@ -1,5 +1,5 @@
 use Rattle.std.proofs.Common.{◌≡◌, map}
-use Rattle.pipe_frame.specs.Cell.{string_cell}
+use Rattle.pipe_schema.specs.Cell.{string_cell}
 use Rattle.pipe_function.specs.Lent.{cells_between}
 use Rattle.pipe_function.proofs.row_by_row.flattened_texts.Given as goal
 

@@ -1,7 +1,7 @@
 use Rattle.std.proofs.Common.{◌≡◌, ◌+◌, ◌++◌, map, take, drop}
 use Rattle.std.specs.List.{AllByRecursion}
-use Rattle.pipe_frame.specs.Cell.{string_cell}
-use Rattle.pipe_frame.specs.declared.data_type.DataType.TheVariants as dtype
+use Rattle.pipe_schema.specs.Cell.{string_cell}
+use Rattle.pipe_schema.specs.declared.data_type.DataType.TheVariants as dtype
 use Rattle.pipe_function.specs.Lent.{lent_cell, HasCells}
 use Rattle.pipe_function.proofs.row_by_row.push_texts.Given as goal
 

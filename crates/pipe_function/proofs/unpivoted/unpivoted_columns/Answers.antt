@@ -1,6 +1,6 @@
 use Rattle.std.proofs.Common.{◌≡◌, ◌<◌, ◌+◌, ◌∙◌, sym, ap, subst, length, map, All, arith}
 use Rattle.std.specs.List.{AllByRecursion}
-use Rattle.pipe_frame.specs.declared.data_type.DataType.{DataType}
+use Rattle.pipe_schema.specs.declared.data_type.DataType.{DataType}
 use Rattle.pipe_expr.specs.Projections.{on_type}
 use Rattle.pipe_function.specs.Lent.{lent, whole_column, HasCells}
 use Rattle.pipe_function.proofs.Ranges.{repeated-below}

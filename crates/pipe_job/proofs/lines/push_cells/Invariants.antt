@@ -1,7 +1,7 @@
 use Rattle.std.proofs.Common.{◌≡◌, ◌++◌, drop, map}
 use Rattle.serde_json.specs.View.{items_of}
 use Rattle.serde_json.specs.Written.{items_text, compact_text}
-use Rattle.pipe_frame.specs.Frame.{row_at}
+use Rattle.pipe_column.specs.Columns.{row_at}
 use Rattle.pipe_job.specs.Spelling.{list, cell_spelling}
 use Rattle.pipe_job.proofs.lines.push_cells.Given as goal
 

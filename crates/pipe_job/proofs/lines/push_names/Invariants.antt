@@ -2,7 +2,7 @@ use Rattle.std.proofs.Common.{◌≡◌, ◌++◌, drop, map}
 use Rattle.serde_json.specs.Data.{string}
 use Rattle.serde_json.specs.View.{items_of}
 use Rattle.serde_json.specs.Written.{items_text, compact_text}
-use Rattle.pipe_frame.specs.Schema.{names_of}
+use Rattle.pipe_schema.specs.Schema.{names_of}
 use Rattle.pipe_job.specs.Spelling.{list}
 use Rattle.pipe_job.proofs.lines.push_names.Given as goal
 

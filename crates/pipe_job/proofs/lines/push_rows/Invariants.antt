@@ -1,6 +1,6 @@
 use Rattle.std.proofs.Common.{◌≡◌, ◌-◌, ◌++◌, flat_map, map}
 use Rattle.std.specs.List.{range_with_len}
-use Rattle.pipe_frame.specs.Frame.{row_at}
+use Rattle.pipe_column.specs.Columns.{row_at}
 use Rattle.pipe_job.specs.Line.{row_line}
 use Rattle.pipe_job.proofs.lines.push_rows.Given as goal
 

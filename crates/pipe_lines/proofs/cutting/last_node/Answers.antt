@@ -1,6 +1,6 @@
 use Rattle.std.proofs.Common.{◌≡◌, [], drop, ap, sym, ◌∙◌, arith}
 use Rattle.std.proofs.lemmas.List.{drop_more, drop_all}
-use Rattle.pipe_create.specs.Steps.{last_of}
+use Rattle.pipe_convert.specs.Steps.{last_of}
 use Rattle.pipe_lines.proofs.cutting.last_node.Goals as goal
 
 pub loop-n-preserved : goal.loop-n-preserved

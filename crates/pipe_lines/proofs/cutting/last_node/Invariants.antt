@@ -1,5 +1,5 @@
 use Rattle.std.proofs.Common.{◌≡◌, drop}
-use Rattle.pipe_create.specs.Steps.{last_of}
+use Rattle.pipe_convert.specs.Steps.{last_of}
 use Rattle.pipe_lines.proofs.cutting.last_node.Given as goal
 
 abbrev pub invariant-loop-n : goal.invariant-loop-n

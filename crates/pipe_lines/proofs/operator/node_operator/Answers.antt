@@ -3,7 +3,7 @@ use Rattle.pipe_expr.specs.Formula.{formula_of, named_formulas_of, formulas_of}
 use Rattle.pipe_plan.specs.Node.{node_of}
 use Rattle.pipe_plan.specs.Node as node
 use Rattle.pipe_slots.specs.declared.phys_operator.PhysOperator.TheVariants as op
-use Rattle.pipe_create.proofs.JoinNodes.{joins}
+use Rattle.pipe_convert.proofs.JoinNodes.{joins}
 use Rattle.pipe_convert.specs.Converted.{IsNode}
 use Rattle.pipe_lines.proofs.RowOperators.{pass_at, row_at, place_stands}
 use Rattle.pipe_lines.proofs.operator.node_operator.Goals as goal

@@ -1,7 +1,7 @@
 use Rattle.std.proofs.Common.{subst}
 use Rattle.pipe_table.specs.declared.spec.JoinSpec.{JoinSpec}
-use Rattle.pipe_create.specs.Joins.{IsSpecOf}
-use Rattle.pipe_create.proofs.JoinNodes.{spec_there}
+use Rattle.pipe_convert.specs.Joins.{IsSpecOf}
+use Rattle.pipe_convert.proofs.JoinNodes.{spec_there}
 use Rattle.pipe_lines.proofs.SpecAt.{spec_some, spec_is}
 use Rattle.pipe_lines.proofs.operator.place_at.Goals as goal
 

@@ -1,8 +1,8 @@
 use Rattle.std.proofs.Common.{◌≡◌, ℕ, length, ap, sym, subst, ◌∙◌}
 use Rattle.pipe_source.specs.Supplies.{left_of}
 use Rattle.pipe_plan.specs.Under.{node_at}
-use Rattle.pipe_create.specs.Nodes.{nodes_in}
-use Rattle.pipe_create.specs.Sources.{taken_at}
+use Rattle.pipe_convert.specs.Nodes.{nodes_in}
+use Rattle.pipe_convert.specs.Sources.{taken_at}
 use Rattle.pipe_lines.specs.Lines.{AreEnds}
 use Rattle.pipe_lines.proofs.CutFacts.{begins_first, legs_cut}
 use Rattle.pipe_lines.proofs.LineFacts.{line_is, rest_first}
@@ -73,8 +73,8 @@ new-requires-clause-scans g c = λ κs lives. (
     let n = c.args.branch.now.source in
     ap length c.in_ok-nodes.ensures.scans ∙ as_many_scans plan (taken_at (node_at (nodes_in plan) n) n) (left_of c.in_ok-source.source) c.in_ok-source.ensures.scans)
 
-pub returns : goal.returns
-returns g c =
+pub returns-clause-line : goal.returns-clause-line
+returns-clause-line g c =
     let plan = c.args.plan.now in
     let layout = c.args.layout.now in
     let branch = c.args.branch.now in

@@ -3,9 +3,11 @@ use Rattle.std.proofs.lemmas.List.{drop_more, drop_all, map_push}
 use Rattle.std.specs.List.{AllByRecursion}
 use Rattle.pipe_branches.specs.declared.branch.Branch.{Branch}
 use Rattle.pipe_engine.specs.Drives.{Line}
-use Rattle.pipe_create.specs.Laws.{IsBranch}
-use Rattle.pipe_create.proofs.BranchStarts.{all_branches}
-use Rattle.pipe_lines.specs.Cuts.{way_in}
+use Rattle.pipe_convert.specs.Laws.{IsBranch}
+use Rattle.pipe_convert.proofs.BranchStarts.{all_branches}
+use Rattle.pipe_lines.specs.Cuts.{way_in, IsLineFor}
+use Rattle.pipe_lines.specs.declared.pipe_line.PipeLine.{PipeLine}
+use Rattle.pipe_lines.proofs.MadeLines.{one_made}
 use Rattle.pipe_lines.specs.Lines.{HasEnds}
 use Rattle.pipe_lines.proofs.BranchEnds.{all_ends}
 use Rattle.pipe_lines.proofs.LineFacts.{LinesBehind, lines_first, lines_next, lines_done}
@@ -21,6 +23,7 @@ loop-branch-init g c =
       are = subst A (sym c.requires.cut) (all_branches plan c.root.ensures.good);
       ends = subst E (sym c.requires.cut) (all_ends plan c.root.ensures.good);
       behind = lines_first plan layout.specs.items layout.sinks.items layout.hasher layout.parts c.args.branches.now _ (ap (map way_in) c.new-lines.ensures.items);
+      made_for = (let S : List (PipeLine g.row.H.Denot) → Type 0 = AllByRecursion (IsLineFor c.args.workers) in subst S (sym c.new-lines.ensures.items) tt);
     }
 
 pub create_pipeline-requires-clause-layout : goal.create_pipeline-requires-clause-layout
@@ -65,13 +68,17 @@ loop-branch-preserved g c =
     rw c.in_ok-push.ensures.items (record {
       are = (subst A more known.are).1;
       ends = (subst E more known.ends).1;
-      behind = subst L (sym pushed) (lines_next plan layout.specs.items layout.sinks.items layout.hasher layout.parts bs rest branch (map way_in lines) (way_in line) (rw c.branch-item.is at c.in_ok-create_pipeline.ensures) (subst B more known.behind));
+      behind = subst L (sym pushed) (lines_next plan layout.specs.items layout.sinks.items layout.hasher layout.parts bs rest branch (map way_in lines) (way_in line) (rw c.branch-item.is at c.in_ok-create_pipeline.ensures.line) (subst B more known.behind));
+      made_for = one_made c.args.workers lines line known.made_for c.in_ok-create_pipeline.ensures.workers;
     })
 
-pub returns : goal.returns
-returns g c =
+pub returns-clause-lines : goal.returns-clause-lines
+returns-clause-lines g c =
     let layout = c.args.layout.now in
     let bs = c.args.branches.now in
     let i = c.loop-branch.branch-index in
     let none : drop i bs ≡ [] = drop_all i bs (omega (arith, c.loop-branch-test.false)) in
     lines_done c.args.plan.now layout.specs.items layout.sinks.items layout.hasher layout.parts bs (drop i bs) (map way_in c.loop-branch.lines.items) none c.loop-branch.invariant.behind
+
+pub returns-clause-workers : goal.returns-clause-workers
+returns-clause-workers g c = c.loop-branch.invariant.made_for

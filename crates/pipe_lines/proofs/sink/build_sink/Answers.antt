@@ -2,8 +2,8 @@ use Rattle.std.proofs.Common.{◌≡◌, [], false, refl, ap, sym, subst, ◌∙
 use Rattle.pipe_expr.specs.declared.join_words.JoinType.TheVariants as how
 use Rattle.pipe_table.specs.Spec.{built_schema}
 use Rattle.pipe_table.specs.declared.spec.JoinSpec.{JoinSpec}
-use Rattle.pipe_create.specs.Joins.{IsSpecOf, spec_at}
-use Rattle.pipe_create.proofs.JoinNodes.{spec_there}
+use Rattle.pipe_convert.specs.Joins.{IsSpecOf, spec_at}
+use Rattle.pipe_convert.proofs.JoinNodes.{spec_there}
 use Rattle.pipe_lines.proofs.SinkStands.{build_stands, cross_stands}
 use Rattle.pipe_lines.proofs.SpecAt.{not_cross, spec_some, spec_is}
 use Rattle.pipe_lines.proofs.sink.build_sink.Goals as goal

@@ -2,8 +2,8 @@ use Rattle.std.proofs.Common.{[], refl, ap, sym, subst, ◌∙◌}
 use Rattle.std.specs.Prelude.{IfOk}
 use Rattle.pipe_branches.specs.declared.branch.SinkAt.{SinkAt}
 use Rattle.pipe_convert.specs.Converted.{schema_in}
-use Rattle.pipe_sinks.specs.declared.phys_sink.PhysSink.TheVariants.{Ordered as OfRoot, Sort as OfSort}
-use Rattle.pipe_create.proofs.JoinNodes.{under_sort}
+use Rattle.pipe_slots.specs.declared.phys_sink.PhysSink.TheVariants.{Ordered as OfRoot, Sort as OfSort}
+use Rattle.pipe_convert.proofs.JoinNodes.{under_sort}
 use Rattle.pipe_lines.specs.Made.{IsSinkAt, sorts_rows}
 use Rattle.pipe_lines.proofs.SinkStands.{root_sink, sort_stands}
 use Rattle.pipe_lines.proofs.SpecAt.{sorts_there}

@@ -1,6 +1,6 @@
 use Rattle.std.proofs.Common.{◌≡◌, Some, None, refl, ap, sym, ◌∙◌}
 use Rattle.pipe_plan.specs.Under.{node_at}
-use Rattle.pipe_create.specs.Nodes.{nodes_in}
+use Rattle.pipe_convert.specs.Nodes.{nodes_in}
 use Rattle.pipe_lines.specs.Made.{own_sink}
 use Rattle.pipe_lines.proofs.SinkLists.{own_there, sink_made, none_made}
 use Rattle.pipe_lines.proofs.sinks.node_sink.Goals as goal

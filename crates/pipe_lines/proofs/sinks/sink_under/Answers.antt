@@ -1,5 +1,5 @@
 use Rattle.std.proofs.Common.{◌≡◌, true, false, sym, ◌∙◌}
-use Rattle.pipe_create.proofs.JoinNodes.{under_sort, under_join}
+use Rattle.pipe_convert.proofs.JoinNodes.{under_sort, under_join}
 use Rattle.pipe_lines.proofs.sinks.sink_under.Goals as goal
 
 pub node_sink-requires-clause-under : goal.node_sink-requires-clause-under

@@ -1,6 +1,6 @@
 use Rattle.std.proofs.Common.{◌≡◌, length, ap, sym, ◌∙◌, arith}
-use Rattle.pipe_create.specs.Nodes.{nodes_in}
-use Rattle.pipe_create.proofs.JoinNodes.{sized_next}
+use Rattle.pipe_convert.specs.Nodes.{nodes_in}
+use Rattle.pipe_convert.proofs.JoinNodes.{sized_next}
 use Rattle.pipe_lines.proofs.SinkLists.{sinks_next}
 use Rattle.pipe_lines.proofs.sinks.sinks_under.Goals as goal
 

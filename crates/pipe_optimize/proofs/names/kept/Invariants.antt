@@ -1,5 +1,5 @@
 use Rattle.std.proofs.Common.{filter, take, ◌≡◌}
-use Rattle.pipe_frame.specs.Schema.{has_name}
+use Rattle.pipe_schema.specs.Schema.{has_name}
 use Rattle.pipe_optimize.proofs.names.kept.Given as goal
 
 abbrev pub invariant-loop-name : goal.invariant-loop-name

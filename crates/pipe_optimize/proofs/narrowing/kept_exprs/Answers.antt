@@ -1,7 +1,7 @@
 use Rattle.std.proofs.Common.{rules, ◌≡◌, ◌∷◌, map}
-use Rattle.pipe_frame.specs.Schema.{has_name}
+use Rattle.pipe_schema.specs.Schema.{has_name}
 use Rattle.pipe_expr.specs.Formula.{named_formula_of}
-use Rattle.pipe_needs.specs.Needs.{is_needed}
+use Rattle.pipe_rules.specs.Needs.{is_needed}
 use Rattle.pipe_optimize.proofs.Steps.{taken-next, rest-next}
 use Rattle.pipe_optimize.proofs.narrowing.kept_exprs.Goals as goal
 

@@ -1,6 +1,6 @@
 use Rattle.std.proofs.Common.{◌≡◌, ◌≤◌, true, take, length}
 use Rattle.std.specs.List.{AllByRecursion}
-use Rattle.pipe_frame.specs.Schema.{has_name}
+use Rattle.pipe_schema.specs.Schema.{has_name}
 use Rattle.pipe_optimize.proofs.needed.begins_with.Given as goal
 
 abbrev pub invariant-loop-i : goal.invariant-loop-i

@@ -1,7 +1,7 @@
 use Rattle.std.proofs.Common.{◌≡◌, filter, map, ap, ◌∙◌}
-use Rattle.pipe_frame.specs.Schema.{has_name}
+use Rattle.pipe_schema.specs.Schema.{has_name}
 use Rattle.pipe_expr.specs.Formula.{formula_of}
-use Rattle.pipe_needs.specs.Needs.{keys_read}
+use Rattle.pipe_rules.specs.Needs.{keys_read}
 use Rattle.pipe_optimize.specs.Sides.{right_needed}
 use Rattle.pipe_optimize.proofs.Shared.{needed-shown}
 use Rattle.pipe_optimize.proofs.needed.kept_shown.Goals as goal

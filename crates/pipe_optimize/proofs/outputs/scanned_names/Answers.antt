@@ -1,8 +1,8 @@
 use Rattle.std.proofs.Common.{ap, sym, ◌∙◌}
 use Rattle.std.proofs.lemmas.Result.{IfOk-weaker}
-use Rattle.pipe_frame.specs.Schema.{names_of}
+use Rattle.pipe_schema.specs.Schema.{names_of}
 use Rattle.pipe_plan.specs.Schemas.{frame_at, scan_fields}
-use Rattle.pipe_needs.proofs.Kept.{names-named}
+use Rattle.pipe_rules.proofs.Kept.{names-named}
 use Rattle.pipe_optimize.proofs.outputs.scanned_names.Goals as goal
 
 pub returns-in-Some : goal.returns-in-Some

@@ -1,7 +1,7 @@
 use Rattle.std.proofs.Common.{map, refl, ap, ◌∙◌, arith}
 use Rattle.pipe_plan.specs.Node.{node_of}
 use Rattle.pipe_plan.specs.Plan.{plan_of}
-use Rattle.pipe_opt.proofs.Readings.{map-long}
+use Rattle.pipe_rules.proofs.Readings.{map-long}
 use Rattle.pipe_optimize.proofs.Optimized.{pushed-of, optimized, tree-of}
 use Rattle.pipe_optimize.proofs.passes.optimize.Goals as goal
 

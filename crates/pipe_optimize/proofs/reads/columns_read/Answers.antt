@@ -1,8 +1,8 @@
 use Rattle.std.proofs.Common.{◌≡◌, filter, map, ap, ◌∙◌}
-use Rattle.pipe_frame.specs.Schema.{has_name}
+use Rattle.pipe_schema.specs.Schema.{has_name}
 use Rattle.pipe_expr.specs.Formula.{named_formula_of}
 use Rattle.pipe_expr.specs.Projections.{expr_name}
-use Rattle.pipe_needs.specs.Needs.{needed_exprs, columns_read}
+use Rattle.pipe_rules.specs.Needs.{needed_exprs, columns_read}
 use Rattle.pipe_optimize.proofs.Shared.{read-shared}
 use Rattle.pipe_optimize.proofs.reads.columns_read.Goals as goal
 

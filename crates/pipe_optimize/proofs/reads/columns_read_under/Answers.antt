@@ -1,7 +1,7 @@
-use Rattle.pipe_frame.specs.Schema.{has_name}
+use Rattle.pipe_schema.specs.Schema.{has_name}
 use Rattle.pipe_expr.specs.Formula.{named_formula_of}
 use Rattle.pipe_plan.specs.Faults.{expr_columns}
-use Rattle.pipe_needs.specs.Needs.{is_needed}
+use Rattle.pipe_rules.specs.Needs.{is_needed}
 use Rattle.pipe_optimize.proofs.Steps.{some-next}
 use Rattle.pipe_optimize.proofs.reads.columns_read_under.Goals as goal
 

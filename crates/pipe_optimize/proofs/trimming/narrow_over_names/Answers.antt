@@ -1,8 +1,9 @@
 use Rattle.std.proofs.Common.{rules, ◌∙◌, ◌≡◌, ◌∷◌, [], map, refl, sym, subst}
 use Rattle.pipe_plan.specs.Node.{node_of}
-use Rattle.pipe_optimize.specs.Lists.{AreOrdered}
+use Rattle.pipe_optimize.specs.Lists.{names_at, AreOrdered}
 use Rattle.pipe_optimize.specs.Narrow.{AreNarrowed}
 use Rattle.pipe_optimize.specs.Put.{needs_in}
+use Rattle.pipe_optimize.specs.Sides.{output_by}
 use Rattle.pipe_optimize.specs.Whole.{needs_over}
 use Rattle.pipe_optimize.proofs.Steps.{rest-next, no-items}
 use Rattle.pipe_optimize.proofs.Passing.{narrowed-begun, narrowed-taken, narrowed-end}
@@ -20,10 +21,12 @@ loop-node-preserved c =
     let before = c.loop-node.node-iterator.rest.items in
     let rest = c.next.new.self.rest.items in
     let x = c.in-Some.node in
+    let left = c.loop-node.left in
+    let made = output_by c.args.frames.now (names_at left) (node_of c.in_ok-narrowed.narrowed) in
     let same : irs ≡ c.args.nodes = search rules in
     let step : before ≡ x ∷ rest = search rules in record {
       whole = rest-next c.loop-node.yielded rest before irs x c.loop-node.invariant.whole step;
-      narrowed = narrowed-taken c.args.frames.now irs (subst (λ q. AreOrdered (map node_of q)) (sym same) c.requires.ordered) (needs_over c.args.lists.now c.args.needs.now) c.loop-node.yielded before rest c.loop-node.made c.push.new.self c.loop-node.left c.as_slice.result.now c.as_slice-in-loop-node.result.now c.push-in-loop-node.new.self c.len.result x c.in_ok-narrowed.narrowed c.needed_at-needed.result.now c.in_ok-names.names c.loop-node.invariant.whole step c.len.ensures c.loop-node.invariant.narrowed c.needed_at-needed.ensures c.as_slice.ensures c.in_ok-narrowed.ensures c.as_slice-in-loop-node.ensures c.in_ok-names.ensures c.in_ok-push.ensures.ok c.in_ok-push-2.ensures.ok;
+      narrowed = narrowed-taken c.args.frames.now irs (subst (λ q. AreOrdered (map node_of q)) (sym same) c.requires.ordered) (needs_over c.args.lists.now c.args.needs.now) c.loop-node.yielded before rest c.loop-node.made c.push.new.self left left left c.push_names.new.lists c.len.result x c.in_ok-narrowed.narrowed c.needed_at-needed.result.now made c.loop-node.invariant.whole step c.len.ensures c.loop-node.invariant.narrowed c.needed_at-needed.ensures refl c.in_ok-narrowed.ensures refl refl c.in_ok-push.ensures.ok c.in_ok-push_names.ensures;
     }
 
 pub returns : goal.returns

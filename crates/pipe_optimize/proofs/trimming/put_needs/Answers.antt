@@ -2,7 +2,7 @@ use Rattle.std.proofs.Common.{◌≡◌, ◌<◌, true, length, get_or, ap, sym,
 use Rattle.pipe_plan.specs.Node.{node_of}
 use Rattle.pipe_check.proofs.Walks.{member}
 use Rattle.pipe_rules.specs.Placed.{is_input}
-use Rattle.pipe_opt.proofs.Readings.{item-member}
+use Rattle.pipe_rules.proofs.Readings.{item-member}
 use Rattle.pipe_optimize.specs.Lists.{names_at}
 use Rattle.pipe_optimize.specs.Sides.{need_by}
 use Rattle.pipe_optimize.specs.Whole.{needs_over}

@@ -1,8 +1,10 @@
-use Rattle.std.proofs.Common.{rules, ◌∙◌, ◌≡◌, ◌∷◌, [], false, map, refl, sym, subst}
+use Rattle.std.proofs.Common.{rules, ◌∙◌, ◌≡◌, ◌∷◌, [], false, map, refl, ap, sym, subst}
 use Rattle.std.specs.List.{list_any}
 use Rattle.pipe_plan.specs.Node.{node_of}
+use Rattle.pipe_optimize.specs.Lists.{names_at}
 use Rattle.pipe_optimize.specs.Narrow.{AreNarrowed, is_renaming}
 use Rattle.pipe_optimize.specs.Put.{needs_in}
+use Rattle.pipe_optimize.specs.Sides.{narrow_by}
 use Rattle.pipe_optimize.specs.Whole.{needs_over}
 use Rattle.pipe_optimize.proofs.Steps.{rest-next, no-items}
 use Rattle.pipe_optimize.proofs.Alone.{alone-begun, alone-next, alone-all}
@@ -22,7 +24,7 @@ loop-node-preserved c =
     let x = c.in-Some.node in
     let step : before ≡ x ∷ rest = search rules in record {
       whole = rest-next c.loop-node.yielded rest before irs x c.loop-node.invariant.whole step;
-      narrowed = alone-next c.args.frames.now irs (needs_over c.args.lists.now c.args.needs.now) c.loop-node.yielded before rest c.loop-node.made c.push.new.self c.len.result x c.in_ok-narrowed.narrowed c.needed_at-needed.result.now c.loop-node.invariant.whole step c.len.ensures c.loop-node.invariant.narrowed c.needed_at-needed.ensures c.in_ok-narrowed.ensures c.in_ok-push.ensures.ok;
+      narrowed = alone-next c.args.frames.now irs (needs_over c.args.lists.now c.args.needs.now) c.loop-node.yielded before rest c.loop-node.made c.push.new.self c.len.result x c.in_ok-narrowed.narrowed c.needed_at-needed.result.now c.loop-node.invariant.whole step c.len.ensures c.loop-node.invariant.narrowed c.needed_at-needed.ensures (c.in_ok-narrowed.ensures ∙ ap (λ q. narrow_by c.args.frames.now (names_at q) c.needed_at-needed.result.now (node_of x)) c.new-none.ensures) c.in_ok-push.ensures.ok;
     }
 
 pub returns : goal.returns

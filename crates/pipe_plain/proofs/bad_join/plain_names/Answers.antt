@@ -1,5 +1,5 @@
 use Rattle.std.proofs.Common.{◌∙◌}
-use Rattle.pipe_plain.proofs.KeyNames.{column_names-next}
+use Rattle.pipe_pairs.proofs.KeyNames.{column_names-next}
 use Rattle.pipe_plain.proofs.bad_join.plain_names.Goals as goal
 
 pub loop-expr-preserved : goal.loop-expr-preserved

@@ -1,5 +1,5 @@
 use Rattle.std.proofs.Common.{◌≡◌, take}
-use Rattle.pipe_frame.specs.Schema.{names_of}
+use Rattle.pipe_schema.specs.Schema.{names_of}
 use Rattle.pipe_plain.proofs.names.field_names.Given as goal
 
 abbrev pub invariant-loop-field : goal.invariant-loop-field

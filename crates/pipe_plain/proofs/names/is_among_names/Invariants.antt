@@ -1,5 +1,5 @@
 use Rattle.std.proofs.Common.{◌≡◌, drop}
-use Rattle.pipe_frame.specs.Schema.{has_name}
+use Rattle.pipe_schema.specs.Schema.{has_name}
 use Rattle.pipe_plain.proofs.names.is_among_names.Given as goal
 
 abbrev pub invariant-loop-other : goal.invariant-loop-other

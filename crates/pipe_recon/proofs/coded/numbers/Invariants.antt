@@ -1,6 +1,6 @@
 use Rattle.std.proofs.Common.{◌≡◌, map}
 use Rattle.std.specs.List.{range_with_len}
-use Rattle.pipe_frame.specs.Cell.{uint32_cell}
+use Rattle.pipe_schema.specs.Cell.{uint32_cell}
 use Rattle.pipe_recon.specs.JoinPlan.{number_cell}
 use Rattle.pipe_recon.proofs.coded.numbers.Given as goal
 

@@ -4,7 +4,7 @@ use Rattle.pipe_events.specs.Schedules.{run}
 use Rattle.pipe_events.specs.Decided.{all_allowed}
 use Rattle.pipe_world.specs.Shown.{world_of, IsFor}
 use Rattle.pipe_events.specs.EventValues.{event_value}
-use Rattle.pipe_stages.specs.Staged.{staged}
+use Rattle.pipe_world.specs.Staged.{staged}
 use Rattle.pipe_replay.specs.KeptLists.{AreKept}
 use Rattle.pipe_replay.specs.Replayed.{parted}
 use Rattle.pipe_replay.proofs.applying.apply_while_allowed.Given as goal

@@ -1,5 +1,5 @@
 use Rattle.std.proofs.Common.{◌∙◌, arith}
-use Rattle.pipe_stages.specs.Staged.{staged}
+use Rattle.pipe_world.specs.Staged.{staged}
 use Rattle.pipe_world.specs.Shown.{world_of}
 use Rattle.pipe_replay.proofs.FilledLemmas.{emits-all}
 use Rattle.pipe_replay.proofs.emitting.emit.Goals as goal

@@ -1,7 +1,7 @@
 use Rattle.std.proofs.Common.{◌≡◌, length}
-use Rattle.pipe_stages.specs.Staged.{staged}
+use Rattle.pipe_world.specs.Staged.{staged}
 use Rattle.pipe_world.specs.Shown.{world_of, IsFor}
-use Rattle.pipe_allowed.specs.Carried.{gathered}
+use Rattle.pipe_replay.specs.Carried.{gathered}
 use Rattle.pipe_replay.specs.Sinks.{filled_below}
 use Rattle.pipe_replay.proofs.emitting.emit.Given as goal
 

@@ -1,6 +1,6 @@
 use Rattle.std.proofs.Common.{◌≡◌, ◌-◌, length}
 use Rattle.std.specs.List.{list_any, range_with_len}
-use Rattle.pipe_stages.specs.Staged.{staged}
+use Rattle.pipe_world.specs.Staged.{staged}
 use Rattle.pipe_replay.specs.Sinks.{ends_at}
 use Rattle.pipe_replay.proofs.emitting.has_sink.Given as goal
 

@@ -1,5 +1,5 @@
 use Rattle.std.proofs.Common.{◌≤◌, ◌++◌, length, drop}
-use Rattle.pipe_frame.specs.Rows.{Row}
+use Rattle.pipe_schema.specs.Rows.{Row}
 use Rattle.pipe_rows.specs.Decoding.{Encodes, IsEncoding}
 use Rattle.pipe_rows.proofs.decode.decode_row.Given as goal
 

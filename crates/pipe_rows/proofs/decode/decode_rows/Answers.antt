@@ -2,9 +2,9 @@ use Rattle.std.proofs.Common.{◌≡◌, ℕ, List, length, ap, ◌∙◌, subst
 use Rattle.std.specs.Prelude.{Option}
 use Rattle.std.specs.declared.vec.Vec.{Vec}
 use Rattle.std.specs.declared.alloc.Global.{Global}
-use Rattle.pipe_frame.specs.Rows.{Row}
-use Rattle.pipe_frame.specs.Series.{Cells}
-use Rattle.pipe_frame.specs.declared.any_value.AnyValue.{AnyValue}
+use Rattle.pipe_schema.specs.Rows.{Row}
+use Rattle.pipe_column.specs.Series.{Cells}
+use Rattle.pipe_schema.specs.declared.any_value.AnyValue.{AnyValue}
 use Rattle.pipe_rows.specs.Decoding.{FindsRow, Encodes, pushed_row}
 use Rattle.pipe_rows.proofs.RowLemmas.{holds_none, row_of_columns, holds_more, length-pushed, written_back}
 use Rattle.pipe_rows.proofs.decode.decode_rows.Goals as goal

@@ -1,6 +1,6 @@
 use Rattle.std.proofs.Common.{rules, ◌≡◌, ℕ, ◌≤◌, Some, length, take, ap, sym, subst, ◌∙◌, arith}
-use Rattle.pipe_frame.specs.Sizes.{width_of}
-use Rattle.pipe_frame.specs.declared.any_value.AnyValue.{AnyValue}
+use Rattle.pipe_schema.specs.Sizes.{width_of}
+use Rattle.pipe_schema.specs.declared.any_value.AnyValue.{AnyValue}
 use Rattle.pipe_rows.specs.Ordered.{directed_bytes}
 use Rattle.pipe_rows.specs.Decoding.{TakesValue}
 use Rattle.pipe_rows.proofs.BytesLemmas.{bytes_all}

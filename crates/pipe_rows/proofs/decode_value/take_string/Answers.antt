@@ -1,10 +1,10 @@
 use Rattle.std.proofs.Common.{◌≡◌, ap, subst, ◌∙◌}
 use Rattle.std.specs.Prelude.{Option, IsUtf8}
 use Rattle.std.specs.Option.{MatchOption}
-use Rattle.pipe_frame.specs.declared.any_value.AnyValue.{AnyValue}
-use Rattle.pipe_frame.specs.declared.any_value.AnyValue.TheVariants as cell
+use Rattle.pipe_schema.specs.declared.any_value.AnyValue.{AnyValue}
+use Rattle.pipe_schema.specs.declared.any_value.AnyValue.TheVariants as cell
 use Rattle.pipe_rows.specs.declared.decode_value.Unescaped.{Unescaped}
-use Rattle.pipe_frame.specs.Native.{InRange}
+use Rattle.pipe_column.specs.Native.{InRange}
 use Rattle.pipe_rows.specs.Ordered.{directed_bytes}
 use Rattle.pipe_rows.specs.Decoding.{FindsText}
 use Rattle.pipe_rows.proofs.BytesLemmas.{bytes_all}

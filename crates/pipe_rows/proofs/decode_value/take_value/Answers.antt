@@ -1,5 +1,5 @@
 use Rattle.std.proofs.Common.{sym, subst}
-use Rattle.pipe_frame.specs.declared.data_type.DataType.{DataType}
+use Rattle.pipe_schema.specs.declared.data_type.DataType.{DataType}
 use Rattle.pipe_rows.specs.Decoding.{FindsValue}
 use Rattle.pipe_rows.proofs.NativeLemmas.{finds_int128}
 use Rattle.pipe_rows.proofs.decode_value.take_value.Goals as goal

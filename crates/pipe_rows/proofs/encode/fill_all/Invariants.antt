@@ -1,5 +1,5 @@
 use Rattle.std.proofs.Common.{◌≡◌, ℕ, ◌<◌, length, drop}
-use Rattle.pipe_frame.specs.Frame.{row_at}
+use Rattle.pipe_column.specs.Columns.{row_at}
 use Rattle.pipe_rows.specs.Encodings.{encoded_bytes}
 use Rattle.pipe_rows.specs.Equality.{IsRow, dtypes_of}
 use Rattle.pipe_rows.specs.Filling.{open_row_at, appended, HasRoom}

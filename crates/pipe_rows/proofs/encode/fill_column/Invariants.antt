@@ -1,5 +1,5 @@
 use Rattle.std.proofs.Common.{ℕ, ◌<◌}
-use Rattle.pipe_frame.specs.Series.{cell_at}
+use Rattle.pipe_column.specs.Series.{cell_at}
 use Rattle.pipe_rows.specs.Encodings.{cell_bytes_at}
 use Rattle.pipe_rows.specs.Equality.{IsCell}
 use Rattle.pipe_rows.specs.Filling.{appended, unwritten}

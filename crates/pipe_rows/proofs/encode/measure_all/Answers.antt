@@ -1,7 +1,7 @@
 use Rattle.std.proofs.Common.{rules, ◌+◌, ◌<◌, length, get_or, drop, arith}
 use Rattle.std.specs.Prelude.{false}
-use Rattle.pipe_frame.specs.Frame.{row_at}
-use Rattle.pipe_frame.specs.Series.{Cells}
+use Rattle.pipe_column.specs.Columns.{row_at}
+use Rattle.pipe_column.specs.Series.{Cells}
 use Rattle.pipe_rows.specs.Encodings.{cell_bytes_at, encoded_bytes, null_at_place}
 use Rattle.pipe_rows.specs.Equality.{has_null_cell}
 use Rattle.pipe_rows.specs.declared.encoding.Encoding.{Encoding}

@@ -1,6 +1,6 @@
 use Rattle.std.proofs.Common.{◌≡◌, ℕ, ◌+◌, ◌<◌, length, drop, get_or}
 use Rattle.std.specs.Prelude.{◌||◌, false}
-use Rattle.pipe_frame.specs.Frame.{row_at}
+use Rattle.pipe_column.specs.Columns.{row_at}
 use Rattle.pipe_rows.specs.Encodings.{encoded_bytes}
 use Rattle.pipe_rows.specs.Equality.{has_null_cell}
 use Rattle.pipe_rows.proofs.encode.measure_all.Given as goal

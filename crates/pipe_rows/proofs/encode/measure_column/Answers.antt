@@ -1,7 +1,7 @@
 use Rattle.std.proofs.Common.{rules, ◌≡◌, ◌+◌, ◌<◌, length, get_or, refl, ap, ◌∙◌, arith}
 use Rattle.std.specs.Prelude.{◌||◌, false}
-use Rattle.pipe_frame.specs.Series.{cell_at}
-use Rattle.pipe_frame.specs.Cell.{is_null_cell}
+use Rattle.pipe_column.specs.Series.{cell_at}
+use Rattle.pipe_schema.specs.Cell.{is_null_cell}
 use Rattle.pipe_rows.specs.Encodings.{cell_bytes_at, null_at_place}
 use Rattle.pipe_rows.proofs.FillingLemmas.{stored_more}
 use Rattle.pipe_rows.proofs.encode.measure_column.Goals as goal

@@ -1,5 +1,5 @@
 use Rattle.std.proofs.Common.{◌≡◌, map, ap, ◌∙◌}
-use Rattle.pipe_frame.specs.Frame.{column_rows, height_of}
+use Rattle.pipe_column.specs.Columns.{column_rows, height_of}
 use Rattle.pipe_rows.specs.Encodings.{encoded_row}
 use Rattle.pipe_rows.specs.declared.encoding.Encoding.TheVariants as encoding
 use Rattle.pipe_rows.proofs.EncodingLemmas.{rows_for_order, IfOk-along}

@@ -1,6 +1,6 @@
 use Rattle.std.proofs.Common.{[], refl, sym, ◌∙◌, arith, rules, length-append}
 use Rattle.std.proofs.lemmas.Result.{IfOk-weaker, IfErr-weaker}
-use Rattle.pipe_frame.specs.Rows.{Row}
+use Rattle.pipe_schema.specs.Rows.{Row}
 use Rattle.pipe_chain.proofs.Weighing.{rows-length}
 use Rattle.pipe_run.proofs.Work.{work-refl, work-trans, work-serve, works-flushed, chain-flushed, acts-length, flushed-refl, flushed-next}
 use Rattle.pipe_run.proofs.Stages.{counts-length}

@@ -1,8 +1,8 @@
 use Rattle.std.proofs.Common.{◌≡◌, ℕ, ◌-◌, ◌+◌, arith, refl, sym, ◌∙◌, subst, Some, length-append, vec_len}
 use Rattle.std.proofs.lemmas.List.Elements.{All-pop}
 use Rattle.std.proofs.lemmas.List.Sorted.{All-permutation}
-use Rattle.pipe_frame.specs.Counts.{Counts}
-use Rattle.pipe_frame.specs.Rows.{Row}
+use Rattle.pipe_schema.specs.Counts.{Counts}
+use Rattle.pipe_schema.specs.Rows.{Row}
 use Rattle.pipe_run.specs.Lanes.{IsSet}
 use Rattle.pipe_run.proofs.Asked.{counts-next, counts-none}
 use Rattle.pipe_chain.proofs.Weighing.{rows-refl, rows-append}

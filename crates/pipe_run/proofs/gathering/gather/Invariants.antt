@@ -1,7 +1,7 @@
 use Rattle.std.proofs.Common.{◌≡◌, ◌-◌, ◌≤◌, ◌++◌, All, vec_len}
 use Rattle.std.specs.List.{flat_map}
-use Rattle.pipe_frame.specs.Counts.{Counts}
-use Rattle.pipe_frame.specs.Rows.{Same}
+use Rattle.pipe_schema.specs.Counts.{Counts}
+use Rattle.pipe_schema.specs.Rows.{Same}
 use Rattle.pipe_run.specs.Lanes.{IsSet, held_in}
 use Rattle.pipe_run.proofs.Combining.{Gathering}
 use Rattle.pipe_run.proofs.gathering.gather.Given as goal

@@ -10,7 +10,7 @@ pub pump-loop-answer-init : goal.pump-loop-answer-init
 pump-loop-answer-init g t c =
     let op = c.args.operator.now in
     let s = c.args.own.now in
-    let frame = c.args.chunk.now.frame in
+    let frame = c.args.chunk.frame in
     let laws = g.met.O.Operator g.world.𝓛 g.world.𝓜 g.world.𝓡 ((λ s x. x), (λ x. x), (λ x. x), λ x. x) in
     let idle = c.requires.idle.0 in
     record {
@@ -75,7 +75,7 @@ pub pump-push-requires-clause-chain : goal.pump-push-requires-clause-chain
 pump-push-requires-clause-chain g t c κs within =
     let known = c.loop-answer.invariant in
     let under = rw c.in-HaveMoreOutPut.is at c.in-Ok.ensures.piece in
-    chain-behind g.O.Operator _ _ _ _ c.args.chunk.now.frame.schema _ _ _ known.one known.others under.0 known.schema c.requires.chain.1
+    chain-behind g.O.Operator _ _ _ _ c.args.chunk.frame.schema _ _ _ known.one known.others under.0 known.schema c.requires.chain.1
 
 pub pump-push-requires-in-Finished-clause-serves : goal.pump-push-requires-in-Finished-clause-serves
 pump-push-requires-in-Finished-clause-serves g t c κs within =
@@ -85,7 +85,7 @@ pub pump-push-requires-in-Finished-clause-chain : goal.pump-push-requires-in-Fin
 pump-push-requires-in-Finished-clause-chain g t c κs within =
     let known = c.loop-answer.invariant in
     let under = rw c.in-Finished.is at c.in-Ok.ensures.piece in
-    chain-behind g.O.Operator _ _ _ _ c.args.chunk.now.frame.schema _ _ _ known.one known.others under.0 known.schema c.requires.chain.1
+    chain-behind g.O.Operator _ _ _ _ c.args.chunk.frame.schema _ _ _ known.one known.others under.0 known.schema c.requires.chain.1
 
 pub pump-loop-answer-smaller : goal.pump-loop-answer-smaller
 pump-loop-answer-smaller g t c =
@@ -99,7 +99,7 @@ pump-loop-answer-preserved g t c =
     let p = c.in_ok-push-in-HaveMoreOutPut.ensures in
     let gives = rw (c.in-HaveMoreOutPut.is, known.one.work) at c.in-Ok.ensures.gives in
     let under = rw c.in-HaveMoreOutPut.is at c.in-Ok.ensures.piece in
-    let same = works-behind g.O.Operator _ _ _ _ c.args.chunk.now.frame.schema _ c.args.others.now known.one known.others under.0 in
+    let same = works-behind g.O.Operator _ _ _ _ c.args.chunk.frame.schema _ c.args.others.now known.one known.others under.0 in
     record {
       one = one-next _ _ _ _ known.one e.takes e.output e.work e.suits e.seated e.closed;
       ready = c.in-Ok.ensures.more (rw c.in-HaveMoreOutPut.is refl);
@@ -119,7 +119,7 @@ pump-returns-in_err-push-in-HaveMoreOutPut-clause-over g t c =
     let known = c.loop-answer.invariant in
     let gives = rw (c.in-HaveMoreOutPut.is, known.one.work) at c.in-Ok.ensures.gives in
     let under = rw c.in-HaveMoreOutPut.is at c.in-Ok.ensures.piece in
-    let same = works-behind g.O.Operator _ _ _ _ c.args.chunk.now.frame.schema _ c.args.others.now known.one known.others under.0 in
+    let same = works-behind g.O.Operator _ _ _ _ c.args.chunk.frame.schema _ c.args.others.now known.one known.others under.0 in
     let over = rw (same, known.nodes) at c.in_err-push-in-HaveMoreOutPut.ensures.over in
     let h = above-more _ _ _ _ _ _ _ _ _ _ _ _ _ _ _ _ known.going _ _ _ gives over in search (rules, h)
 
@@ -128,7 +128,7 @@ pump-returns-in-Finished-clause-went g t c =
     let known = c.loop-answer.invariant in
     let gives = rw (c.in-Finished.is, known.one.work) at c.in-Ok.ensures.gives in
     let under = rw c.in-Finished.is at c.in-Ok.ensures.piece in
-    let same = works-behind g.O.Operator _ _ _ _ c.args.chunk.now.frame.schema _ c.args.others.now known.one known.others under.0 in
+    let same = works-behind g.O.Operator _ _ _ _ c.args.chunk.frame.schema _ c.args.others.now known.one known.others under.0 in
     IfOk-weaker c.push-in-Finished.result _ _
     (λ _ h. going-end _ _ _ _ _ _ _ _ _ _ _ (going-last _ _ _ _ _ _ _ _ _ _ _ _ _ _ known.going _ _ _ _ gives (rw same at h)))
     c.push-in-Finished.ensures.went
@@ -138,7 +138,7 @@ pump-returns-in-Finished-clause-over g t c =
     let known = c.loop-answer.invariant in
     let gives = rw (c.in-Finished.is, known.one.work) at c.in-Ok.ensures.gives in
     let under = rw c.in-Finished.is at c.in-Ok.ensures.piece in
-    let same = works-behind g.O.Operator _ _ _ _ c.args.chunk.now.frame.schema _ c.args.others.now known.one known.others under.0 in
+    let same = works-behind g.O.Operator _ _ _ _ c.args.chunk.frame.schema _ c.args.others.now known.one known.others under.0 in
     IfErr-weaker c.push-in-Finished.result _ _
     (λ r h. above-last _ _ _ _ _ _ _ _ _ _ _ _ _ _ _ _ known.going _ _ r gives (rw (same, known.nodes) at h))
     c.push-in-Finished.ensures.over

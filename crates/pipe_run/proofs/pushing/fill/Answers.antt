@@ -1,5 +1,5 @@
 use Rattle.std.proofs.Common.{refl, arith, length-append}
-use Rattle.pipe_frame.specs.Rows.{Row}
+use Rattle.pipe_schema.specs.Rows.{Row}
 use Rattle.pipe_chain.proofs.Weighing.{rows-length}
 use Rattle.pipe_run.proofs.Limits.{over-end, over-memory, went-end}
 use Rattle.pipe_run.proofs.pushing.fill.Goals as goal

@@ -1,17 +1,18 @@
-use Rattle.std.proofs.Common.{refl, arith}
 use Rattle.pipe_run.proofs.Work.{work-refl, acts-length}
-use Rattle.pipe_run.proofs.Limits.{over-here, over-memory}
-use Rattle.pipe_run.proofs.Stages.{stages-none}
+use Rattle.pipe_run.proofs.Limits.{over-none}
 use Rattle.pipe_run.proofs.pushing.push_shared.Goals as goal
 
-pub returns-in_default-try_clone-clause-over : goal.returns-in_default-try_clone-clause-over
-returns-in_default-try_clone-clause-over g c =
-    rw (stages-none c.args.stages.now c.in_default.ensures.cases) (over-memory _ _ _ _)
+pub returns-in_default-clause-work : goal.returns-in_default-clause-work
+returns-in_default-clause-work g c = work-refl g.O.Operator _
 
-pub returns-then-not-count-clause-work : goal.returns-then-not-count-clause-work
-returns-then-not-count-clause-work g c = rw c.in-Some.ensures.cases.0 (work-refl g.O.Operator _)
+pub returns-in_default-clause-over : goal.returns-in_default-clause-over
+returns-in_default-clause-over g c = over-none _ _ _ _ _ _ (acts-length g.O.Operator _ _ _ c.requires.serves)
 
-pub returns-then-not-count-clause-over : goal.returns-then-not-count-clause-over
-returns-then-not-count-clause-over g c =
-    let serves = rw (c.in-Some.ensures.cases.0, c.in-Some-split_first.ensures.cases.0) at c.requires.serves in
-    rw (c.in-Some.ensures.cases.0, c.in-Some-split_first.ensures.cases.0) (over-here _ _ _ _ _ _ _ _ _ (omega (arith, acts-length g.O.Operator _ (g.O.Operator.output c.in-Some.stage.now.operator c.args.chunk.now.frame.schema) _ serves.1)) (rw c.height.ensures at (c.if-not-count.ensures.over refl)))
+pub push-requires-clause-chain : goal.push-requires-clause-chain
+push-requires-clause-chain g c κs within = rw c.in-Ok.ensures c.requires.chain
+
+pub returns-clause-went : goal.returns-clause-went
+returns-clause-went g c = rw c.in-Ok.ensures at c.push.ensures.went
+
+pub returns-clause-over : goal.returns-clause-over
+returns-clause-over g c = rw c.in-Ok.ensures at c.push.ensures.over

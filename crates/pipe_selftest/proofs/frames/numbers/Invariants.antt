@@ -1,6 +1,6 @@
 use Rattle.std.proofs.Common.{◌≡◌, map}
 use Rattle.std.specs.List.{range_with_len}
-use Rattle.pipe_frame.specs.Cell.{int64_cell}
+use Rattle.pipe_schema.specs.Cell.{int64_cell}
 use Rattle.pipe_selftest.specs.Frames.{number_at}
 use Rattle.pipe_selftest.proofs.frames.numbers.Given as goal
 

@@ -1,7 +1,7 @@
 use Rattle.std.proofs.Common.{◌≡◌, ◌∙◌, ap, sym, map, length, arith}
 use Rattle.std.specs.Prelude.{Ok}
 use Rattle.std.proofs.lemmas.List.{length-map, with_items_is}
-use Rattle.pipe_frame.specs.Frame.{chosen_column, chosen_columns}
+use Rattle.pipe_column.specs.Columns.{chosen_column, chosen_columns}
 use Rattle.pipe_frame.proofs.Stacks.{filled_all}
 use Rattle.pipe_sort.proofs.TakenColumns.{AreColumns, fields-taken, even-taken, whole-taken}
 use Rattle.pipe_sort.proofs.taking.taken_on.Goals as goal

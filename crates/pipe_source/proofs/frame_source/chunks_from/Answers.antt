@@ -2,7 +2,7 @@ use Rattle.std.proofs.Common.{◌≡◌, ◌∙◌, List, ◌+◌, ap, arith}
 use Rattle.std.proofs.lemmas.List.{drop_all}
 use Rattle.pipe_frame.specs.Frame.{Table}
 use Rattle.pipe_frame.specs.declared.chunk.DataChunk.{DataChunk}
-use Rattle.pipe_frame.specs.declared.field.Field.{Field}
+use Rattle.pipe_schema.specs.declared.field.Field.{Field}
 use Rattle.pipe_source.proofs.CutLemmas.{cut_on, cut_end}
 use Rattle.pipe_source.proofs.frame_source.chunks_from.Goals as goal
 

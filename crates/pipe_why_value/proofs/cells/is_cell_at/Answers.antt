@@ -4,7 +4,7 @@ use Rattle.std.specs.Option.{option_copied}
 use Rattle.serde_json.specs.Data.{null}
 use Rattle.pipe_value.specs.Items.{elements}
 use Rattle.pipe_value.specs.View.{view}
-use Rattle.pipe_frame.specs.declared.data_type.DataType.{DataType}
+use Rattle.pipe_schema.specs.declared.data_type.DataType.{DataType}
 use Rattle.pipe_job.specs.Shape.{is_cell}
 use Rattle.pipe_why_value.proofs.Looks.{is_some_mapped, text_found}
 use Rattle.pipe_why_value.proofs.cells.is_cell_at.Goals as goal

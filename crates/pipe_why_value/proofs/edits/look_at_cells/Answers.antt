@@ -1,7 +1,7 @@
 use Rattle.std.proofs.Common.{refl, subst, inr}
 use Rattle.pipe_value.specs.View.{view}
-use Rattle.pipe_why_wants.specs.declared.want.Want.TheVariants as want
-use Rattle.pipe_why_wants.specs.declared.want.Foreign.TheVariants as foreign
+use Rattle.pipe_why_text.specs.declared.want.Want.TheVariants as want
+use Rattle.pipe_why_text.specs.declared.want.Foreign.TheVariants as foreign
 use Rattle.std.specs.Prelude.{IfSome, slice_index_or}
 use Rattle.serde_json.specs.Data.{null}
 use Rattle.pipe_value.specs.Items.{elements}

@@ -1,9 +1,9 @@
 use Rattle.std.proofs.Common.{◌≡◌, refl, sym, subst, Some, None}
 use Rattle.serde_json.specs.Data.{Data}
 use Rattle.pipe_value.specs.View.{view}
-use Rattle.pipe_why_wants.specs.declared.want.Want.{Want}
-use Rattle.pipe_why_wants.specs.declared.want.Want.TheVariants as want
-use Rattle.pipe_why_wants.specs.declared.want.Foreign.TheVariants as foreign
+use Rattle.pipe_why_text.specs.declared.want.Want.{Want}
+use Rattle.pipe_why_text.specs.declared.want.Want.TheVariants as want
+use Rattle.pipe_why_text.specs.declared.want.Foreign.TheVariants as foreign
 use Rattle.std.specs.Prelude.{MatchOption}
 use Rattle.serde_json.specs.Find.{as_array}
 use Rattle.pipe_value.specs.Items.{IsArrayOf}

@@ -1,7 +1,7 @@
 use Rattle.std.proofs.Common.{◌≡◌, ap, subst, Some, None}
 use Rattle.pipe_value.specs.View.{view}
-use Rattle.pipe_why_wants.specs.declared.want.Foreign.TheVariants as foreign
-use Rattle.pipe_why_wants.specs.declared.want.Want.TheVariants as want
+use Rattle.pipe_why_text.specs.declared.want.Foreign.TheVariants as foreign
+use Rattle.pipe_why_text.specs.declared.want.Want.TheVariants as want
 use Rattle.pipe_why_value.specs.declared.wrong.Wrong.TheVariants as wrong
 use Rattle.std.specs.Prelude.{MatchOption, is_some, false}
 use Rattle.serde_json.specs.Find.{as_array}

@@ -1,8 +1,8 @@
 use Rattle.std.proofs.Common.{refl, sym, ap, ◌∙◌, arith, Some}
 use Rattle.pipe_value.specs.View.{view}
 use Rattle.pipe_why_text.specs.declared.steps.Step.TheVariants as step
-use Rattle.pipe_why_wants.specs.declared.want.Want.TheVariants as want
-use Rattle.pipe_why_wants.specs.declared.want.Foreign.TheVariants as foreign
+use Rattle.pipe_why_text.specs.declared.want.Want.TheVariants as want
+use Rattle.pipe_why_text.specs.declared.want.Foreign.TheVariants as foreign
 use Rattle.pipe_why_value.specs.Order.{tree_part}
 use Rattle.pipe_why_value.proofs.Looks.{good_part, item_there, looked_inside, wanted_item}
 use Rattle.pipe_why_value.proofs.edits.look_at_third.Goals as goal

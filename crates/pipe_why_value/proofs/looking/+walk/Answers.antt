@@ -5,14 +5,14 @@ use Rattle.serde_json.specs.Data.{Data, depth, object}
 use Rattle.serde_json.specs.Find.{as_array, get}
 use Rattle.pipe_value.specs.Items.{IsArrayOf, elements}
 use Rattle.pipe_value.specs.View.{members_view, view}
-use Rattle.pipe_frame.specs.declared.data_type.DataType.{DataType}
+use Rattle.pipe_schema.specs.declared.data_type.DataType.{DataType}
 use Rattle.pipe_job.specs.Shape.{contains_text, is_object, is_single}
 use Rattle.pipe_why_text.specs.declared.steps.Step.TheVariants as step
-use Rattle.pipe_why_wants.specs.Members.{beside, couple_items, members_in, members_of, type_of, want_in}
-use Rattle.pipe_why_wants.specs.Wanted.{form_words}
-use Rattle.pipe_why_wants.specs.declared.want.Foreign.TheVariants as foreign
-use Rattle.pipe_why_wants.specs.declared.want.Want.{Want}
-use Rattle.pipe_why_wants.specs.declared.want.Want.TheVariants as want
+use Rattle.pipe_why_text.specs.Members.{beside, couple_items, members_in, members_of, type_of, want_in}
+use Rattle.pipe_why_text.specs.Wanted.{form_words}
+use Rattle.pipe_why_text.specs.declared.want.Foreign.TheVariants as foreign
+use Rattle.pipe_why_text.specs.declared.want.Want.{Want}
+use Rattle.pipe_why_text.specs.declared.want.Want.TheVariants as want
 use Rattle.pipe_why_value.specs.Order.{AreLasts, IsLast, IsWritten, names_in, names_of, tree_part, written}
 use Rattle.pipe_why_value.specs.Places.{AreGoodBefore, AreGoodParts, Place, last_name}
 use Rattle.pipe_why_value.specs.Walks.{IsWantBy, Looked}

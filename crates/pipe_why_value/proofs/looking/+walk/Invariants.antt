@@ -1,9 +1,9 @@
 use Rattle.std.proofs.Common.{◌≡◌, ◌+◌, ◌*◌, ℕ, Some, None}
 use Rattle.serde_json.specs.Data.{depth}
 use Rattle.pipe_value.specs.View.{view}
-use Rattle.pipe_why_wants.specs.Members.{item_wanted, members_in, members_of}
-use Rattle.pipe_why_wants.specs.declared.want.Want.{Want}
-use Rattle.pipe_why_wants.specs.declared.want.Want.TheVariants as want
+use Rattle.pipe_why_text.specs.Members.{item_wanted, members_in, members_of}
+use Rattle.pipe_why_text.specs.declared.want.Want.{Want}
+use Rattle.pipe_why_text.specs.declared.want.Want.TheVariants as want
 use Rattle.pipe_why_value.specs.Places.{AreGoodBefore}
 use Rattle.pipe_why_value.specs.Order.{names_in, written}
 use Rattle.pipe_why_value.specs.Walks.{Looked}

@@ -1,5 +1,5 @@
 use Rattle.std.proofs.Common.{◌≡◌, drop}
-use Rattle.pipe_why_wants.specs.Members.{members_in, want_in}
+use Rattle.pipe_why_text.specs.Members.{members_in, want_in}
 use Rattle.pipe_why_value.proofs.looking.member_want.Given as goal
 
 abbrev pub invariant-loop-member : goal.invariant-loop-member

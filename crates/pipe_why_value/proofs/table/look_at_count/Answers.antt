@@ -1,6 +1,6 @@
 use Rattle.std.proofs.Common.{refl, sym, ◌∙◌}
 use Rattle.pipe_value.specs.View.{view}
-use Rattle.pipe_why_wants.specs.declared.want.Want.TheVariants as want
+use Rattle.pipe_why_text.specs.declared.want.Want.TheVariants as want
 use Rattle.pipe_why_value.specs.declared.wrong.Wrong.TheVariants as wrong
 use Rattle.pipe_value.specs.Items.{elements}
 use Rattle.pipe_why_value.proofs.Looks.{empty, looked_none, noted_here, on_ok}

@@ -1,6 +1,6 @@
 use Rattle.std.proofs.Common.{sym, ap, ◌∙◌, Some}
 use Rattle.pipe_value.specs.View.{view}
-use Rattle.pipe_why_wants.specs.declared.want.Want.TheVariants as want
+use Rattle.pipe_why_text.specs.declared.want.Want.TheVariants as want
 use Rattle.pipe_why_value.proofs.Looks.{item_there, on_ok}
 use Rattle.pipe_why_value.proofs.table.look_at_height.Goals as goal
 

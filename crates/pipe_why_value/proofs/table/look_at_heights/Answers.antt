@@ -1,6 +1,6 @@
 use Rattle.std.proofs.Common.{refl}
 use Rattle.pipe_value.specs.View.{view}
-use Rattle.pipe_why_wants.specs.declared.want.Want.TheVariants as want
+use Rattle.pipe_why_text.specs.declared.want.Want.TheVariants as want
 use Rattle.pipe_why_value.proofs.Looks.{looked_none, looked_twice, was_untold}
 use Rattle.pipe_why_value.proofs.table.look_at_heights.Goals as goal
 

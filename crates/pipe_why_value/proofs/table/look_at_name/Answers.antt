@@ -6,7 +6,7 @@ use Rattle.serde_json.specs.Find.{get}
 use Rattle.pipe_value.specs.Items.{elements}
 use Rattle.pipe_value.specs.View.{view}
 use Rattle.pipe_job.specs.Shape.{text_in}
-use Rattle.pipe_why_wants.specs.declared.want.Want.TheVariants as want
+use Rattle.pipe_why_text.specs.declared.want.Want.TheVariants as want
 use Rattle.pipe_why_value.specs.Places.{name_at}
 use Rattle.pipe_why_value.proofs.Looks.{item_there, ok_all, on_ok}
 use Rattle.pipe_why_value.proofs.Names.{names_kept, names_put}

@@ -1,7 +1,7 @@
 use Rattle.std.proofs.Common.{◌≡◌, None}
 use Rattle.json.specs.Json.{Json}
 use Rattle.pipe_value.specs.View.{view}
-use Rattle.pipe_why_wants.specs.declared.want.Want.TheVariants as want
+use Rattle.pipe_why_text.specs.declared.want.Want.TheVariants as want
 use Rattle.pipe_why_value.specs.Places.{AreGoodParts}
 use Rattle.pipe_why_value.specs.Walks.{AreNames, Looked}
 use Rattle.pipe_why_value.proofs.table.look_at_names.Given as goal

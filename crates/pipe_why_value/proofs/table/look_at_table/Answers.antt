@@ -1,7 +1,7 @@
 use Rattle.std.proofs.Common.{◌≡◌, refl, sym, ◌∙◌, None}
 use Rattle.pipe_value.specs.View.{view}
 use Rattle.pipe_why_text.specs.declared.steps.Step.TheVariants as step
-use Rattle.pipe_why_wants.specs.declared.want.Want.TheVariants as want
+use Rattle.pipe_why_text.specs.declared.want.Want.TheVariants as want
 use Rattle.std.specs.Prelude.{codes}
 use Rattle.pipe_why_value.specs.Order.{tree_part}
 use Rattle.pipe_why_value.specs.Places.{AreGoodParts, Place}

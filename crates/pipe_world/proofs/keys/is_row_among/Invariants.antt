@@ -1,6 +1,6 @@
 use Rattle.std.proofs.Common.{◌≡◌, drop}
 use Rattle.std.specs.List.{list_any}
-use Rattle.pipe_frame.specs.Rows.{eq_row}
+use Rattle.pipe_schema.specs.Rows.{eq_row}
 use Rattle.pipe_world.proofs.keys.is_row_among.Given as goal
 
 abbrev pub invariant-loop-other : goal.invariant-loop-other

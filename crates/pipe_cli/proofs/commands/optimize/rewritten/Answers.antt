@@ -1,7 +1,7 @@
 use Rattle.std.proofs.Common.{map, subst}
 use Rattle.pipe_check.specs.Checked.{Checked}
 use Rattle.pipe_job.specs.JobSpelling.{task_of}
-use Rattle.pipe_opt.specs.declared.pushdown.Rewritten.{Rewritten}
+use Rattle.pipe_rules.specs.declared.pushdown.Rewritten.{Rewritten}
 use Rattle.pipe_plan.specs.Node.{node_of}
 use Rattle.pipe_plan.specs.Plan.{plan_of}
 use Rattle.pipe_cli.specs.Optimized.{IsBetterPlan}

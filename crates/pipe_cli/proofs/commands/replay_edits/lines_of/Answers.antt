@@ -1,4 +1,4 @@
-use Rattle.pipe_view_text.specs.ReplaySpelling.{replay_task}
+use Rattle.pipe_view.specs.ReplaySpelling.{replay_task}
 use Rattle.pipe_cli.proofs.ReplayLemmas.{told_unstopped}
 use Rattle.pipe_cli.proofs.commands.replay_edits.lines_of.Goals as goal
 

@@ -4,4 +4,4 @@ use Rattle.pipe_engine.proofs.engine.Engine.new.Goals as goal
 
 pub returns-clause-fits : goal.returns-clause-fits
 returns-clause-fits g c =
-    λ hash_of x m may. fits_at_start hash_of _ x m refl c.in_ok-slots.ensures.slots c.in_ok-slots.ensures.seats c.in_ok-slots.ensures.workers c.in_ok-sinks.ensures.long c.in_ok-given.ensures.long c.in_ok-given.ensures.none c.in_ok-slots.ensures.empty c.in_ok-sinks.ensures.empty may
+    λ hash_of x m unfilled may. fits_at_start hash_of _ x m refl unfilled.long unfilled.seated unfilled.made_for c.in_ok-sinks.ensures.long c.in_ok-given.ensures.long c.in_ok-given.ensures.none unfilled.empty c.in_ok-sinks.ensures.empty may

@@ -1,6 +1,6 @@
 use Rattle.std.proofs.Common.{◌∙◌, ap, sym}
 use Rattle.std.specs.Prelude.{sum_by}
-use Rattle.pipe_frame.specs.Sizes.{column_size}
+use Rattle.pipe_column.specs.Sizes.{column_size}
 use Rattle.pipe_frame.proofs.Sizes.{size-columns}
 use Rattle.pipe_frame.proofs.data_frame.DataFrame.estimated_size.Goals as goal
 

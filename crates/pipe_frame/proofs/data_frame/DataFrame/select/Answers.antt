@@ -1,7 +1,7 @@
 use Rattle.std.proofs.Common.{◌≡◌, ◌∙◌, ap, map, sym}
 use Rattle.std.proofs.lemmas.List.{map-id}
-use Rattle.pipe_frame.specs.Schema.{names_fault}
-use Rattle.pipe_frame.specs.Frame.{field_of}
+use Rattle.pipe_schema.specs.Schema.{names_fault}
+use Rattle.pipe_column.specs.Columns.{field_of}
 use Rattle.pipe_frame.proofs.Selects.{good-selected, table_of-selected}
 use Rattle.pipe_frame.proofs.data_frame.DataFrame.select.Goals as goal
 

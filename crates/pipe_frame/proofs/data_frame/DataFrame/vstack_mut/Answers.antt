@@ -1,7 +1,6 @@
 use Rattle.std.proofs.Common.{◌≡◌, ◌∙◌, ap, length, drop, arith}
 use Rattle.std.proofs.lemmas.List.{take_at}
-use Rattle.pipe_frame.specs.Columns.{stacked_front}
-use Rattle.pipe_frame.specs.Frame.{height_of}
+use Rattle.pipe_column.specs.Columns.{stacked_front, height_of}
 use Rattle.pipe_frame.proofs.RowOps.{good-stacked, table-stacked}
 use Rattle.pipe_frame.proofs.data_frame.DataFrame.vstack_mut.Goals as goal
 

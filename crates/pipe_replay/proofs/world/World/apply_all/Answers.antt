@@ -1,7 +1,7 @@
 use Rattle.std.proofs.Common.{◌≡◌, map, sym, subst}
 use Rattle.pipe_events.specs.Worlds.{start}
 use Rattle.pipe_events.specs.EventValues.{event_value}
-use Rattle.pipe_stages.specs.Staged.{Staging, size_in, stage_in}
+use Rattle.pipe_world.specs.Staged.{Staging, size_in, stage_in}
 use Rattle.pipe_world.specs.Shown.{world_of}
 use Rattle.pipe_replay.specs.KeptWorld.{KeptWorld, world_in, IsOf}
 use Rattle.pipe_replay.specs.Replayed.{parted, IsPlayed}

@@ -1,6 +1,6 @@
 use Rattle.std.proofs.Common.{◌≡◌, sym, subst}
 use Rattle.pipe_events.specs.Decided.{is_complete}
-use Rattle.pipe_stages.specs.Staged.{Staging, size_in, stage_in, staged}
+use Rattle.pipe_world.specs.Staged.{Staging, size_in, stage_in, staged}
 use Rattle.pipe_replay.specs.KeptWorld.{KeptWorld, world_in, stages_in, IsOf}
 use Rattle.pipe_replay.proofs.Worlds.{is-staging, tables-of}
 use Rattle.pipe_replay.proofs.world.World.is_complete.Goals as goal

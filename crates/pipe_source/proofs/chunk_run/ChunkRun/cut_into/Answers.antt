@@ -8,15 +8,15 @@ use Rattle.pipe_source.specs.declared.chunk_run.Piece.{Piece}
 use Rattle.pipe_source.proofs.RunLemmas.{cut_schema}
 use Rattle.pipe_source.proofs.chunk_run.ChunkRun.cut_into.Goals as goal
 
-pub cut_pieces-requires : goal.cut_pieces-requires
-cut_pieces-requires c =
-    let frame : c.in_ok-frame.frame ≡ c.self.inside.all.frame = c.in_ok-frame.ensures ∙ c.in_ok-frame_of.ensures in
+pub cut_frame-requires : goal.cut_frame-requires
+cut_frame-requires c =
+    let frame : c.in_ok-frame.frame ≡ c.self.inside.all.frame = c.in_ok-frame.ensures in
     ap (sum_by height_in) c.as_slice.ensures.value ∙ c.self.invariant.whole ∙ ap (λ (t : Table). length t.rows) (sym frame)
 
 pub returns-clause-chunks : goal.returns-clause-chunks
 returns-clause-chunks c =
-    let frame : c.in_ok-frame.frame ≡ c.self.inside.all.frame = c.in_ok-frame.ensures ∙ c.in_ok-frame_of.ensures in
-    c.in_ok-cut_pieces.ensures
+    let frame : c.in_ok-frame.frame ≡ c.self.inside.all.frame = c.in_ok-frame.ensures in
+    c.in_ok-cut_frame.ensures
     ∙ ap (λ (t : Table). c.args.chunks.now.items ++ cut_rows t.schema t.rows c.as_slice.result.now) frame
     ∙ ap (λ (l : List Piece). c.args.chunks.now.items ++ cut_rows c.self.inside.all.frame.schema c.self.inside.all.frame.rows l) c.as_slice.ensures.value
     ∙ ap (λ (r : Run). c.args.chunks.now.items ++ r.chunks) c.self.view_is

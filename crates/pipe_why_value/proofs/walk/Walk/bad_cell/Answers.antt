@@ -2,7 +2,7 @@ use Rattle.std.proofs.Common.{refl, inl}
 use Rattle.std.specs.Prelude.{slice_index_or}
 use Rattle.serde_json.specs.Data.{null}
 use Rattle.pipe_value.specs.Items.{elements}
-use Rattle.pipe_why_wants.specs.declared.want.Want.TheVariants as want
+use Rattle.pipe_why_text.specs.declared.want.Want.TheVariants as want
 use Rattle.pipe_why_value.specs.Places.{Place}
 use Rattle.pipe_why_value.proofs.Looks.{item_there, looked_none, looked_twice}
 use Rattle.pipe_why_value.proofs.walk.Walk.bad_cell.Goals as goal

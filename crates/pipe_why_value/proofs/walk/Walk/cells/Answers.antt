@@ -3,8 +3,8 @@ use Rattle.std.specs.Prelude.{MatchOption, false}
 use Rattle.serde_json.specs.Find.{as_array}
 use Rattle.pipe_value.specs.Items.{IsArrayOf}
 use Rattle.pipe_value.specs.View.{view}
-use Rattle.pipe_why_wants.specs.Wanted.{is_wanted}
-use Rattle.pipe_why_wants.specs.declared.want.Want.TheVariants as want
+use Rattle.pipe_why_text.specs.Wanted.{is_wanted}
+use Rattle.pipe_why_text.specs.declared.want.Want.TheVariants as want
 use Rattle.pipe_why_value.specs.declared.wrong.Wrong.TheVariants as wrong
 use Rattle.pipe_why_value.proofs.Goods.{no_cells_within}
 use Rattle.pipe_why_value.proofs.Looks.{no_cells, noted_good, on_ok, some_none}

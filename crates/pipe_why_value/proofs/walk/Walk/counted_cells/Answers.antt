@@ -1,6 +1,6 @@
 use Rattle.std.proofs.Common.{◌≡◌, refl, subst, arith, Some, None}
 use Rattle.pipe_value.specs.View.{view}
-use Rattle.pipe_why_wants.specs.declared.want.Want.TheVariants as want
+use Rattle.pipe_why_text.specs.declared.want.Want.TheVariants as want
 use Rattle.pipe_why_value.specs.Places.{IsBadCell}
 use Rattle.pipe_why_value.specs.Walks.{AreCellsBefore, IsFirstBad}
 use Rattle.pipe_why_value.proofs.Goods.{cells_good}

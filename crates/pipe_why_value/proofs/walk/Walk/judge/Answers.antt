@@ -1,6 +1,6 @@
 use Rattle.std.proofs.Common.{refl, ap, ◌∙◌, Some}
 use Rattle.pipe_value.specs.View.{view}
-use Rattle.pipe_why_wants.specs.declared.want.Want.{Want}
+use Rattle.pipe_why_text.specs.declared.want.Want.{Want}
 use Rattle.pipe_why_value.specs.declared.wrong.Wrong.TheVariants as wrong
 use Rattle.pipe_why_value.proofs.Looks.{looked_none, noted_good, noted_here, on_ok, some_none}
 use Rattle.pipe_why_value.proofs.walk.Walk.judge.Goals as goal

@@ -1,8 +1,8 @@
 use Rattle.std.proofs.Common.{◌≡◌, None}
 use Rattle.json.specs.Json.{Json}
 use Rattle.pipe_value.specs.View.{view}
-use Rattle.pipe_why_wants.specs.Members.{members_in, members_of}
-use Rattle.pipe_why_wants.specs.declared.want.Want.{Want}
+use Rattle.pipe_why_text.specs.Members.{members_in, members_of}
+use Rattle.pipe_why_text.specs.declared.want.Want.{Want}
 use Rattle.pipe_why_value.specs.Places.{AreGoodParts}
 use Rattle.pipe_why_value.specs.Walks.{Looked}
 use Rattle.pipe_why_value.proofs.walk.Walk.missing.Given as goal

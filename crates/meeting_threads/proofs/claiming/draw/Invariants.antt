@@ -1,8 +1,0 @@
-use Rattle.std.proofs.Common.{◌≡◌, ◌+◌, length}
-use Rattle.meeting_threads.proofs.claiming.draw.Given as goal
-
-abbrev pub invariant-loop : goal.invariant-loop
-invariant-loop l = record {
-  table : l.seat.table ≡ l.claims.table;
-  drawn : length l.seat.drawn ≡ length l.fn.seat.drawn + l.counter;
-}

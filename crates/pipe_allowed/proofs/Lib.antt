@@ -1,4 +1,0 @@
-pub mod Below
-pub mod CarriedLemmas
-pub mod Slices
-pub mod Reaching

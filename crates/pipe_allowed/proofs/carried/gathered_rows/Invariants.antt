@@ -1,6 +1,0 @@
-use Rattle.std.proofs.Common.{◌≡◌, take}
-use Rattle.pipe_allowed.specs.Carried.{gathered}
-use Rattle.pipe_allowed.proofs.carried.gathered_rows.Given as goal
-
-abbrev pub invariant-loop-flows : goal.invariant-loop-flows
-invariant-loop-flows l = l.rows ≡ gathered (take l.flows-index l.tables) l.t

@@ -1,9 +1,0 @@
-use Rattle.std.proofs.Common.{◌≡◌, true}
-use Rattle.pipe_events.specs.Decided.{all_below}
-use Rattle.pipe_stages.specs.Staged.{staged}
-use Rattle.pipe_world.specs.Shown.{world_of}
-use Rattle.pipe_allowed.specs.Joins.{join_passes, built_if_probed}
-use Rattle.pipe_allowed.proofs.closing.are_probes_built.Given as goal
-
-abbrev pub invariant-loop-k : goal.invariant-loop-k
-invariant-loop-k l = all_below (join_passes (staged l.plan) (built_if_probed l.t (world_of l.world).closed)) l.k ≡ true

@@ -1,9 +1,0 @@
-use Rattle.std.proofs.Common.{◌≡◌, true}
-use Rattle.pipe_events.specs.Decided.{all_below}
-use Rattle.pipe_stages.specs.Staged.{staged}
-use Rattle.pipe_world.specs.Shown.{world_of}
-use Rattle.pipe_allowed.specs.Closing.{spent_at}
-use Rattle.pipe_allowed.proofs.complete.are_all_spent.Given as goal
-
-abbrev pub invariant-loop-n : goal.invariant-loop-n
-invariant-loop-n l = all_below (spent_at (staged l.plan) (world_of l.world)) l.n ≡ true

@@ -1,2 +1,0 @@
-pub mod Flowing
-pub mod Shares

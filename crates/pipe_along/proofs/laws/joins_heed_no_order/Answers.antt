@@ -1,8 +1,0 @@
-use Rattle.pipe_along.proofs.Shares.{share_alike, own_alike}
-use Rattle.pipe_along.proofs.laws.joins_heed_no_order.Goals as goal
-
-pub returns-clause-shares : goal.returns-clause-shares
-returns-clause-shares c = share_alike
-
-pub returns-clause-own : goal.returns-clause-own
-returns-clause-own c = own_alike

@@ -1,2 +1,0 @@
--- rounds one after another, until a source is out
-pub mod Rounds

@@ -1,3 +1,0 @@
-pub mod Together
-pub mod Firsts
-pub mod Sides

@@ -1,2 +1,0 @@
--- branches that stand one behind the other
-pub mod Blocks

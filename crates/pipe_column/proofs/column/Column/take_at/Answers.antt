@@ -1,0 +1,6 @@
+use Rattle.std.proofs.Common.{map, ◌∙◌}
+use Rattle.pipe_column.proofs.Nullables.{nullables_gathered}
+use Rattle.pipe_column.proofs.column.Column.take_at.Goals as goal
+
+pub returns : goal.returns
+returns g c = nullables_gathered c.self.inside.validity c.self.inside.values c.args.filler (map g.P.Place.place c.args.places.now) c.self.view_is c.self.invariant c.in_ok-take_at.ensures (c.from_vec.ensures ∙ rw c.as_slice.ensures at c.in_ok-gather.ensures)

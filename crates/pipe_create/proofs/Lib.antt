@@ -1,9 +1,0 @@
-pub mod CountSteps
-pub mod Sums
-pub mod NodeRows
-pub mod SameFields
-pub mod SourceLemmas
-pub mod ChainSteps
-pub mod BranchStarts
-pub mod SpecFacts
-pub mod JoinNodes

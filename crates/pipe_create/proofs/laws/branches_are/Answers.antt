@@ -1,5 +1,0 @@
-use Rattle.pipe_create.proofs.BranchStarts.{all_branches}
-use Rattle.pipe_create.proofs.laws.branches_are.Goals as goal
-
-pub returns : goal.returns
-returns c = all_branches

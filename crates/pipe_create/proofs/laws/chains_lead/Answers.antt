@@ -1,5 +1,0 @@
-use Rattle.pipe_create.proofs.ChainSteps.{chain_goes}
-use Rattle.pipe_create.proofs.laws.chains_lead.Goals as goal
-
-pub returns : goal.returns
-returns c = chain_goes

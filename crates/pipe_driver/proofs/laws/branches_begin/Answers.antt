@@ -1,5 +1,0 @@
-use Rattle.pipe_driver.proofs.Begins.{begins_way}
-use Rattle.pipe_driver.proofs.laws.branches_begin.Goals as goal
-
-pub returns : goal.returns
-returns c = begins_way

@@ -1,5 +1,0 @@
-use Rattle.pipe_driver.proofs.Starts.{starts}
-use Rattle.pipe_driver.proofs.laws.branches_start.Goals as goal
-
-pub returns : goal.returns
-returns c = starts

@@ -1,5 +1,0 @@
-use Rattle.pipe_driver.proofs.Bounds.{give_own}
-use Rattle.pipe_driver.proofs.laws.joins_give_own.Goals as goal
-
-pub returns : goal.returns
-returns c = give_own

@@ -1,5 +1,0 @@
-use Rattle.pipe_driver.proofs.Counting.{stays}
-use Rattle.pipe_driver.proofs.laws.legs_are_counted.Goals as goal
-
-pub returns : goal.returns
-returns c = stays

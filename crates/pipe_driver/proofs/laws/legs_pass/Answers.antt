@@ -1,5 +1,0 @@
-use Rattle.pipe_driver.proofs.LegPasses.{passed}
-use Rattle.pipe_driver.proofs.laws.legs_pass.Goals as goal
-
-pub returns : goal.returns
-returns c = passed

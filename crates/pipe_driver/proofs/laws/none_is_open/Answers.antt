@@ -1,5 +1,0 @@
-use Rattle.pipe_driver.proofs.Begins.{over}
-use Rattle.pipe_driver.proofs.laws.none_is_open.Goals as goal
-
-pub returns : goal.returns
-returns c = over

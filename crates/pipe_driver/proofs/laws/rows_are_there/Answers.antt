@@ -1,5 +1,0 @@
-use Rattle.pipe_driver.proofs.Reached.{all_there}
-use Rattle.pipe_driver.proofs.laws.rows_are_there.Goals as goal
-
-pub returns : goal.returns
-returns c = all_there

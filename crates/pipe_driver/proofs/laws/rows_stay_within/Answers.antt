@@ -1,5 +1,0 @@
-use Rattle.pipe_driver.proofs.Bounds.{stay_within}
-use Rattle.pipe_driver.proofs.laws.rows_stay_within.Goals as goal
-
-pub returns : goal.returns
-returns c = stay_within

@@ -1,5 +1,0 @@
-use Rattle.pipe_driver.proofs.Counting.{counted}
-use Rattle.pipe_driver.proofs.laws.sinks_are_fed.Goals as goal
-
-pub returns : goal.returns
-returns c = counted

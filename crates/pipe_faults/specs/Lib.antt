@@ -1,2 +1,0 @@
--- what an error is told as
-pub mod FaultLine

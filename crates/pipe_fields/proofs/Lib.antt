@@ -1,4 +1,0 @@
-pub mod Places
-pub mod Names
-pub mod Index
-pub mod RightFields

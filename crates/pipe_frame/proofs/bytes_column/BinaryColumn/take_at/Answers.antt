@@ -1,6 +1,0 @@
-use Rattle.std.proofs.Common.{[], map, ◌∙◌}
-use Rattle.pipe_frame.proofs.Nullables.{nullables_gathered}
-use Rattle.pipe_frame.proofs.bytes_column.BinaryColumn.take_at.Goals as goal
-
-pub returns : goal.returns
-returns g c = nullables_gathered c.self.inside.validity c.self.inside.pieces [] (map g.P.Place.place c.args.places.now) c.self.view_is c.self.invariant (c.from_vec.ensures ∙ rw c.as_slice.ensures at c.in_ok-gather.ensures) c.in_ok-take_at.ensures

@@ -1,7 +1,0 @@
-use Rattle.std.proofs.Common.{◌≡◌, take}
-use Rattle.std.specs.Prelude.{sum_by}
-use Rattle.pipe_frame.specs.Sizes.{nullable_length}
-use Rattle.pipe_frame.proofs.bytes_column.BinaryColumn.total_len.Given as goal
-
-abbrev pub invariant-loop-i : goal.invariant-loop-i
-invariant-loop-i l = l.total ≡ sum_by nullable_length (take l.i l.self)

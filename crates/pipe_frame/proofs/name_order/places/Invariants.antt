@@ -1,6 +1,0 @@
-use Rattle.std.proofs.Common.{◌≡◌, map, take}
-use Rattle.pipe_frame.specs.NameOrder.{place_in_pair}
-use Rattle.pipe_frame.proofs.name_order.places.Given as goal
-
-abbrev pub invariant-loop-pair : goal.invariant-loop-pair
-invariant-loop-pair l = l.places.items ≡ map place_in_pair (take l.pair-index l.pairs)

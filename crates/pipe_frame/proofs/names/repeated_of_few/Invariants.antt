@@ -1,6 +1,0 @@
-use Rattle.std.proofs.Common.{◌≡◌, drop, map}
-use Rattle.pipe_frame.specs.Schema.{first_repeated}
-use Rattle.pipe_frame.proofs.names.repeated_of_few.Given as goal
-
-abbrev pub invariant-loop-i : goal.invariant-loop-i
-invariant-loop-i g l = first_repeated (map g.N.Named.name (drop l.i l.items)) ≡ first_repeated (map g.N.Named.name l.items)

@@ -1,0 +1,6 @@
+use Rattle.std.proofs.Common.{filter, take, ◌≡◌}
+use Rattle.pipe_schema.specs.Schema.{has_name}
+use Rattle.pipe_optimize.proofs.names.kept_of_few.Given as goal
+
+abbrev pub invariant-loop-name : goal.invariant-loop-name
+invariant-loop-name l = l.kept ≡ filter (has_name l.few) (take l.name-index l.names)

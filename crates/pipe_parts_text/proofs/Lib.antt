@@ -1,2 +1,0 @@
-pub mod Floatless
-pub mod Told

@@ -1,7 +1,0 @@
-use Rattle.pipe_plan.specs.Plan.{plan_of}
-use Rattle.pipe_value.specs.View.{view}
-use Rattle.pipe_parts_text.proofs.Floatless.{parts_written}
-use Rattle.pipe_parts_text.proofs.lines.line_in_parts.Goals as goal
-
-pub returns : goal.returns
-returns c = parts_written c.line_of_value.result (view c.in_ok-value.value) (plan_of c.args.plan.now.arena) c.args.plan.now.root c.args.found.now.cuts c.args.found.now.whole c.in_ok-value.ensures c.line_of_value.ensures.text

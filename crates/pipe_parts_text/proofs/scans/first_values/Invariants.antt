@@ -1,8 +1,0 @@
-use Rattle.std.proofs.Common.{◌≡◌, map, take}
-use Rattle.pipe_plan.specs.Plan.{plan_of}
-use Rattle.pipe_value.specs.View.{view}
-use Rattle.pipe_parts_text.specs.PartsLines.{first_spelling}
-use Rattle.pipe_parts_text.proofs.scans.first_values.Given as goal
-
-abbrev pub invariant-loop-one : goal.invariant-loop-one
-invariant-loop-one l = map view l.values.items ≡ map (first_spelling (plan_of l.plan.arena)) (take l.one-index l.cuts)

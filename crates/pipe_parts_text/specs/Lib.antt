@@ -1,2 +1,0 @@
--- the line of a plan
-pub mod PartsLines

@@ -1,4 +1,0 @@
-pub mod Shapes
-pub mod Again
-pub mod OneReconJob
-pub mod Texts

@@ -1,5 +1,0 @@
-use Rattle.pipe_rules.proofs.Conjoined.{conjuncts-filter}
-use Rattle.pipe_rules.proofs.laws.conjuncts_filter.Goals as goal
-
-pub returns : goal.returns
-returns c = conjuncts-filter

@@ -1,5 +1,0 @@
-use Rattle.pipe_rules.proofs.Parts.{parts-down}
-use Rattle.pipe_rules.proofs.laws.parts_go_down.Goals as goal
-
-pub returns : goal.returns
-returns c = parts-down

@@ -1,5 +1,0 @@
-use Rattle.pipe_rules.proofs.TypesDown.{types-down}
-use Rattle.pipe_rules.proofs.laws.types_go_down.Goals as goal
-
-pub returns : goal.returns
-returns c = types-down

@@ -1,5 +1,0 @@
-use Rattle.pipe_events.proofs.PlanLemmas.{are_stages}
-use Rattle.pipe_schedules.proofs.laws.plans_have_stages.Goals as goal
-
-pub returns : goal.returns
-returns c = are_stages

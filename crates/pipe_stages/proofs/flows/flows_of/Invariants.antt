@@ -1,8 +1,0 @@
-use Rattle.std.proofs.Common.{◌≡◌, []}
-use Rattle.pipe_plain.specs.Tables.{table, at_place}
-use Rattle.pipe_events.specs.Stages.{flow_at, only}
-use Rattle.pipe_stages.specs.Staged.{staged}
-use Rattle.pipe_stages.proofs.flows.flows_of.Given as goal
-
-abbrev pub invariant-loop-k : goal.invariant-loop-k
-invariant-loop-k l = l.flows ≡ table [] (flow_at (staged l.plan) (at_place [] l.bags) (only l.node l.rows)) l.k

@@ -1,2 +1,0 @@
--- what spells what is wanted has its shape
-pub mod Shapes

@@ -1,4 +1,0 @@
--- what may stand at a place of a job
-pub mod Wanted
--- the members of objects and the items of arrays
-pub mod Members

@@ -1,8 +1,0 @@
-use Rattle.worked_marks.specs.Working.{IsIdle}
-use Rattle.worked_marks.proofs.marking.answers_in_turn.Given as goal
-
-abbrev pub invariant-loop-i : goal.invariant-loop-i
-invariant-loop-i g l = record {
-  first : IsIdle l.full l.first;
-  second : IsIdle l.full l.second;
-}

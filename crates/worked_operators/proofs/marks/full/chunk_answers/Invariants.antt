@@ -1,0 +1,14 @@
+use Rattle.std.proofs.Common.{◌≡◌}
+use Rattle.pipe_frame.specs.Chunks.{HasSchema}
+use Rattle.pipe_outer.specs.FullProbe.{IsFullReady}
+use Rattle.pipe_table.specs.Spec.{probed_schema}
+use Rattle.pipe_outer.specs.MarkProbe.{HoldsSeat}
+use Rattle.worked_operators.proofs.marks.full.chunk_answers.Given as goal
+
+abbrev pub invariant-loop-piece : goal.invariant-loop-piece
+invariant-loop-piece g l = record {
+  serves : l.full.table.spec ≡ l.probe.spec;
+  seat : HoldsSeat l.full.marks l.probe.seat;
+  takes : HasSchema (probed_schema l.probe.spec) l.chunk;
+  ready : IsFullReady l.full.table l.chunk.frame l.probe.begun;
+}

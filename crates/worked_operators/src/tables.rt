@@ -1,0 +1,9 @@
+//! Works joins out on tables and probes: prints what each shows, and what comes of it.
+
+mod cases;
+mod indexes;
+mod joining;
+mod placing;
+mod table;
+
+pub(crate) use self::table::answers;

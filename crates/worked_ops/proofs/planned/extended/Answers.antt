@@ -1,8 +1,0 @@
-use Rattle.std.proofs.Common.{refl}
-use Rattle.pipe_expr.specs.Formula.{named_formulas_of}
-use Rattle.pipe_plan.specs.Node as node
-use Rattle.pipe_convert.proofs.Operators.{input_under}
-use Rattle.worked_ops.proofs.planned.extended.Goals as goal
-
-pub scanned-requires : goal.scanned-requires
-scanned-requires c = input_under c.args.plan.now c.args.n c.args.input (node.HStack c.args.input (named_formulas_of c.args.exprs.now)) refl c.root.ensures.good c.requires

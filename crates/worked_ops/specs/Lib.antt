@@ -1,2 +1,0 @@
--- the chunk of a scan
-pub mod Planned

@@ -1,0 +1,12 @@
+//! Works out how plans may be cut into parts: prints what each case shows, how each scan is cut, and how many rows each
+//! part has to have whole, or what holds it up; and the lines of some.
+
+mod answer;
+mod barred;
+mod chains;
+mod joins;
+mod lines;
+mod plain;
+mod table;
+
+pub(crate) use self::table::answers;

@@ -1,2 +1,0 @@
--- a join with the frames of its sides
-pub mod Sides
