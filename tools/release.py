@@ -26,9 +26,10 @@ TOP = os.path.dirname(os.path.dirname(os.path.abspath(__file__)))
 BUILT = os.path.join(TOP, "crates", "liskevar", "out", "liskevar")
 DOCS = ["README.md", "LICENSE", "docs", "examples"]
 CALL = """#!/bin/sh
-# Workers' threads come and go: with one arena of the C library's, what one of them gave back serves the next.
+# Workers' threads come and go: with one arena of the C library's, what one of them gave back serves the next. Columns of
+# half a MiB and more lie apart from it, so that the system has their memory back as soon as they are gone.
 here=$(cd "$(dirname "$(readlink -f "$0")")" && pwd)
-MALLOC_ARENA_MAX=${MALLOC_ARENA_MAX:-1} exec "$here/PROGRAM" "$@"
+MALLOC_ARENA_MAX=${MALLOC_ARENA_MAX:-1} MALLOC_MMAP_THRESHOLD_=${MALLOC_MMAP_THRESHOLD_:-524288} exec "$here/PROGRAM" "$@"
 """
 CONTROL = """Package: liskevar
 Version: {version}

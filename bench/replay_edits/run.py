@@ -29,7 +29,7 @@ sys.path.insert(0, str(HERE.parent / "hostile_jobs"))
 from colliding import random_long_texts, texts_of_one_hash  # noqa: E402
 
 # Where the program runs, as ./liskevar has it.
-ENVIRONMENT = {**os.environ, "MALLOC_ARENA_MAX": "1"}
+ENVIRONMENT = {**os.environ, "MALLOC_ARENA_MAX": "1", "MALLOC_MMAP_THRESHOLD_": "524288"}
 PEERS = {
     "dictionaries": [sys.executable, str(HERE / "by_dictionaries.py")],
     "sqlite": [sys.executable, str(HERE / "by_sqlite.py")],

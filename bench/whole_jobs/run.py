@@ -31,7 +31,7 @@ HERE = Path(__file__).resolve().parent
 TOP = HERE.parent.parent
 PROGRAM = TOP / "crates" / "liskevar" / "out" / "liskevar"
 # Where the program runs, as ./liskevar has it.
-ENVIRONMENT = {**os.environ, "MALLOC_ARENA_MAX": "1"}
+ENVIRONMENT = {**os.environ, "MALLOC_ARENA_MAX": "1", "MALLOC_MMAP_THRESHOLD_": "524288"}
 
 
 # A work by Miller, over the CSV files of its frames, {0}, {1} and so on.

@@ -16,11 +16,14 @@ from pathlib import Path
 
 TOP = Path(__file__).resolve().parent.parent.parent
 PROGRAM = TOP / "crates" / "liskevar" / "out" / "liskevar"
+# Where the program runs, as ./liskevar has it.
+ENVIRONMENT = {**os.environ, "MALLOC_ARENA_MAX": "1", "MALLOC_MMAP_THRESHOLD_": "524288"}
+
 
 def measured(words, given, found):
     """The seconds of processor time and the MiB of a process that reads a file and writes another."""
     with open(given, "rb") as source, open(found, "wb") as target:
-        process = subprocess.Popen(words, stdin=source, stdout=target, env={**os.environ, "MALLOC_ARENA_MAX": "1"})
+        process = subprocess.Popen(words, stdin=source, stdout=target, env=ENVIRONMENT)
         _, status, used = os.wait4(process.pid, 0)
     process.returncode = os.waitstatus_to_exitcode(status)
     if process.returncode:

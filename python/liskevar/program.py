@@ -20,6 +20,8 @@ LINE = re.compile(r'error \d+: (?P<fault>[^:\n]*?)(?: at node (?P<node>\d+))?(?:
 EXPLAINED = (4, 5, 6, 7)
 # So many bytes and more are given in a file.
 LONG = 1 << 20
+# What the script `liskevar` tells the C library too, where it isn't set.
+MEMORY = {"MALLOC_ARENA_MAX": "1", "MALLOC_MMAP_THRESHOLD_": "524288"}
 
 
 @functools.lru_cache(maxsize=8)
@@ -66,7 +68,7 @@ def digest() -> str:
 
 def _called(words: Sequence[str], text: bytes = b"") -> subprocess.CompletedProcess[bytes]:
     """What the program does, told words and a text."""
-    program, environment = find_program(), {"MALLOC_ARENA_MAX": "1", **os.environ}
+    program, environment = find_program(), {**MEMORY, **os.environ}
     told: dict[str, Any] = {"capture_output": True, "env": environment, "check": False}
     try:
         if len(text) < LONG:
