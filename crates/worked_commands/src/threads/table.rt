@@ -7,16 +7,6 @@ use std::alloc::{AllocError, Global};
 use std::thread::Threads;
 use worked_runs::Case;
 
-/// The jobs, topic by topic.
-const JOBS: &[&[Case]] = &[
-    inner_joins::CASES,
-    unions::CASES,
-    sorts::CASES,
-    kept_joins::CASES,
-    full_joins::CASES,
-    too_many::CASES,
-];
-
 fn tell_cases<T: Threads + Sync>(
     rt: &T,
     alloc: Global,
@@ -32,9 +22,12 @@ fn tell_cases<T: Threads + Sync>(
 /// What each case shows, and its answer.
 pub(crate) fn answers<T: Threads + Sync>(rt: &T, alloc: Global) -> Result<String, AllocError> {
     let mut answers = String::new(alloc);
-    for cases in JOBS {
-        tell_cases(rt, alloc, &mut answers, cases)?;
-    }
+    tell_cases(rt, alloc, &mut answers, inner_joins::CASES)?;
+    tell_cases(rt, alloc, &mut answers, unions::CASES)?;
+    tell_cases(rt, alloc, &mut answers, sorts::CASES)?;
+    tell_cases(rt, alloc, &mut answers, kept_joins::CASES)?;
+    tell_cases(rt, alloc, &mut answers, full_joins::CASES)?;
+    tell_cases(rt, alloc, &mut answers, too_many::CASES)?;
     stopped::tell_stopped(rt, alloc, &mut answers)?;
     meeting::tell_met(rt, alloc, &mut answers)?;
     Ok(answers)

@@ -8,30 +8,6 @@ use std::alloc::{AllocError, Global};
 use std::thread::Threads;
 use worked_runs::{Case, tell};
 
-/// The jobs, topic by topic.
-const PLANS: &[&[Case]] = &[
-    inner_joins::CASES,
-    keys::CASES,
-    full_joins::CASES,
-    other_joins::CASES,
-    semi_joins::CASES,
-    anti_joins::CASES,
-    scans::CASES,
-    nodes::CASES,
-    ledger::CASES,
-];
-
-/// Those that have joins by keys.
-const HASHED: &[&[Case]] = &[
-    inner_joins::CASES,
-    keys::CASES,
-    full_joins::CASES,
-    other_joins::CASES,
-    semi_joins::CASES,
-    anti_joins::CASES,
-    ledger::CASES,
-];
-
 /// Jobs that are run, by five numbers of workers and rows a chunk each.
 fn tell_cases<T: Threads + Sync>(
     rt: &T,
@@ -50,13 +26,18 @@ fn tell_plans<T: Threads + Sync>(
     a: Global,
     answers: &mut String,
 ) -> Result<(), AllocError> {
-    for cases in PLANS {
-        tell_cases(rt, a, answers, cases)?;
-    }
-    Ok(())
+    tell_cases(rt, a, answers, inner_joins::CASES)?;
+    tell_cases(rt, a, answers, keys::CASES)?;
+    tell_cases(rt, a, answers, full_joins::CASES)?;
+    tell_cases(rt, a, answers, other_joins::CASES)?;
+    tell_cases(rt, a, answers, semi_joins::CASES)?;
+    tell_cases(rt, a, answers, anti_joins::CASES)?;
+    tell_cases(rt, a, answers, scans::CASES)?;
+    tell_cases(rt, a, answers, nodes::CASES)?;
+    tell_cases(rt, a, answers, ledger::CASES)
 }
 
-/// The same where all keys have this hash.
+/// Those that have joins by keys, where all keys have this hash.
 fn tell_hashed<T: Threads + Sync>(
     rt: &T,
     a: Global,
@@ -78,10 +59,13 @@ fn tell_hashed_joins<T: Threads + Sync>(
 ) -> Result<(), AllocError> {
     let shows = format!(in a; "all keys have the hash {hash}")?;
     tell(answers, shows.as_str())?;
-    for cases in HASHED {
-        tell_hashed(rt, a, answers, cases, hash)?;
-    }
-    Ok(())
+    tell_hashed(rt, a, answers, inner_joins::CASES, hash)?;
+    tell_hashed(rt, a, answers, keys::CASES, hash)?;
+    tell_hashed(rt, a, answers, full_joins::CASES, hash)?;
+    tell_hashed(rt, a, answers, other_joins::CASES, hash)?;
+    tell_hashed(rt, a, answers, semi_joins::CASES, hash)?;
+    tell_hashed(rt, a, answers, anti_joins::CASES, hash)?;
+    tell_hashed(rt, a, answers, ledger::CASES, hash)
 }
 
 /// What each case shows, and its answer.
