@@ -12,8 +12,8 @@ use Rattle.pipe_job.specs.JobSpelling.{Task}
 use Rattle.pipe_job.specs.Line.{head_line, row_line, lines}
 use Rattle.pipe_job.specs.Reading.{ReadsJob}
 use Rattle.pipe_job.proofs.Cut.{lines-frame}
-use Rattle.pipe_outside.specs.Outside.{InputSeen, OutputSeen, WriteFails, Writes, WritesFront}
-use Rattle.pipe_outside.proofs.WholeLemmas.{rises_later}
+use Rattle.pipe_stream.specs.Outside.{InputSeen, OutputSeen, WriteFails, Writes, WritesFront}
+use Rattle.pipe_stream.proofs.WholeLemmas.{rises_later}
 use Rattle.pipe_plan.specs.PlanRows.{rows_of}
 use Rattle.pipe_plan.specs.Schemas.{schema_of}
 use Rattle.pipe_plan.specs.declared.error.PipeError.{PipeError}

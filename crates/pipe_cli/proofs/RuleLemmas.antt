@@ -7,7 +7,7 @@ use Rattle.std.proofs.lemmas.Bool.{eqb-true, eq-eqb}
 use Rattle.pipe_exec.specs.Evaluated.{stop_of}
 use Rattle.pipe_cli.specs.FaultLine.{fault_status}
 use Rattle.pipe_schema.specs.Counts.{Counts}
-use Rattle.pipe_outside.specs.Outside.{InputSeen, OutputSeen, WriteFails, Writes, WritesFront}
+use Rattle.pipe_stream.specs.Outside.{InputSeen, OutputSeen, WriteFails, Writes, WritesFront}
 use Rattle.pipe_plan.specs.declared.error.PipeError.{PipeError}
 use Rattle.pipe_plan.specs.declared.error.PipeError.TheVariants as error
 use Rattle.pipe_cli.specs.Contract.{Answered, Because, Causes, Contract, Kind, NoInput, Nothing, OfInput, Short, Sound, Told, Unread}

@@ -2,7 +2,7 @@
 use Rattle.std.proofs.Common.{◌≡◌, ◌≤◌, ℕ, true, false, List, [], ◌∷◌, length, Option, Some, None, inl, inr, refl, sym, ap, subst, ◌∙◌, arith}
 use Rattle.std.specs.Prelude.{IfSome, IsSome, IsSomeAnd}
 use Rattle.pipe_cli.specs.FaultLine.{fault_status}
-use Rattle.pipe_outside.specs.Outside.{InputSeen, OutputSeen, ReadFails, WriteFails}
+use Rattle.pipe_stream.specs.Outside.{InputSeen, OutputSeen, ReadFails, WriteFails}
 use Rattle.pipe_plan.specs.declared.error.PipeError.{PipeError}
 use Rattle.pipe_plan.specs.declared.error.PipeError.TheVariants as error
 use Rattle.pipe_cli.specs.Commands.{Request, contract_of, request, source_of}

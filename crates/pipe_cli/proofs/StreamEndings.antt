@@ -1,7 +1,7 @@
 -- What a run of `stream` ends with, by what its refusal says.
 use Rattle.std.proofs.Common.{◌≡◌, ◌≤◌, ℕ, true, false, List, [], ◌∷◌, length, Option, Some, None, inl, inr, ◌⊎◌, refl, sym, ap, subst, ◌∙◌, arith}
 use Rattle.std.specs.Prelude.{IfSome, IsSomeAnd}
-use Rattle.pipe_outside.specs.Outside.{InputSeen, OutputSeen, ReadFails, WriteFails, WritesFront, Writes}
+use Rattle.pipe_stream.specs.Outside.{InputSeen, OutputSeen, ReadFails, WriteFails, WritesFront, Writes}
 use Rattle.pipe_cli.specs.Commands.{Request, Stream, contract_of}
 use Rattle.pipe_cli.specs.Commands.StreamCommand.{stream}
 use Rattle.pipe_cli.specs.Contract.{NoInput, Nothing, OfInput, RefusedAs, Short, ShortGood, Sound, Told, TooWide, Wide}

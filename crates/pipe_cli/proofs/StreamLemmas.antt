@@ -3,8 +3,8 @@ use Rattle.std.proofs.Common.{◌≡◌, ◌≤◌, ℕ, List, [], length, Optio
 use Rattle.std.proofs.Math.Seq.{take-length}
 use Rattle.std.specs.Prelude.{IfSome, OnErr, OnOk}
 use Rattle.pipe_schema.specs.Counts.{Rises}
-use Rattle.pipe_outside.specs.Outside.{AtEnd, CountedAbove, HasRead, InputSeen, OutputSeen, WriteFails, Writes, WritesFront}
-use Rattle.pipe_outside.specs.Whole.{IsAll, ReadAtMost}
+use Rattle.pipe_stream.specs.Outside.{AtEnd, CountedAbove, HasRead, InputSeen, OutputSeen, WriteFails, Writes, WritesFront}
+use Rattle.pipe_stream.specs.Whole.{IsAll, ReadAtMost}
 use Rattle.pipe_cli.specs.Outcome.{Noted}
 use Rattle.pipe_cli.specs.Refused.{OfReading}
 use Rattle.pipe_cli.specs.Sources.{HasAll, IsTakenInPart, IsTooMany, IsWhole, Opened, Source, Nowhere, Standard, Named, TookFew, WasRead, bytes_at, limit, most_taken, standard_or}

@@ -1,7 +1,7 @@
 -- What is said of a command is said of the words that call it.
 use Rattle.std.proofs.Common.{◌≡◌, ℕ, Bool, true, List, Option, Some, None, refl, subst, sym, ◌∙◌}
 use Rattle.std.specs.Prelude.{IsSome, option_map}
-use Rattle.pipe_outside.specs.Outside.{InputSeen, OutputSeen}
+use Rattle.pipe_stream.specs.Outside.{InputSeen, OutputSeen}
 use Rattle.pipe_cli.specs.Commands.{Request, contract_of, request, source_of}
 use Rattle.pipe_cli.specs.Contract.{OfInput}
 use Rattle.pipe_cli.specs.Outcome.{AsksNoInput, InputOf, IsRead, MayEnd, OfOutput, OfWords, OutputOf, ReadingOf, TakenInPart, Wrote, WroteTold, asks_run, if_asked, is_asked, is_run, of_words, told_to}

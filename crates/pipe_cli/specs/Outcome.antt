@@ -1,6 +1,6 @@
 -- What a run of a command says of its input and its output.
 use Rattle.std.specs.Prelude.{ℕ, ◌≡◌, ◌≤◌, ◌⊎◌, List, [], ◌∷◌, length, Bool, false, Option, Some, None, IfSome, IsSome, IsSomeAnd, ⊤}
-use Rattle.pipe_outside.specs.Outside.{InputSeen, OutputSeen, WriteFails, Writes, WritesFront}
+use Rattle.pipe_stream.specs.Outside.{InputSeen, OutputSeen, WriteFails, Writes, WritesFront}
 use Rattle.pipe_cli.specs.Commands.{Request, contract_of, request, source_of}
 use Rattle.pipe_cli.specs.Contract.{Answered, Contract, OfInput, ShortGood, Told}
 use Rattle.pipe_cli.specs.Refused.{OfReading, OfWriting}

@@ -1,7 +1,7 @@
 -- Where an input stands, and how it is read to its end.
 use Rattle.std.specs.Prelude.{ℕ, ◌≡◌, ◌<◌, ◌≤◌, List, [], length, Option, Some, None, IfSome}
-use Rattle.pipe_outside.specs.Outside.{CountedAbove, InputSeen, Splits}
-use Rattle.pipe_outside.specs.Whole.{ReadAtMost}
+use Rattle.pipe_stream.specs.Outside.{CountedAbove, InputSeen, Splits}
+use Rattle.pipe_stream.specs.Whole.{ReadAtMost}
 
 -- an input stands nowhere, on standard input, or under a name
 pub data Source : Type 0 where

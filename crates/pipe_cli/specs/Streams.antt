@@ -5,7 +5,7 @@ use Rattle.std.specs.Str.{bytes_eq}
 use Rattle.pipe_frame.specs.Frame.{Table}
 use Rattle.pipe_job.specs.Line.{head_line, row_line}
 use Rattle.std.specs.Prelude.{slice_index_or}
-use Rattle.pipe_outside.specs.Outside.{InputSeen, OutputSeen, ReadFails, WriteFails, Writes, WritesFront}
+use Rattle.pipe_stream.specs.Outside.{InputSeen, OutputSeen, ReadFails, WriteFails, Writes, WritesFront}
 use Rattle.pipe_stream.specs.Blocks.{IsBlockOrder, block_count, block_text}
 use Rattle.pipe_cli.specs.Commands.{request}
 use Rattle.pipe_cli.specs.Commands.StreamCommand.{stream}

@@ -10,7 +10,7 @@ use Rattle.pipe_why.specs.Heads.{fault_head}
 use Rattle.pipe_why_value.specs.Places.{kind_of}
 use Rattle.pipe_why_value.specs.Telling.{TellsNoJob}
 use Rattle.pipe_why_value.specs.declared.input_kind.InputKind.TheVariants as kind
-use Rattle.pipe_outside.specs.Outside.{InputSeen, OutputSeen, ReadFails, WriteFails, WritesFront}
+use Rattle.pipe_stream.specs.Outside.{InputSeen, OutputSeen, ReadFails, WriteFails, WritesFront}
 use Rattle.pipe_cli.specs.Commands.WhyCommand.{why}
 use Rattle.pipe_cli.specs.Contract.{Answered, NoInput, Nothing, RefusedAs, ShortGood, Told}
 use Rattle.pipe_cli.specs.Jobs.{IsRefusedJob}

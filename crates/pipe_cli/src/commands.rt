@@ -39,9 +39,9 @@ use crate::answer::Answer;
 use crate::heights::are_heights;
 use crate::status::Refusal;
 use crate::streams::{bytes_at, bytes_left};
-use pipe_outside::JobReader;
 use pipe_schema::{Gate, StopCheck, Text};
 use pipe_selftest::{rows_in, start_in};
+use pipe_stream::JobReader;
 use std::alloc::Global;
 use std::thread::Threads;
 

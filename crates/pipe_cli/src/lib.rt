@@ -25,7 +25,7 @@ pub use commands::{Command, command_of};
 pub use fault_lines::fault_line;
 pub use laws::commands_are_lawful;
 pub use pipe_job::{Job, JobError, head_line, job_of, read_job, row_line};
-pub use pipe_outside::{
+pub use pipe_stream::{
     JobReader, LIMIT, MemReader, MemWriter, NamedBytes, ReadFailed, RowWriter, StreamWriter,
     SureReader, SureWriter, SystemReader, WholeError, WriteFailed, read_whole, write_whole,
 };

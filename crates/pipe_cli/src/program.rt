@@ -2,7 +2,7 @@
 
 ghost use Rattle.std.specs.Prelude.{◌≡◌, ◌≢◌, ◌↔◌, ◌≤◌, ◌∷◌, [], true, false, IfErr, IsErrOf, IsSome, OnOk, None};
 ghost use Rattle.pipe_schema.specs.Counts.{Counts, Rises};
-ghost use Rattle.pipe_outside.specs.Outside.{ReadFails, WriteFails};
+ghost use Rattle.pipe_stream.specs.Outside.{ReadFails, WriteFails};
 ghost use Rattle.pipe_cli.specs.Commands.{HasGoodRows, contract_of, request, request_of, source_of};
 ghost use Rattle.pipe_cli.specs.Contract.{NoInput, Nothing, OfInput, RefusedAs, ShortGood, Sound, TooWide, Wide};
 ghost use Rattle.pipe_cli.specs.Outcome.{AsksNoInput, InputOf, IfInput, IsInput, IsRead, IsTooLong, Long, MayEnd, Noted, NotedFault, OfOutput, OfWords, OutputOf, ReadingOf, TakenInPart, Wrote, WroteFront, WroteTold, asks_run, told_to};
@@ -13,8 +13,8 @@ ghost use Rattle.pipe_cli.specs.Status.{IsFixed, OneOf, line_of, status_line, st
 use crate::commands::{Command, answer_of, command_of, input_of};
 use crate::status::Refusal;
 use crate::streams::tell;
-use pipe_outside::{JobReader, RowWriter, write_whole};
 use pipe_schema::{Gate, StopCheck, Text};
+use pipe_stream::{JobReader, RowWriter, write_whole};
 use std::alloc::Global;
 use std::thread::Threads;
 

@@ -2,7 +2,7 @@
 
 ghost use Rattle.std.specs.Prelude.{◌≡◌, ◌≤◌, ◌<◌, ◌∷◌, [], true, length, IfErr, IsErrOf, OnErr, OnOk};
 ghost use Rattle.pipe_schema.specs.Counts.{Counts, Rises};
-ghost use Rattle.pipe_outside.specs.Outside.{WriteFails};
+ghost use Rattle.pipe_stream.specs.Outside.{WriteFails};
 ghost use Rattle.pipe_cli.specs.Commands.StreamCommand.{stream};
 ghost use Rattle.pipe_cli.specs.Contract.{OfInput};
 ghost use Rattle.pipe_cli.specs.Outcome.{WroteFrontTold, WroteOn, WroteTold};
@@ -17,9 +17,8 @@ use crate::status::Refusal;
 use crate::streams::{bytes_left, tell};
 use pipe_frame::DataFrame;
 use pipe_job::head_line;
-use pipe_outside::{JobReader, RowWriter};
 use pipe_schema::{Gate, StopCheck};
-use pipe_stream::{RowLines, StreamError, stream_frame};
+use pipe_stream::{JobReader, RowLines, RowWriter, StreamError, stream_frame};
 use std::alloc::Global;
 use std::sync::Wait;
 use std::thread::Threads;

@@ -2,14 +2,14 @@
 
 ghost use Rattle.std.specs.Prelude.{◌≡◌, ◌≤◌, ◌∷◌, [], length, None, IfOk, IfErr, IsErrOf, OnOk, OnErr};
 ghost use Rattle.std.specs.Option.{option_copied};
-ghost use Rattle.pipe_outside.specs.Outside.{ReadFails, WriteFails, Writes, WritesFront};
+ghost use Rattle.pipe_stream.specs.Outside.{ReadFails, WriteFails, Writes, WritesFront};
 ghost use Rattle.pipe_cli.specs.Refused.{OfReading};
 ghost use Rattle.pipe_cli.specs.Sources.{HasAll, IsTakenInPart, IsWhole, Opened, Standard, WasRead, bytes_at, limit, standard_or};
 ghost use Rattle.pipe_cli.specs.Status.{OneOf, status_of};
 
 use crate::status::Refusal;
-use pipe_outside::{JobReader, RowWriter, WholeError, read_whole, write_whole};
 use pipe_schema::Text;
+use pipe_stream::{JobReader, RowWriter, WholeError, read_whole, write_whole};
 use std::alloc::Global;
 
 /// All bytes that are left.

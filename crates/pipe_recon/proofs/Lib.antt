@@ -20,12 +20,6 @@ pub mod JoinRows
 pub mod Classes
 -- how many rows the join has
 pub mod JoinCounts
--- the run of the join
-pub mod Running
--- how a reconciliation ends, by how its join does
-pub mod Ending
--- why there is no reconciliation, and that there is one else
-pub mod Causes
 pub mod Shapes
 pub mod Again
 pub mod OneReconJob

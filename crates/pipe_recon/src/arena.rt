@@ -100,7 +100,7 @@ fn frames(
 
 /// The plan of the full join of both sides, by their codes: scans 0 and 1, and the join 2, which isn't refused.
 #[tactic(auto, using(crate::proofs::Formed::join_formed), unfolding(crate::specs::JoinPlan::join_plan))]
-pub(crate) fn join_arena(
+pub fn join_arena(
     alloc: Global,
     lefts: BinaryColumn,
     rights: BinaryColumn,

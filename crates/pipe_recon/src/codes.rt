@@ -68,7 +68,7 @@ fn codes_of_keys(
 }
 
 /// The codes of a frame's rows: their keys as bytes, and none where a key doesn't join.
-pub(crate) fn codes_of(
+pub fn codes_of(
     alloc: Global,
     frame: &DataFrame,
     spec: &ReconSpec,

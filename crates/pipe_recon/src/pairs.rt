@@ -41,7 +41,7 @@ fn right_numbers(frame: &DataFrame) -> &Column<u32>
 
 /// The classes of the left and the right rows, of which there are so many, by the rows of their join.
 #[tactic(auto, using(crate::proofs::Classes::as_many))]
-pub(crate) fn recon_in(
+pub fn recon_in(
     alloc: Global,
     frame: &DataFrame,
     left_height: usize,

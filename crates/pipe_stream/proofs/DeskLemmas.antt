@@ -4,7 +4,7 @@ use Rattle.std.specs.List.{range_with_len}
 use Rattle.std.proofs.lemmas.List.Elements.{filter-append}
 use Rattle.std.proofs.lemmas.Grind.{flat_map-append}
 use Rattle.std.proofs.lemmas.Bool.Decides.{nat_tests}
-use Rattle.pipe_outside.specs.Outside.{Appends, OutputSeen, Writes, WritesFront}
+use Rattle.pipe_stream.specs.Outside.{Appends, OutputSeen, Writes, WritesFront}
 use Rattle.pipe_stream.specs.Blocks.{blocks_from, is_of, IsBlockOrder, PutsFront}
 use Rattle.pipe_stream.specs.Messages.{Begins, block_of, last_of, script, is_planned}
 use Rattle.pipe_stream.specs.Hands.{MayTake, hand, taken}

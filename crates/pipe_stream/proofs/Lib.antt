@@ -1,3 +1,4 @@
+pub mod WholeLemmas
 pub mod LineLemmas
 pub mod HandLemmas
 pub mod BlockLemmas

@@ -1,8 +1,8 @@
 -- What the caller's steps leave.
 use Rattle.std.proofs.Common.{◌≡◌, ◌≤◌, ◌<◌, ℕ, ◌+◌, ◌-◌, ◌^◌, Bool, true, false, true≢false, not, ◌&&◌, ◌||◌, List, [], ◌∷◌, ◌++◌, Result, Ok, Err, OnOk, sym, refl, ap, ◌∙◌, subst, arith, le_refl, le_trans}
 use Rattle.pipe_schema.specs.Counts.{Rises}
-use Rattle.pipe_outside.specs.Outside.{OutputSeen, WriteFails, Writes, WritesFront}
-use Rattle.pipe_outside.proofs.WholeLemmas.{rises_later}
+use Rattle.pipe_stream.specs.Outside.{OutputSeen, WriteFails, Writes, WritesFront}
+use Rattle.pipe_stream.proofs.WholeLemmas.{rises_later}
 use Rattle.pipe_stream.specs.Blocks.{block_text, blocks_from, is_of, Describes, IsBlockOrder}
 use Rattle.pipe_stream.specs.Messages.{Begins}
 use Rattle.pipe_stream.specs.Hands.{MayTake, Takes, hand, taken}

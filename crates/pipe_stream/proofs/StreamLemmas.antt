@@ -1,6 +1,6 @@
 -- How a stream begins and ends.
 use Rattle.std.proofs.Common.{◌≡◌, ◌≤◌, ◌<◌, ℕ, zero, suc, lt-suc_self, ◌+◌, ◌^◌, Bool, true, false, true≢false, List, [], ◌∷◌, ◌++◌, Result, Ok, Err, OnOk, flat_map, sym, refl, ap, ◌∙◌, subst, arith}
-use Rattle.pipe_outside.specs.Outside.{OutputSeen, Writes}
+use Rattle.pipe_stream.specs.Outside.{OutputSeen, Writes}
 use Rattle.pipe_stream.specs.Blocks.{block_count, block_text, blocks_from, Describes, IsBlockOrder}
 use Rattle.pipe_stream.specs.Messages.{script}
 use Rattle.pipe_stream.specs.Hands.{MayTake, hand, taker, view_of}

@@ -2,7 +2,7 @@
 -- in their order.
 use Rattle.std.specs.Prelude.{◌≡◌, ◌≤◌, ◌<◌, ℕ, Bool, true, false, ◌+◌, ◌-◌, ◌*◌, ◌/◌, ◌%◌, ◌==◌, List, take, drop, filter, flat_map}
 use Rattle.std.specs.List.{range_with_len}
-use Rattle.pipe_outside.specs.Outside.{OutputSeen, WritesFront}
+use Rattle.pipe_stream.specs.Outside.{OutputSeen, WritesFront}
 
 -- how many blocks so many rows have
 abbrev pub block_count : ℕ → ℕ → ℕ

@@ -1,6 +1,6 @@
 -- Where the caller stands: which blocks are put, and which are still to come.
 use Rattle.std.specs.Prelude.{◌≡◌, ◌≤◌, ℕ, Bool, true, false, not, ◌+◌, Result, IfOk, OnOk, OnErr, IsErrOf, List, [], ◌∷◌, ◌++◌, filter, flat_map, if◌then◌else◌}
-use Rattle.pipe_outside.specs.Outside.{OutputSeen, WriteFails, Writes, WritesFront}
+use Rattle.pipe_stream.specs.Outside.{OutputSeen, WriteFails, Writes, WritesFront}
 use Rattle.pipe_stream.specs.Blocks.{blocks_from, is_of, IsBlockOrder, PutsFront}
 use Rattle.pipe_stream.specs.Messages.{script}
 use Rattle.pipe_stream.specs.Hands.{hand}

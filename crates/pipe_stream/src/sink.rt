@@ -1,9 +1,10 @@
 //! What the texts of blocks are put to.
 
 ghost use Rattle.std.specs.Prelude.{◌≤◌, OnOk, OnErr};
-ghost use Rattle.pipe_outside.specs.Outside.{OutputSeen, WriteFails, Writes, WritesFront};
+ghost use Rattle.pipe_stream.specs.Outside.{OutputSeen, WriteFails, Writes, WritesFront};
 
-use pipe_outside::{RowWriter, write_whole};
+use crate::outside::RowWriter;
+use crate::whole::write_whole;
 
 /// A text that wasn't put whole.
 #[derive(Clone, Copy, Debug)]

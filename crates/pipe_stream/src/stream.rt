@@ -1,7 +1,7 @@
 //! A frame written block by block, in an order in which each worker's blocks ascend.
 
 ghost use Rattle.std.specs.Prelude.{◌≡◌, ◌≤◌, ◌<◌, length, flat_map, IfOk, OnErr, IsErrOf};
-ghost use Rattle.pipe_outside.specs.Outside.{WriteFails, Writes};
+ghost use Rattle.pipe_stream.specs.Outside.{WriteFails, Writes};
 ghost use Rattle.pipe_stream.specs.Blocks.{block_count, block_text, Describes, IsBlockOrder, PutsFront};
 ghost use Rattle.pipe_stream.specs.Desk.{Streamed};
 

@@ -1,7 +1,7 @@
 //! Words, and commands beside `run` on standard input.
 
-use pipe_outside::MemReader;
 use pipe_schema::{Bytes, List};
+use pipe_stream::MemReader;
 use std::alloc::{AllocError, Global};
 use std::thread::Threads;
 use worked_runs::{Ended, PAIRS, named, reader, run_words};

@@ -1,7 +1,7 @@
 //! Inputs at the limit of a job's length.
 
-use pipe_outside::SureReader;
 use pipe_schema::{Bytes, List};
+use pipe_stream::SureReader;
 use std::alloc::{AllocError, Global};
 use std::thread::Threads;
 use worked_runs::{Ended, run};

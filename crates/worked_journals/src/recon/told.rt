@@ -3,7 +3,8 @@
 use crate::recon::cases::Case;
 use crate::recon::checks::check_text;
 use pipe_plan::{PipeConfig, PipeError};
-use pipe_recon::{Partner, Recon, ReconSpec, reconcile};
+use pipe_recon::{Partner, Recon, ReconSpec};
+use pipe_reconcile::reconcile;
 use pipe_schema::{NeverStop, OpenGate};
 use std::alloc::{AllocError, Global};
 use std::thread::Threads;

@@ -1,10 +1,10 @@
 //! What readers and writers in memory hold.
 
 use crate::told::shown;
-use pipe_outside::{
+use pipe_schema::{Bytes, List};
+use pipe_stream::{
     JobReader, MemReader, NamedBytes, SureReader, SureWriter, read_whole, write_whole,
 };
-use pipe_schema::{Bytes, List};
 use std::alloc::{AllocError, Global};
 
 /// A file of a name and some text.

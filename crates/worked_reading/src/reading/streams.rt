@@ -2,7 +2,7 @@
 
 use crate::reading::held::text_named;
 use crate::told::{shown, tell};
-use pipe_outside::{JobReader, StreamWriter, SystemReader, read_whole, write_whole};
+use pipe_stream::{JobReader, StreamWriter, SystemReader, read_whole, write_whole};
 use std::alloc::{AllocError, Global};
 use std::io::Read;
 use std::rt::Files;

@@ -1,8 +1,8 @@
 //! Frames of a few rows, and what is put of them.
 
 use pipe_frame::DataFrame;
-use pipe_outside::MemWriter;
 use pipe_schema::List;
+use pipe_stream::MemWriter;
 use std::alloc::{AllocError, Global};
 use worked_columns::{INT, frame_of};
 
