@@ -10,7 +10,6 @@ pub mod Mays
 pub mod Feeds
 pub mod Closings
 pub mod Entry
-pub mod Begun
 pub mod Fills
 pub mod Calls
 pub mod Opens
@@ -42,3 +41,7 @@ pub mod Refusing
 pub mod Breaking
 pub mod Tellings
 pub mod Lending
+pub mod Sharing
+pub mod Leaving
+pub mod Lowering
+pub mod OpenSinks

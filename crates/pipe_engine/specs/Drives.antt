@@ -1,16 +1,19 @@
 -- What the driver's steps do, for each plan of which the run may be.
-use Rattle.std.specs.Prelude.{◌≡◌, ℕ, ◌<◌, ◌≤◌, List, [], Option, Some, None, true, length}
+use Rattle.std.specs.Prelude.{◌≡◌, ℕ, ◌+◌, ◌<◌, ◌≤◌, ◌==◌, List, [], Option, Some, None, true, false, length}
 use Rattle.pipe_frame.specs.Frame.{Table}
 use Rattle.pipe_schema.specs.Rows.{Same}
 use Rattle.pipe_plan.specs.PlanRows.{rows_of}
 use Rattle.pipe_branches.specs.declared.branch.SinkAt.{SinkAt}
-use Rattle.pipe_driver.specs.Ways.{IsSinkOf, IsSound}
+use Rattle.pipe_branches.specs.declared.branch.SinkAt.TheVariants as places
+use Rattle.pipe_driver.specs.Ways.{occurs, IsSinkOf, IsSound}
 use Rattle.pipe_driver.specs.declared.pipe_line.PipeLine.{PipeLine}
 use Rattle.pipe_driver.specs.declared.run.Run.{Run}
 use Rattle.pipe_driver.specs.declared.run.Fed.{Fed}
 use Rattle.pipe_driver.specs.declared.run.Next.{Next}
 use Rattle.pipe_driver.specs.declared.run.Next.TheVariants as next
 use Rattle.pipe_driver.specs.declared.run.Passing.{Passing}
+use Rattle.pipe_driver.specs.declared.sink_counts.SinkCounts.{SinkCounts}
+use Rattle.pipe_driver.specs.Tables.{number_at}
 use Rattle.pipe_driver.specs.Lines.{counts_as}
 use Rattle.pipe_driver.specs.Runs.{sink_of, Between, Ready, Passes, Feeds, HasLed, HasRun, IsNext, IsAnswer, KeepsRoot, HasStopped}
 use Rattle.pipe_driver.specs.Fronts.{FedMore, FedOn, HasRunFront, IsOnTheWayBy}
@@ -18,7 +21,7 @@ use Rattle.pipe_driver.specs.Plans.{StandFor}
 use Rattle.pipe_driver.specs.Within.{AllWithin, EndsWith}
 use Rattle.pipe_driver.specs.declared.error.RunError.{RunError}
 use Rattle.pipe_source.specs.declared.phys_source.PhysSource.{PhysSource}
-use Rattle.pipe_engine.specs.Engine.{engine_words}
+use Rattle.pipe_engine.specs.Engine.{engine_words, sink_at, OthersStay}
 use Rattle.pipe_engine.specs.Finished.{IsRootFrame}
 use Rattle.pipe_engine.specs.Known.{Known, words_of, Asked}
 use Rattle.pipe_engine.specs.declared.engine.Engine.{Engine}
@@ -81,6 +84,47 @@ abbrev pub ComesNext : {H : Type 0} → (hash_of : H → List ℕ → ℕ) → (
     List (Line H) → Next PhysSource (Part H) → Known H → Type 0
 ComesNext hash_of old new fed todo next k =
     IsNext (words_of hash_of k) k.task old new todo (sink_of k.task fed.at) next
+
+-- ---- counts of sinks
+
+-- a leg less feeds a sink, and no more feed any other
+pub record HasLowered (fed : Fed) (old new : SinkCounts) : Type 0 where
+  pub here : number_at old.left.items fed.count ≡ number_at new.left.items fed.count + 1
+  pub none_rose : (k : ℕ) → number_at new.left.items k ≤ number_at old.left.items k
+  pub others : (k : ℕ) → (k == fed.count) ≡ false →
+      number_at new.left.items k ≡ number_at old.left.items k
+
+-- ---- sinks that are open
+
+-- a leg has fed this sink alone
+abbrev pub FedAlone : {H : Type 0} → SinkAt → (old new : LineRun H) → Known H → Type 0
+FedAlone at old new k =
+    OthersStay (sink_of k.task at) old.runner.sinks.items new.runner.sinks.items
+
+-- a sink that is open was fed, by its number, and legs still feed it
+pub record AreOpen {H : Type 0} (numbers : List ℕ) (run : LineRun H) (k : Known H) : Type 0 where
+  pub unfed : (s : ℕ) → occurs (k.task.number s) numbers ≡ 0 →
+      sink_at run.runner.sinks.items s ≡ None
+  pub fed_out : (s : ℕ) → number_at run.counts.left.items (k.task.number s) ≡ 0 →
+      sink_at run.runner.sinks.items s ≡ None
+
+abbrev pub KeepsOpen : {H : Type 0} → (old new : LineRun H) → (numbers numbers' : List ℕ) → Known H →
+    Type 0
+KeepsOpen old new numbers numbers' k = AreOpen numbers old k → AreOpen numbers' new k
+
+-- ---- answers
+
+-- only the root's sink gives an answer
+abbrev pub AnswersAt : {H : Type 0} → SinkAt → Next PhysSource (Part H) → Type 0
+AnswersAt at (next.GoOn p) = Unit {0}
+AnswersAt at next.Stay = Unit {0}
+AnswersAt at (next.Answer frame) = at ≡ places.Ordered
+
+-- where there is an answer, fewer legs feed the root's sink
+abbrev pub LowersRoot : {H : Type 0} → (old new : LineRun H) → Option Table → Known H → Type 0
+LowersRoot old new None k = Unit {0}
+LowersRoot old new (Some frame) k =
+    (counts_as k.task new).sinks k.task.m.ordered < (counts_as k.task old).sinks k.task.m.ordered
 
 -- ---- front parts of branches
 

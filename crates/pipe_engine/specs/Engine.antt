@@ -321,14 +321,6 @@ pub record Fits {H : Type 0} (hash_of : H → List ℕ → ℕ) (engine : Engine
       slot_at engine.slots.slots.items j ≡ slot.Empty
   pub leg : LegFitsOrNone hash_of x m w engine.context engine.leg
 
--- the engine is for this plan, with its settings
-pub record MayStart {H : Type 0} (engine : Engine H) (x : Settings H) (m : Meaning) : Type 0 where
-  pub sound : IsSound m
-  pub parts : engine.parts ≡ x.parts
-  pub some : 0 < x.parts
-  pub few : x.parts < 4294967295
-  pub ordered : engine.nodes ≡ m.ordered
-
 -- ---- what the driver knows of it
 
 abbrev pub IsBefore : {H : Type 0} → Option (OpenLeg H) → List ℕ → SinkAt → Type 0
@@ -344,6 +336,23 @@ IsThere sinks s = sink_at sinks s ≡ None → ⊥
 
 abbrev pub Holds : {H : Type 0} → Engine H → SinkAt → Type 0
 Holds engine at = IsThere engine.sinks.items (sink_node engine.nodes at)
+
+-- what was fed stands as it did, but for one sink; and that is no more there
+abbrev pub OthersStay : {H : Type 0} → ℕ → (old new : List (Option (FedSink H))) → Type 0
+OthersStay s old new = (t : ℕ) → (t == s) ≡ false → sink_at new t ≡ sink_at old t
+
+abbrev pub IsEmptied : {H : Type 0} → ℕ → (old new : List (Option (FedSink H))) → Type 0
+IsEmptied s old new = (t : ℕ) → sink_at new t ≡ (if t == s then None else sink_at old t)
+
+-- the leg that ends feeds its sink alone
+abbrev pub FeedsAlone : {H : Type 0} → (old new : Engine H) → Type 0
+FeedsAlone old new =
+    (at : SinkAt) → IsBefore old.leg [] at →
+    OthersStay (sink_node old.nodes at) old.sinks.items new.sinks.items
+
+-- no sink was fed that isn't finished
+abbrev pub NoneOpen : {H : Type 0} → Engine H → Type 0
+NoneOpen engine = (s : ℕ) → sink_at engine.sinks.items s ≡ None
 
 abbrev pub brings_of : {H : Type 0} → Settings H → PhysSource → Meaning → ℕ → Type 0
 brings_of x source = Brings source x

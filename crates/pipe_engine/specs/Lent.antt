@@ -18,12 +18,14 @@ use Rattle.pipe_engine.specs.Drives.{Line}
 use Rattle.pipe_engine.specs.Engine.{engine_words}
 use Rattle.pipe_engine.specs.Stands.{Settings}
 
--- slots of so many nodes, made for so many workers, none of which is filled
+-- slots of so many nodes, made for so many workers, none of which is filled; and no node gave a row
 pub record AreUnfilled {H : Type 0} (nodes workers : ℕ) (slots : Slots H) : Type 0 where
   pub long : length slots.slots.items ≡ nodes
   pub seated : length slots.seats.items ≡ nodes
   pub made_for : slots.workers ≡ workers
   pub empty : (k : ℕ) → slot_at slots.slots.items k ≡ Empty
+  pub given : length slots.given.items ≡ nodes
+  pub none : (n : ℕ) → number_at slots.given.items n ≡ 0
 
 -- by each sink's number, how many branches of a plan feed it
 pub record AreFeeds (ask : Ask) (counts : SinkCounts) : Type 0 where

@@ -16,6 +16,8 @@ pub mod Taken
 pub mod Carried
 -- what is lent to a run before its first branch
 pub mod Lent
+-- what is left of a plan's branches
+pub mod Left
 -- what lets the engine's calls be made
 pub mod Calls
 -- what the driver's steps do

@@ -1,6 +1,6 @@
 //! How many rows each node gave, leg after leg.
 
-ghost use Rattle.std.specs.Prelude.{◌≡◌, ℕ, ◌≤◌, ◌<◌, length, IfOk, IfErr, OnOk};
+ghost use Rattle.std.specs.Prelude.{◌≡◌, ℕ, ◌≤◌, IfErr, OnOk};
 ghost use Rattle.pipe_driver.specs.Tables.{number_at};
 ghost use Rattle.pipe_run.specs.Dealt.{nodes_in, counts_in};
 ghost use Rattle.pipe_run.specs.Lanes.{lane_nodes};
@@ -17,19 +17,6 @@ use pipe_passage::Passage;
 use pipe_rows::KeyHasher;
 use pipe_run::{Lane, rows_given};
 use pipe_slots::PhysSink;
-use std::alloc::{AllocError, Global};
-
-/// No row is counted at any of so many nodes.
-pub(crate) fn no_rows(alloc: Global, nodes: u32) -> Result<Vec<u64>, AllocError>
-    ensures long { IfOk result (λ given. length given.items ≡ nodes) }
-    ensures none { IfOk result (λ given. (n : ℕ) → number_at given.items n ≡ 0) }
-{
-    let mut given = Vec::with_capacity(alloc, nodes as usize)?;
-    for _node in 0..nodes {
-        given.push(0)?;
-    }
-    Ok(given)
-}
 
 /// The node whose rows a lane's first stage is given, or its sink where it has left all stages.
 fn node_given<O, K>(lane: &Lane<O, K>) -> u32

@@ -1,10 +1,12 @@
 //! The driver: legs one after another, each into its sink; a sink is closed after the last leg that feeds it.
 
 ghost use Rattle.std.specs.Prelude.{◌≡◌, ℕ, ◌+◌, ◌<◌, [], length, drop, IfOk, IfErr, OnOk};
+ghost use Rattle.pipe_driver.specs.Legs.{sink_node};
 ghost use Rattle.pipe_driver.specs.Tables.{number_at};
 ghost use Rattle.pipe_engine.specs.Asked.{WasAsked, stops};
-ghost use Rattle.pipe_engine.specs.Engine.{IsIdle};
+ghost use Rattle.pipe_engine.specs.Engine.{IsEmptied, IsIdle};
 ghost use Rattle.pipe_engine.specs.Drives.{ForSome, ForEach, CanGo, Led, CanPass, IsLeftAt, Ran, CanClose, ComesNext, IsRootNext};
+ghost use Rattle.pipe_engine.specs.Drives.{AnswersAt, FedAlone, HasLowered};
 ghost use Rattle.pipe_engine.specs.Journals.{Keeps, NotedAt, NotedGoing, NotedAfter, NotedThen};
 ghost use Rattle.pipe_engine.specs.Paced.{HasKeptPace, TakesPaced, most_of, rows_due_from};
 ghost use Rattle.pipe_engine.specs.Refused.{IsNotMany, IsRefused};
@@ -47,6 +49,7 @@ fn pass<R: Threads + Sync, H: KeyHasher, C: StopCheck, G: Gate + Sync>(
     ensures kept { OnOk result (HasKeptPace (C.asked stop.old) (C.asked stop.new)
         run.old.runner run.new.runner) }
     ensures context { run.new.runner.context ≡ run.old.runner.context }
+    ensures sinks { run.new.runner.sinks ≡ run.old.runner.sinks }
 {
     let PipeLine {
         start: _,
@@ -101,6 +104,7 @@ fn leave<R: Threads + Sync, H: KeyHasher, C: StopCheck, G: Gate + Sync>(
     ensures kept { OnOk result (HasKeptPace (C.asked stop.old) (C.asked stop.new)
         run.old.runner run.new.runner) }
     ensures context { run.new.runner.context ≡ run.old.runner.context }
+    ensures sinks { run.new.runner.sinks ≡ run.old.runner.sinks }
 {
     let node = operators[place];
     if run.probers.lower(node) == 0 {
@@ -123,6 +127,7 @@ pub(crate) fn feed<R: Threads + Sync, H: KeyHasher, C: StopCheck, G: Gate + Sync
     requires can { ForSome (CanGo H.hash_of run.old current pipelines.now.items) }
     ensures ran { IfOk result (λ fed. ForEach (CanGo H.hash_of run.old current pipelines.now.items)
         (Ran H.hash_of current run.old run.new pipelines.now.items fed)) }
+    ensures lowered { IfOk result (λ fed. HasLowered fed run.old.counts run.new.counts) }
     ensures noted { IfOk result (λ fed. ForEach (CanGo H.hash_of run.old current pipelines.now.items)
         (Keeps run.old (NotedGoing run.old current pipelines.now.items)
         (NotedAfter run.new fed.at pipelines.now.items))) }
@@ -134,6 +139,8 @@ pub(crate) fn feed<R: Threads + Sync, H: KeyHasher, C: StopCheck, G: Gate + Sync
     ensures kept { OnOk result (HasKeptPace (C.asked stop.old) (C.asked stop.new)
         run.old.runner run.new.runner) }
     ensures context { run.new.runner.context ≡ run.old.runner.context }
+    ensures alone { IfOk result (λ fed. ForEach (CanGo H.hash_of run.old current pipelines.now.items)
+        (FedAlone fed.at run.old run.new)) }
 {
     let leg = pass(alloc, tools, stop, run, pipelines, current)?;
     leave_all(
@@ -182,6 +189,7 @@ fn leave_all<R: Threads + Sync, H: KeyHasher, C: StopCheck, G: Gate + Sync>(
     ensures kept { OnOk result (HasKeptPace (C.asked stop.old) (C.asked stop.new)
         run.old.runner run.new.runner) }
     ensures context { run.new.runner.context ≡ run.old.runner.context }
+    ensures sinks { run.new.runner.sinks ≡ run.old.runner.sinks }
 {
     for place in 0..operators.len() {
         leave(alloc, tools, stop, run, pipelines, operators, place, at)?;
@@ -202,6 +210,8 @@ pub(crate) fn close<R: Threads + Sync, H: KeyHasher, G: Gate + Sync>(
     requires last { number_at run.old.counts.left.items fed.count ≡ 0 }
     ensures next { IfOk result (λ next. ForEach (CanClose H.hash_of run.old fed pipelines.now.items)
         (ComesNext H.hash_of run.old run.new fed pipelines.now.items next)) }
+    ensures root { IfOk result (AnswersAt fed.at) }
+    ensures counts { OnOk result (run.new.counts ≡ run.old.counts) }
     ensures noted { IfOk result (λ next. ForEach
         (CanClose H.hash_of run.old fed pipelines.now.items)
         (Keeps run.old (NotedAfter run.old fed.at pipelines.now.items)
@@ -213,6 +223,8 @@ pub(crate) fn close<R: Threads + Sync, H: KeyHasher, G: Gate + Sync>(
     ensures kept { OnOk result ((asked : ℕ) →
         HasKeptPace asked asked run.old.runner run.new.runner) }
     ensures context { run.new.runner.context ≡ run.old.runner.context }
+    ensures sinks { IsEmptied (sink_node run.old.runner.nodes fed.at) run.old.runner.sinks.items
+        run.new.runner.sinks.items }
 {
     match close_place(alloc, tools, &mut run.runner, fed.at)? {
         FinalizedSink::Finished(frame) => Ok(Next::Answer(frame)),

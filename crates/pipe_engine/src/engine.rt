@@ -46,6 +46,7 @@ pub struct Engine<H: HashesKeys> {
     pub parts: u32,
     /// How many nodes the plan has.
     pub nodes: u32,
+    /// The slots of joins. What else pipelines share stands here while they run.
     pub slots: Slots<H>,
     /// How many rows each node gave in the legs that have left it.
     pub given: Vec<u64>,

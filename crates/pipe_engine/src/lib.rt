@@ -19,8 +19,8 @@ mod source_frame;
 mod starting;
 mod taking;
 
-pub use assembling::assemble_run;
+pub use assembling::{assemble_run, give_back};
 pub use engine::{Engine, FedSink, OpenLeg, PlanLine, PlanRun, Tools};
 pub use part::Part;
 pub use plan_run::execute_branches;
-pub use running::run_pipeline;
+pub use running::run_front;

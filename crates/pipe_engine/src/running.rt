@@ -1,11 +1,12 @@
 //! Front parts of branches, one after another.
 
-ghost use Rattle.std.specs.Prelude.{◌≡◌, [], ◌∷◌, IfOk, IfErr, OnOk, Err, true};
+ghost use Rattle.std.specs.Prelude.{◌≡◌, ◌≤◌, ℕ, [], ◌∷◌, IfOk, IfErr, OnOk, Err, true};
 ghost use Rattle.pipe_schema.specs.Counts.{Counts, Rises};
+ghost use Rattle.pipe_driver.specs.Tables.{number_at};
 ghost use Rattle.pipe_engine.specs.Asked.{WasAsked, stops};
-ghost use Rattle.pipe_engine.specs.Engine.{IsIdle};
+ghost use Rattle.pipe_engine.specs.Engine.{IsIdle, NoneOpen};
 ghost use Rattle.pipe_engine.specs.Drives.{ForSome, ForEach, CanGo, Stopped, FedSinks, CanBegin, RanFront, CanRun, HasRoot};
-ghost use Rattle.pipe_engine.specs.Drives.{IsRootAnswer, HasRootSchema, RunsWithin};
+ghost use Rattle.pipe_engine.specs.Drives.{IsRootAnswer, HasRootSchema, KeepsOpen, LowersRoot, RunsWithin};
 ghost use Rattle.pipe_engine.specs.Journals.{Keeps, NotedAt, NotedGoing, WroteWhole};
 ghost use Rattle.pipe_engine.specs.Paced.{HasKeptPace, TakesPaced};
 ghost use Rattle.pipe_engine.specs.Paced.{most_of, rows_due_from, rows_due_of};
@@ -49,12 +50,18 @@ fn run_way<R: Threads + Sync, H: KeyHasher, C: StopCheck, G: Gate + Sync>(
         (IsRefused run.old.runner.context.row_limit e)) }
     ensures frame { IfOk result (λ answer. ForEach
         (CanGo H.hash_of run.old first pipelines.now.items) (IsRootAnswer answer)) }
+    ensures falls { OnOk result ((k : ℕ) → number_at run.new.counts.left.items k
+        ≤ number_at run.old.counts.left.items k) }
+    ensures lowers { IfOk result (λ answer. ForEach
+        (CanGo H.hash_of run.old first pipelines.now.items) (LowersRoot run.old run.new answer)) }
     ensures asked { WasAsked C.StopCheck 1 stop.old stop.new result }
     ensures paced { OnOk result (TakesPaced (most_of run.old.runner.context)
         (rows_due_from first.source) 0 (C.asked stop.old) (C.asked stop.new)) }
     ensures kept { OnOk result (HasKeptPace (C.asked stop.old) (C.asked stop.new)
         run.old.runner run.new.runner) }
     ensures context { run.new.runner.context ≡ run.old.runner.context }
+    ensures opened { OnOk result (ForEach (CanGo H.hash_of run.old first pipelines.now.items)
+        (KeepsOpen run.old run.new fed.old.items fed.new.items)) }
 {
     let mut current = first;
     'ways: loop {
@@ -76,7 +83,7 @@ fn run_way<R: Threads + Sync, H: KeyHasher, C: StopCheck, G: Gate + Sync>(
 /// Runs the shortest front part of the branches, the first pipeline among them, such that no later branch feeds a sink
 /// that a branch of the part feeds. The others stay, in order. The answer is there where the root's sink was closed.
 /// `Stopped` where the stop check said yes, after which it isn't asked again; else it said no each time.
-pub fn run_pipeline<R: Threads + Sync, H: KeyHasher, C: StopCheck, G: Gate + Sync>(
+pub fn run_front<R: Threads + Sync, H: KeyHasher, C: StopCheck, G: Gate + Sync>(
     alloc: Global,
     tools: &Tools<R, G>,
     stop: &mut C,
@@ -99,6 +106,9 @@ pub fn run_pipeline<R: Threads + Sync, H: KeyHasher, C: StopCheck, G: Gate + Syn
         (IsRefused run.old.runner.context.row_limit e)) }
     ensures frame { IfOk result (λ answer. ForEach
         (CanBegin H.hash_of run.old (first ∷ pipelines.old.items)) (IsRootAnswer answer)) }
+    ensures lowers { IfOk result (λ answer. ForEach
+        (CanBegin H.hash_of run.old (first ∷ pipelines.old.items))
+        (LowersRoot run.old run.new answer)) }
     ensures asked { OnOk result (Rises (C.asked stop.old) (C.asked stop.new)) }
     ensures yes { Counts (stops result) (C.yes stop.old) (C.yes stop.new) }
     ensures last { result ≡ Err RunError.Stopped → C.last_answer stop.new ≡ true }
@@ -108,6 +118,7 @@ pub fn run_pipeline<R: Threads + Sync, H: KeyHasher, C: StopCheck, G: Gate + Syn
     ensures kept { OnOk result (HasKeptPace (C.asked stop.old) (C.asked stop.new)
         run.old.runner run.new.runner) }
     ensures context { run.new.runner.context ≡ run.old.runner.context }
+    ensures closed { OnOk result (NoneOpen run.old.runner → NoneOpen run.new.runner) }
 {
     let mut fed = Vec::new(alloc);
     let mut answer = None;
@@ -159,7 +170,7 @@ pub(crate) fn run_fronts<R: Threads + Sync, H: KeyHasher, C: StopCheck, G: Gate 
     let mut left = VecDeque::from_vec(pipelines);
     let mut answer = None;
     'fronts: while let Some(first) = left.pop_front() {
-        let more = run_pipeline(alloc, tools, stop, &mut run, first, &mut left)?;
+        let more = run_front(alloc, tools, stop, &mut run, first, &mut left)?;
         answer = newer(answer, more);
     }
     let Some(frame) = answer else { unreachable!() };

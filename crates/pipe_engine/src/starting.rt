@@ -1,14 +1,11 @@
-//! An engine to which no leg has come.
+//! An engine over what the pipelines of a plan share.
 
-ghost use Rattle.std.specs.Prelude.{◌≡◌, ℕ, suc, List, [], None, length, IfOk};
-ghost use Rattle.pipe_driver.specs.Meaning.{Meaning};
-ghost use Rattle.pipe_driver.specs.Plans.{at_start};
-ghost use Rattle.pipe_engine.specs.Engine.{sink_at, Fits, IsIdle, MayStart};
-ghost use Rattle.pipe_engine.specs.Lent.{AreUnfilled};
-ghost use Rattle.pipe_engine.specs.Stands.{Settings};
+ghost use Rattle.std.specs.Prelude.{◌≡◌, ℕ, suc, None, length, IfOk};
+ghost use Rattle.pipe_engine.specs.Engine.{sink_at, IsIdle, NoneOpen};
+ghost use Rattle.pipe_engine.specs.Left.{Shares};
 
-use crate::counting::no_rows;
 use crate::engine::{Engine, FedSink};
+use pipe_events::Event;
 use pipe_index::HashesKeys;
 use pipe_ops::PExecutionContext;
 use pipe_slots::Slots;
@@ -28,26 +25,38 @@ fn no_sinks<H: HashesKeys>(alloc: Global, nodes: u32) -> Result<Vec<Option<FedSi
 }
 
 impl<H: HashesKeys> Engine<H> {
-    /// An engine for a plan of so many nodes, with slots for its tables: no leg has come. It fits each plan of which
-    /// nothing has run where no slot is filled.
+    /// An engine for a plan of so many nodes, over what its pipelines share, and the journal of those that have run: no
+    /// leg runs, and no sink is open.
     pub fn new(
         alloc: Global,
         context: PExecutionContext,
         parts: u32,
         nodes: u32,
-        slots: Slots<H>,
+        shared: Slots<H>,
+        journal: Vec<Event>,
     ) -> Result<Engine<H>, AllocError>
         ensures context { IfOk result (λ e. e.context ≡ context) }
         ensures parts { IfOk result (λ e. e.parts ≡ parts) }
         ensures nodes { IfOk result (λ e. e.nodes ≡ nodes) }
+        ensures shares { IfOk result (Shares shared) }
         ensures idle { IfOk result (λ e. IsIdle e) }
-        ensures journal { IfOk result (λ e. e.journal.items ≡ []) }
-        ensures fits { IfOk result (λ e. (hash_of : H → List ℕ → ℕ) (x : Settings H) (m : Meaning) →
-            AreUnfilled nodes context.workers slots → MayStart e x m →
-            Fits hash_of e x m at_start) }
+        ensures places { IfOk result (λ e. length e.sinks.items ≡ suc nodes) }
+        ensures none_open { IfOk result (λ e. NoneOpen e) }
+        ensures journal { IfOk result (λ e. e.journal ≡ journal) }
     {
-        let given = no_rows(alloc, nodes)?;
         let sinks = no_sinks(alloc, nodes)?;
+        let Slots {
+            slots,
+            seats,
+            workers,
+            given,
+        } = shared;
+        let slots = Slots {
+            slots,
+            seats,
+            workers,
+            given: Vec::new(alloc),
+        };
         Ok(Engine {
             context,
             parts,
@@ -57,7 +66,7 @@ impl<H: HashesKeys> Engine<H> {
             sinks,
             leg: None,
             next_index: 0,
-            journal: Vec::new(alloc),
+            journal,
         })
     }
 }

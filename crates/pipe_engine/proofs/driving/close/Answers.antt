@@ -12,6 +12,7 @@ use Rattle.pipe_driver.proofs.Drives.{run_with}
 use Rattle.pipe_driver.specs.Runs.{Unparks, StartsElsewhere}
 use Rattle.pipe_engine.proofs.Pacing.{pace_closed}
 use Rattle.pipe_engine.proofs.Closings.{close_root, close_build, close_alone, close_sort}
+use Rattle.pipe_engine.proofs.Lowering.{closed_root}
 use Rattle.pipe_engine.proofs.Mays.{may_finish}
 use Rattle.pipe_engine.proofs.Breaking.{err_same}
 use Rattle.pipe_engine.proofs.Asked.{stops_passed}
@@ -130,3 +131,26 @@ returns-in-Some-clause-kept g c = λ asked. pace_closed c.args.fed.at asked c.ar
 
 pub returns-in-None-clause-kept : goal.returns-in-None-clause-kept
 returns-in-None-clause-kept g c = λ asked. pace_closed c.args.fed.at asked c.args.run.now.runner c.close_place.new.engine c.in_ok-frame.ensures.wrote
+
+pub returns-in-Finished-clause-root : goal.returns-in-Finished-clause-root
+returns-in-Finished-clause-root g c = (
+    let can = c.requires.can in
+    let k = can.k in
+    let F : FinalizedSink (Unit {0}) PhysSource → Type 0 = λ r. (x : Settings _) → Finalizes (brings_of x) c.args.fed.at (Fits g.H.KeyHasher.hash_of c.args.run.now.runner x) (Fits g.H.KeyHasher.hash_of c.close_place.new.engine x) r in
+    closed_root (words_of g.H.KeyHasher.hash_of k) k.task c.args.run.now c.close_place.new.engine c.args.fed.at c.args.fed.count c.in-Finished.frame c.args.pipelines.now.items can.is.feeds c.requires.last can.is.at can.is.number
+    (subst F c.in-Finished.is c.in_ok-frame.ensures.finished k.settings))
+
+pub returns-in_err-frame-clause-sinks : goal.returns-in_err-frame-clause-sinks
+returns-in_err-frame-clause-sinks g c = c.close_place.ensures.sinks
+
+pub returns-in-Finished-clause-sinks : goal.returns-in-Finished-clause-sinks
+returns-in-Finished-clause-sinks g c = c.close_place.ensures.sinks
+
+pub returns-in-Operator-clause-sinks : goal.returns-in-Operator-clause-sinks
+returns-in-Operator-clause-sinks g c = c.close_place.ensures.sinks
+
+pub returns-in-Some-clause-sinks : goal.returns-in-Some-clause-sinks
+returns-in-Some-clause-sinks g c = c.close_place.ensures.sinks
+
+pub returns-in-None-clause-sinks : goal.returns-in-None-clause-sinks
+returns-in-None-clause-sinks g c = c.close_place.ensures.sinks

@@ -4,6 +4,7 @@ use Rattle.pipe_engine.specs.Known.{words_of}
 use Rattle.pipe_driver.specs.Runs.{Passes}
 use Rattle.pipe_engine.proofs.Driven.{leg_runs}
 use Rattle.pipe_engine.proofs.Feeds.{sink_some, has_run}
+use Rattle.pipe_engine.proofs.Lowering.{lowered_by}
 use Rattle.pipe_engine.proofs.Breaking.{err_same}
 use Rattle.pipe_engine.proofs.Tellings.{end_tells, limit_as}
 use Rattle.pipe_engine.proofs.Mays.{may_end}
@@ -17,6 +18,7 @@ use Rattle.pipe_driver.proofs.Drives.{run_with}
 use Rattle.pipe_engine.specs.Noted.{IsStagingOf, NotedFed}
 use Rattle.pipe_engine.specs.Journals.{events_in}
 use Rattle.pipe_engine.proofs.Noted.{noted_fed}
+use Rattle.pipe_engine.proofs.OpenSinks.{fed_alone}
 use Rattle.pipe_engine.proofs.driving.feed.Goals as goal
 
 pub pass-requires-clause-idle : goal.pass-requires-clause-idle
@@ -143,3 +145,18 @@ returns-clause-kept g c =
     pace_then _ _ _ first left ended (c.leave_all.ensures.context ∙ c.pass.ensures.context)
     (pace_then _ _ _ first led left c.pass.ensures.context c.in_ok-leg.ensures.kept c.in_ok-leave_all.ensures.kept)
     (pace_asked 1 _ _ left ended c.in_ok-end_leg.ensures.wrote c.in_ok-end_leg.ensures.asked.asked)
+
+pub returns-clause-lowered : goal.returns-clause-lowered
+returns-clause-lowered g c =
+    let can = c.requires.can in
+    lowered_by c.args.run.now.counts c.leave_all.new.run.counts c.lower-left.new.self (record { at = c.in_ok-leg.leg.at; count = c.in_ok-leg.leg.count; left = c.lower-left.result }) c.lower-left.result
+    (c.in_ok-leave_all.ensures.counts ∙ (c.in_ok-leg.ensures.led can.k can.is).counts) c.lower-left.ensures.here c.lower-left.ensures.all
+
+pub returns-clause-alone : goal.returns-clause-alone
+returns-clause-alone g c = λ k can. (
+    let leg = c.in_ok-leg.leg in
+    let led = c.in_ok-leg.ensures.led k can in
+    let Q : List ℕ → Type 0 = λ ops. Passes (words_of g.H.KeyHasher.hash_of k) k.task c.pass.new.run ops leg.at c.args.pipelines.now.items in
+    let passes = c.in_ok-leave_all.ensures.passes k (record { sound = can.sound; passes = subst Q (sym c.as_slice.ensures.value) led.passes }) in
+    fed_alone k leg.at c.args.run.now c.pass.new.run c.leave_all.new.run (run_with c.end_leg.new.engine c.leave_all.new.run.parked c.lower-left.new.self c.leave_all.new.run.probers)
+    c.pass.ensures.sinks c.leave_all.ensures.sinks passes.fits.ordered (c.in_ok-end_leg.ensures.sinks leg.at passes.before))

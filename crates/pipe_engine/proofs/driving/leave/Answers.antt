@@ -146,3 +146,9 @@ returns-then-lower-eq0-clause-kept g c = c.settle_node.ensures.kept
 
 pub returns-else-lower-eq0-clause-kept : goal.returns-else-lower-eq0-clause-kept
 returns-else-lower-eq0-clause-kept g c = on_ok c.leave_node.result (λ h. pace_still (g.C.StopCheck.asked c.args.stop.now) c.args.run.now.runner c.leave_node.new.engine h) c.leave_node.ensures.wrote
+
+pub returns-then-lower-eq0-clause-sinks : goal.returns-then-lower-eq0-clause-sinks
+returns-then-lower-eq0-clause-sinks g c = c.settle_node.ensures.sinks
+
+pub returns-else-lower-eq0-clause-sinks : goal.returns-else-lower-eq0-clause-sinks
+returns-else-lower-eq0-clause-sinks g c = c.leave_node.ensures.sinks

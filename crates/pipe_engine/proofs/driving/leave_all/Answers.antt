@@ -11,7 +11,7 @@ use Rattle.pipe_engine.proofs.Asked.{asked-ok, asked-made, asked-then, asked_pas
 use Rattle.pipe_engine.proofs.driving.leave_all.Goals as goal
 
 pub loop-place-init : goal.loop-place-init
-loop-place-init g c = record { passes = λ k can. can.passes; noted = λ k can v staged noted. noted; parked = refl; counts = refl; asked = asked-ok g.C.StopCheck _ _; kept = pace_none _ c.args.run.now.runner; context = refl }
+loop-place-init g c = record { passes = λ k can. can.passes; noted = λ k can v staged noted. noted; parked = refl; counts = refl; asked = asked-ok g.C.StopCheck _ _; kept = pace_none _ c.args.run.now.runner; context = refl; sinks = refl }
 
 pub leave-requires-clause-can : goal.leave-requires-clause-can
 leave-requires-clause-can g c = λ κs lives. (
@@ -29,6 +29,7 @@ loop-place-preserved g c = record {
   asked = asked-made g.C.StopCheck 0 0 _ _ _ _ (omega arith) (asked-then g.C.StopCheck 0 0 0 _ _ _ _ _ (omega arith) c.loop-place.invariant.asked c.in_ok-leave.ensures.asked);
   kept = pace_then _ _ _ c.args.run.now.runner c.loop-place.run.runner c.leave.new.run.runner c.loop-place.invariant.context c.loop-place.invariant.kept c.in_ok-leave.ensures.kept;
   context = c.leave.ensures.context ∙ c.loop-place.invariant.context;
+  sinks = c.leave.ensures.sinks ∙ c.loop-place.invariant.sinks;
 }
 
 pub returns-clause-passes : goal.returns-clause-passes
@@ -56,3 +57,9 @@ returns-in_err-leave-clause-err g c = err_same _ _ _ c.from_residual.ensures.1 (
 
 pub returns-clause-kept : goal.returns-clause-kept
 returns-clause-kept g c = c.loop-place.invariant.kept
+
+pub returns-in_err-leave-clause-sinks : goal.returns-in_err-leave-clause-sinks
+returns-in_err-leave-clause-sinks g c = c.leave.ensures.sinks ∙ c.loop-place.invariant.sinks
+
+pub returns-clause-sinks : goal.returns-clause-sinks
+returns-clause-sinks g c = c.loop-place.invariant.sinks

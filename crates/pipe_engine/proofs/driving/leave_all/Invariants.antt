@@ -20,4 +20,5 @@ invariant-loop-place g l =
       asked : WasAsked g.C.StopCheck 0 l.initial.stop l.stop fine;
       kept : HasKeptPace (g.C.StopCheck.asked l.initial.stop) (g.C.StopCheck.asked l.stop) l.initial.run.runner l.run.runner;
       context : l.run.runner.context ≡ l.initial.run.runner.context;
+      sinks : l.run.runner.sinks ≡ l.initial.run.runner.sinks;
     }

@@ -96,3 +96,12 @@ returns-in_default-park-clause-err g c = λ k can. tt
 
 pub returns-clause-kept : goal.returns-clause-kept
 returns-clause-kept g c = c.in_ok-run_leg.ensures.kept
+
+pub returns-in_err-run_leg-clause-sinks : goal.returns-in_err-run_leg-clause-sinks
+returns-in_err-run_leg-clause-sinks g c = c.run_leg.ensures.sinks
+
+pub returns-in_default-park-clause-sinks : goal.returns-in_default-park-clause-sinks
+returns-in_default-park-clause-sinks g c = c.run_leg.ensures.sinks
+
+pub returns-clause-sinks : goal.returns-clause-sinks
+returns-clause-sinks g c = c.run_leg.ensures.sinks

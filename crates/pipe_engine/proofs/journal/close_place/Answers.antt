@@ -41,3 +41,12 @@ returns-clause-one g c = c.in_ok-finished.ensures.one
 
 pub returns-in_err-finished-clause-err : goal.returns-in_err-finished-clause-err
 returns-in_err-finished-clause-err g c = err_same _ _ _ c.from_residual.ensures.1 c.in_err-finished.ensures.err
+
+pub returns-clause-sinks : goal.returns-clause-sinks
+returns-clause-sinks g c = c.finish.ensures.sinks
+
+pub returns-in_err-finished-clause-sinks : goal.returns-in_err-finished-clause-sinks
+returns-in_err-finished-clause-sinks g c = c.finish.ensures.sinks
+
+pub returns-in_default-clause-sinks : goal.returns-in_default-clause-sinks
+returns-in_default-clause-sinks g c = c.finish.ensures.sinks

@@ -46,22 +46,22 @@ fronts-init g c =
       kept = pace_none (g.C.StopCheck.asked c.args.stop.now) c.args.run.runner;
     }
 
-pub run_pipeline-requires-clause-can : goal.run_pipeline-requires-clause-can
-run_pipeline-requires-clause-can g c = λ κs lives. (
+pub run_front-requires-clause-can : goal.run_front-requires-clause-can
+run_front-requires-clause-can g c = λ κs lives. (
     let k = c.requires.can.k in
     let on = c.fronts.invariant.on k c.requires.can.is in
     let B : List (PipeLine PhysSource (Part g.row.H.Denot)) → Type 0 = Between (words_of g.H.KeyHasher.hash_of k) k.task c.fronts.run in
     record { k = k; is = record { sound = on.sound; between = subst B c.in-Some.ensures.items on.between } })
 
-pub run_pipeline-requires-clause-parked : goal.run_pipeline-requires-clause-parked
-run_pipeline-requires-clause-parked g c = λ κs lives. c.fronts.invariant.parked
+pub run_front-requires-clause-parked : goal.run_front-requires-clause-parked
+run_front-requires-clause-parked g c = λ κs lives. c.fronts.invariant.parked
 
 pub fronts-preserved : goal.fronts-preserved
 fronts-preserved g c =
     let first = c.in-Some.ensures.items in
     let most = most_of c.args.run.runner.context in
     let Q : List (PipeLine PhysSource (Part g.row.H.Denot)) → Type 0 = λ ps. TakesPaced most (rows_due_of c.args.pipelines.items) (rows_due_of ps) (g.C.StopCheck.asked c.args.stop.now) (g.C.StopCheck.asked c.fronts.stop) in
-    let P : PExecutionContext → Type 0 = λ context. TakesPaced (most_of context) (rows_due_of (c.in-Some.first ∷ c.pop_front.new.self.items)) (rows_due_of c.run_pipeline.new.pipelines.items) (g.C.StopCheck.asked c.fronts.stop) (g.C.StopCheck.asked c.run_pipeline.new.stop) in
+    let P : PExecutionContext → Type 0 = λ context. TakesPaced (most_of context) (rows_due_of (c.in-Some.first ∷ c.pop_front.new.self.items)) (rows_due_of c.run_front.new.pipelines.items) (g.C.StopCheck.asked c.fronts.stop) (g.C.StopCheck.asked c.run_front.new.stop) in
     let k' = c.requires.can.k in
     let on' = c.fronts.invariant.on k' c.requires.can.is in
     let B' : List (PipeLine PhysSource (Part g.row.H.Denot)) → Type 0 = Between (words_of g.H.KeyHasher.hash_of k') k'.task c.fronts.run in
@@ -70,12 +70,12 @@ fronts-preserved g c =
       on = λ k can. (
           let on = c.fronts.invariant.on k can in
           let B : List (PipeLine PhysSource (Part g.row.H.Denot)) → Type 0 = Between (words_of g.H.KeyHasher.hash_of k) k.task c.fronts.run in
-          let A : Option Table → Type 0 = IsAnswer k.task c.args.run c.run_pipeline.new.run in
+          let A : Option Table → Type 0 = IsAnswer k.task c.args.run c.run_front.new.run in
           let ran = c.in_ok-more.ensures.front k (record { sound = on.sound; between = subst B first on.between }) in
           record {
             sound = on.sound;
             between = ran.between;
-            root = subst A (sym c.newer-answer.ensures) (answer_newer k.task c.args.run c.fronts.run c.run_pipeline.new.run c.fronts.answer c.in_ok-more.more on.root ran.root);
+            root = subst A (sym c.newer-answer.ensures) (answer_newer k.task c.args.run c.fronts.run c.run_front.new.run c.fronts.answer c.in_ok-more.more on.root ran.root);
           });
       noted = λ k can v staged noted. (
           let on = c.fronts.invariant.on k can in
@@ -90,9 +90,9 @@ fronts-preserved g c =
           let A : Option Table → Type 0 = λ answer. IsRootAnswer answer k in
           subst A (sym c.newer-answer.ensures) (newer_schema k c.fronts.answer c.in_ok-more.more (c.fronts.invariant.schema k can) (c.in_ok-more.ensures.frame k (record { sound = on.sound; between = subst B first on.between }))));
       asked = asked-answers g.C.StopCheck _ _ _ _ _ (asked-then g.C.StopCheck (answers c.fronts.answer) 1 1 _ _ _ _ _ (omega arith) c.fronts.invariant.asked (asked-risen g.C.StopCheck _ _ c.in_ok-more.more c.in_ok-more.ensures.asked c.in_ok-more.ensures.yes));
-      context = c.run_pipeline.ensures.context ∙ c.fronts.invariant.context;
+      context = c.run_front.ensures.context ∙ c.fronts.invariant.context;
       paced = paced-then most _ _ _ _ _ _ (subst Q first c.fronts.invariant.paced) (subst P c.fronts.invariant.context c.in_ok-more.ensures.paced);
-      kept = pace_then _ _ _ c.args.run.runner c.fronts.run.runner c.run_pipeline.new.run.runner c.fronts.invariant.context c.fronts.invariant.kept c.in_ok-more.ensures.kept;
+      kept = pace_then _ _ _ c.args.run.runner c.fronts.run.runner c.run_front.new.run.runner c.fronts.invariant.context c.fronts.invariant.kept c.in_ok-more.ensures.kept;
     }
 
 pub fronts-smaller : goal.fronts-smaller

@@ -1,7 +1,10 @@
-use Rattle.std.proofs.Common.{subst, sym, arith, refl, ◌∙◌}
+use Rattle.std.proofs.Common.{◌≡◌, subst, sym, ap, arith, refl, ◌∙◌}
 use Rattle.pipe_source.specs.declared.phys_source.PhysSource.{PhysSource}
 use Rattle.pipe_ops.specs.declared.context.PExecutionContext.{PExecutionContext}
-use Rattle.pipe_engine.specs.Drives.{IsRootNext}
+use Rattle.pipe_branches.specs.declared.branch.SinkAt.{SinkAt}
+use Rattle.pipe_driver.specs.Tables.{number_at}
+use Rattle.pipe_driver.specs.declared.sink_counts.SinkCounts.{SinkCounts}
+use Rattle.pipe_engine.specs.Drives.{AnswersAt, IsRootNext}
 use Rattle.pipe_engine.specs.Paced.{TakesPaced, most_of, rows_due_from}
 use Rattle.pipe_engine.specs.declared.part.Part.{Part}
 use Rattle.pipe_engine.specs.Known.{words_of}
@@ -16,10 +19,11 @@ use Rattle.pipe_engine.proofs.Paces.{paced-more, paced-none, paced-then}
 use Rattle.pipe_engine.specs.Journals.{events_in, NotedThen}
 use Rattle.pipe_engine.specs.Noted.{IsStagingOf}
 use Rattle.pipe_engine.proofs.Noted.{noted_open}
+use Rattle.pipe_engine.proofs.OpenSinks.{left_open, closed_open}
 use Rattle.pipe_engine.proofs.running.run_way.Goals as goal
 
 pub ways-init : goal.ways-init
-ways-init g c = record { on = λ k can. record { ready = can.ready; root = λ z. z; fed = fed_none k.task c.args.first c.args.run.now c.args.fed.now.items }; noted = λ k can v staged noted. noted; asked = asked-ok g.C.StopCheck _ _; context = refl; paced = paced-none _ _ _; kept = pace_none _ c.args.run.now.runner }
+ways-init g c = record { on = λ k can. record { ready = can.ready; root = λ z. z; fed = fed_none k.task c.args.first c.args.run.now c.args.fed.now.items }; noted = λ k can v staged noted. noted; asked = asked-ok g.C.StopCheck _ _; context = refl; paced = paced-none _ _ _; kept = pace_none _ c.args.run.now.runner; falls = λ n. omega arith; opened = λ k can was. was }
 
 pub feed-requires-clause-idle : goal.feed-requires-clause-idle
 feed-requires-clause-idle g c = λ κs lives. (c.ways.invariant.on c.requires.can.k c.requires.can.is).ready.idle
@@ -90,6 +94,17 @@ ways-preserved g c =
       context = c.close.ensures.context ∙ c.feed.ensures.context ∙ c.ways.invariant.context;
       paced = paced-more most _ 0 _ _ _ (omega arith) paced;
       kept = pace_then _ _ _ c.args.run.now.runner c.feed.new.run.runner c.close.new.run.runner (c.feed.ensures.context ∙ c.ways.invariant.context) kept (c.in_ok-next.ensures.kept (g.C.StopCheck.asked c.feed.new.stop));
+      opened = λ k can was. (
+          let on = c.ways.invariant.on k can in
+          let done = c.in_ok-done.done in
+          let ran = c.in_ok-done.ensures.ran k (record { sound = can.sound; ready = on.ready }) in
+          let alone = c.in_ok-done.ensures.alone k (record { sound = can.sound; ready = on.ready }) in
+          closed_open k done c.ways.run c.feed.new.run c.ways.fed.items c.push.new.self.items on.ready.lines.numbered ran.number c.in_ok-done.ensures.lowered alone c.in-Ok.ensures.items (c.ways.invariant.opened k can was) c.close.new.run ran.feeds.fits.ordered c.in_ok-next.ensures.counts c.close.ensures.sinks);
+      falls = λ n. (
+          let before = c.ways.invariant.falls n in
+          let fell = c.in_ok-done.ensures.lowered.none_rose n in
+          let same = ap (λ (z : SinkCounts). number_at z.left.items n) c.in_ok-next.ensures.counts in
+          omega (arith, before, fell, same));
     }
 
 pub returns-in-Stay-clause-fed : goal.returns-in-Stay-clause-fed
@@ -268,3 +283,60 @@ pub returns-in-Answer-clause-kept : goal.returns-in-Answer-clause-kept
 returns-in-Answer-clause-kept g c =
     let kept = pace_then _ _ _ c.args.run.now.runner c.ways.run.runner c.feed.new.run.runner c.ways.invariant.context c.ways.invariant.kept c.in_ok-done.ensures.kept in
     pace_then _ _ _ c.args.run.now.runner c.feed.new.run.runner c.close.new.run.runner (c.feed.ensures.context ∙ c.ways.invariant.context) kept (c.in_ok-next.ensures.kept (g.C.StopCheck.asked c.feed.new.stop))
+
+pub returns-then-done-gt0-clause-falls : goal.returns-then-done-gt0-clause-falls
+returns-then-done-gt0-clause-falls g c = λ n. (let before = c.ways.invariant.falls n in let fell = c.in_ok-done.ensures.lowered.none_rose n in omega (arith, before, fell))
+
+pub returns-in-Stay-clause-falls : goal.returns-in-Stay-clause-falls
+returns-in-Stay-clause-falls g c = λ n. (let before = c.ways.invariant.falls n in let fell = c.in_ok-done.ensures.lowered.none_rose n in let same = ap (λ (z : SinkCounts). number_at z.left.items n) c.in_ok-next.ensures.counts in omega (arith, before, fell, same))
+
+pub returns-in-Answer-clause-falls : goal.returns-in-Answer-clause-falls
+returns-in-Answer-clause-falls g c = λ n. (let before = c.ways.invariant.falls n in let fell = c.in_ok-done.ensures.lowered.none_rose n in let same = ap (λ (z : SinkCounts). number_at z.left.items n) c.in_ok-next.ensures.counts in omega (arith, before, fell, same))
+
+pub returns-then-done-gt0-clause-lowers : goal.returns-then-done-gt0-clause-lowers
+returns-then-done-gt0-clause-lowers g c = λ k can. tt
+
+pub returns-in-Stay-clause-lowers : goal.returns-in-Stay-clause-lowers
+returns-in-Stay-clause-lowers g c = λ k can. tt
+
+pub returns-in-Answer-clause-lowers : goal.returns-in-Answer-clause-lowers
+returns-in-Answer-clause-lowers g c = λ k can. (
+    let on = c.ways.invariant.on k can in
+    let done = c.in_ok-done.done in
+    let ran = c.in_ok-done.ensures.ran k (record { sound = can.sound; ready = on.ready }) in
+    let R : Next PhysSource (Part g.row.H.Denot) → Type 0 = AnswersAt done.at in
+    let root = subst R c.in-Answer.is c.in_ok-next.ensures.root in
+    let n = k.task.number k.task.m.ordered in
+    let number : done.count ≡ n = ran.number ∙ ap (λ (a : SinkAt). k.task.number (sink_of k.task a)) root in
+    let here = c.in_ok-done.ensures.lowered.here in
+    let was = ap (number_at c.ways.run.counts.left.items) number in
+    let is = ap (number_at c.feed.new.run.counts.left.items) number in
+    let fell = c.ways.invariant.falls n in
+    let same = ap (λ (z : SinkCounts). number_at z.left.items n) c.in_ok-next.ensures.counts in
+    omega (arith, here, was, is, fell, same))
+
+pub returns-then-done-gt0-clause-opened : goal.returns-then-done-gt0-clause-opened
+returns-then-done-gt0-clause-opened g c = λ k can was. (
+    let on = c.ways.invariant.on k can in
+    let done = c.in_ok-done.done in
+    let ran = c.in_ok-done.ensures.ran k (record { sound = can.sound; ready = on.ready }) in
+    let alone = c.in_ok-done.ensures.alone k (record { sound = can.sound; ready = on.ready }) in
+    let left = ran.left in
+    let some = c.if-done-gt0.true in
+    left_open k done c.ways.run c.feed.new.run c.ways.fed.items c.push.new.self.items on.ready.lines.numbered ran.number c.in_ok-done.ensures.lowered alone c.in-Ok.ensures.items (c.ways.invariant.opened k can was) (omega (arith, left, some)))
+
+pub returns-in-Stay-clause-opened : goal.returns-in-Stay-clause-opened
+returns-in-Stay-clause-opened g c = λ k can was. (
+    let on = c.ways.invariant.on k can in
+    let done = c.in_ok-done.done in
+    let ran = c.in_ok-done.ensures.ran k (record { sound = can.sound; ready = on.ready }) in
+    let alone = c.in_ok-done.ensures.alone k (record { sound = can.sound; ready = on.ready }) in
+    closed_open k done c.ways.run c.feed.new.run c.ways.fed.items c.push.new.self.items on.ready.lines.numbered ran.number c.in_ok-done.ensures.lowered alone c.in-Ok.ensures.items (c.ways.invariant.opened k can was) c.close.new.run ran.feeds.fits.ordered c.in_ok-next.ensures.counts c.close.ensures.sinks)
+
+pub returns-in-Answer-clause-opened : goal.returns-in-Answer-clause-opened
+returns-in-Answer-clause-opened g c = λ k can was. (
+    let on = c.ways.invariant.on k can in
+    let done = c.in_ok-done.done in
+    let ran = c.in_ok-done.ensures.ran k (record { sound = can.sound; ready = on.ready }) in
+    let alone = c.in_ok-done.ensures.alone k (record { sound = can.sound; ready = on.ready }) in
+    closed_open k done c.ways.run c.feed.new.run c.ways.fed.items c.push.new.self.items on.ready.lines.numbered ran.number c.in_ok-done.ensures.lowered alone c.in-Ok.ensures.items (c.ways.invariant.opened k can was) c.close.new.run ran.feeds.fits.ordered c.in_ok-next.ensures.counts c.close.ensures.sinks)

@@ -12,7 +12,8 @@ use Rattle.pipe_driver.specs.Tables.{number_at}
 use Rattle.pipe_driver.specs.Runs.{IsAnswer}
 use Rattle.pipe_driver.proofs.Fronts.{answer_newer}
 use Rattle.pipe_driver.proofs.FrontSteps.{starts_by, ends_by, goes_by, open_later}
-use Rattle.pipe_engine.specs.Drives.{CanGo, IsRootAnswer}
+use Rattle.pipe_engine.specs.Drives.{AreOpen, CanGo, IsRootAnswer, LowersRoot}
+use Rattle.pipe_engine.proofs.Lowering.{newer_lowers}
 use Rattle.pipe_engine.proofs.Breaking.{err_same}
 use Rattle.pipe_engine.proofs.Tellings.{limit_as}
 use Rattle.pipe_engine.proofs.Asked.{asked-ok, asked-made, asked-then, asked_passed_then, rises}
@@ -22,7 +23,8 @@ use Rattle.pipe_engine.proofs.Schemas.{newer_schema}
 use Rattle.pipe_engine.specs.Journals.{events_in, NotedAt}
 use Rattle.pipe_engine.specs.Noted.{IsStagingOf}
 use Rattle.pipe_engine.proofs.Noted.{noted_begun}
-use Rattle.pipe_engine.proofs.running.run_pipeline.Goals as goal
+use Rattle.pipe_engine.proofs.OpenSinks.{none_open, all_closed}
+use Rattle.pipe_engine.proofs.running.run_front.Goals as goal
 
 pub branches-init : goal.branches-init
 branches-init g c = record {
@@ -33,6 +35,9 @@ branches-init g c = record {
   context = refl;
   paced = paced-none _ _ _;
   kept = pace_none _ c.args.run.now.runner;
+  falls = λ n. omega arith;
+  lowers = λ k can. tt;
+  opened = λ k can none. (let N : List ℕ → Type 0 = λ ns. AreOpen ns c.args.run.now k in subst N (sym c.new-fed.ensures.items) (none_open k c.args.run.now none));
 }
 
 pub run_way-requires-clause-idle : goal.run_way-requires-clause-idle
@@ -104,6 +109,13 @@ branches-preserved g c =
       context = c.run_way.ensures.context ∙ c.branches.invariant.context;
       paced = subst Q c.in-Some.ensures.items paced;
       kept = pace_then _ _ _ c.args.run.now.runner c.branches.run.runner c.run_way.new.run.runner c.branches.invariant.context c.branches.invariant.kept c.in_ok-more.ensures.kept;
+      opened = λ k can none. c.in_ok-more.ensures.opened k (record { sound = can.sound; ready = (c.branches.invariant.on k can).on.ready }) (c.branches.invariant.opened k can none);
+      falls = λ n. (let before = c.branches.invariant.falls n in let fell = c.in_ok-more.ensures.falls n in omega (arith, before, fell));
+      lowers = λ k can. (
+          let on = c.branches.invariant.on k can in
+          let A : Option Table → Type 0 = λ answer. LowersRoot c.args.run.now c.run_way.new.run answer k in
+          subst A (sym c.newer-answer.ensures) (newer_lowers k c.args.run.now c.branches.run c.run_way.new.run c.branches.answer c.in_ok-more.more c.branches.invariant.falls c.in_ok-more.ensures.falls
+          (c.branches.invariant.lowers k can) (c.in_ok-more.ensures.lowers k (record { sound = can.sound; ready = on.on.ready }))));
     }
 
 pub returns-then-are_closed-clause-asked : goal.returns-then-are_closed-clause-asked
@@ -158,3 +170,17 @@ returns-in_err-more-clause-err g c = err_same _ _ _ c.from_residual.ensures.1 (�
 
 pub returns-then-are_closed-clause-kept : goal.returns-then-are_closed-clause-kept
 returns-then-are_closed-clause-kept g c = pace_then _ _ _ c.args.run.now.runner c.branches.run.runner c.run_way.new.run.runner c.branches.invariant.context c.branches.invariant.kept c.in_ok-more.ensures.kept
+
+pub returns-then-are_closed-clause-lowers : goal.returns-then-are_closed-clause-lowers
+returns-then-are_closed-clause-lowers g c = λ k can. (
+    let on = c.branches.invariant.on k can in
+    let A : Option Table → Type 0 = λ answer. LowersRoot c.args.run.now c.run_way.new.run answer k in
+    subst A (sym c.newer-answer.ensures) (newer_lowers k c.args.run.now c.branches.run c.run_way.new.run c.branches.answer c.in_ok-more.more c.branches.invariant.falls c.in_ok-more.ensures.falls
+    (c.branches.invariant.lowers k can) (c.in_ok-more.ensures.lowers k (record { sound = can.sound; ready = on.on.ready }))))
+
+pub returns-then-are_closed-clause-closed : goal.returns-then-are_closed-clause-closed
+returns-then-are_closed-clause-closed g c = λ none. (
+    let k = c.requires.can.k in
+    let can = c.requires.can.is in
+    let Q : List ℕ → Type 0 = λ ns. (n : ℕ) → 0 < occurs n ns → number_at c.run_way.new.run.counts.left.items n ≡ 0 in
+    all_closed k c.run_way.new.run c.run_way.new.fed.items (c.in_ok-more.ensures.opened k (record { sound = can.sound; ready = (c.branches.invariant.on k can).on.ready }) (c.branches.invariant.opened k can none)) (subst Q c.as_slice.ensures.value (c.are_closed.ensures.yes c.if-are_closed.true)))
