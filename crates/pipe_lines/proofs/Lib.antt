@@ -21,3 +21,8 @@ pub mod Staged
 pub mod Journaled
 pub mod MadeLines
 pub mod Handed
+pub mod FrontRuns
+pub mod StaySides
+pub mod FrontSides
+pub mod FrontSorts
+pub mod FrontEnds

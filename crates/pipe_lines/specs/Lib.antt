@@ -14,5 +14,7 @@ pub mod LegsMade
 pub mod Running
 -- a run that stands for a plan
 pub mod Standing
+-- the front part of branches that one call runs
+pub mod Fronts
 -- what the journal of a run is
 pub mod Journals

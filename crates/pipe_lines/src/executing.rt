@@ -40,7 +40,8 @@ fn begin_run<H: KeyHasher>(
     ensures journal { IfOk result (λ r. r.0.runner.journal.items ≡ []) }
 {
     let lines = lines_to_run(alloc, pipelines)?;
-    let run = assemble_run(alloc, context, slots, counts, lines.as_slice())?;
+    let journal = Vec::new(alloc);
+    let run = assemble_run(alloc, context, slots, counts, journal, lines.as_slice())?;
     Ok((run, lines))
 }
 

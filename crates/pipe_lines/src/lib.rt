@@ -9,7 +9,10 @@ mod branch_operators;
 mod branch_sinks;
 mod cutting;
 mod executing;
+mod front;
+mod laws;
 mod layout;
+mod lending;
 mod operator;
 mod pipe_line;
 mod pipe_nodes;
@@ -22,6 +25,7 @@ mod text;
 mod threaded_sink;
 
 pub use executing::execute_pipeline;
+pub use laws::none_run_all_left;
 pub use layout::Layout;
 pub use operator::get_operator;
 pub use pipe_line::PipeLine;
