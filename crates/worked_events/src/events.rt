@@ -2,16 +2,7 @@
 //! list is complete, and the rows of the root.
 
 mod answer;
-mod anti_joins;
 mod calls;
-mod full_joins;
-mod nested_joins;
-mod refused_closings;
-mod refused_flushes;
-mod refused_marks;
-mod refused_takes;
-mod semi_joins;
-mod sorts;
 mod table;
 mod written;
 

@@ -1,11 +1,11 @@
-//! Works lists of events and of edits out: prints what each shows, and what comes of it.
+//! Works lists of events and of edits out: prints what each shows, and what comes of it. It reads the lists of events.
 #![tactic(auto)]
 
 mod events;
 mod views;
 
-use std::alloc::AllocError;
-use std::io;
+use std::alloc::{AllocError, Global};
+use std::io::{self, Read};
 
 /// Prints the answers of a part.
 fn print_part(rt: &impl Print, answers: Result<String, AllocError>) -> io::Result<()> {
@@ -13,8 +13,16 @@ fn print_part(rt: &impl Print, answers: Result<String, AllocError>) -> io::Resul
     print!(rt; "{answers}")
 }
 
+/// All that is read.
+fn input_of(alloc: Global, input: &mut impl Read) -> io::Result<String> {
+    let mut text = String::new(alloc);
+    input.read_to_string(&mut text)?;
+    Ok(text)
+}
+
 fn main(rt: HostRuntime) -> io::Result<()> {
     let alloc = rt.alloc();
-    print_part(&rt, events::answers(alloc))?;
+    let text = input_of(alloc, &mut rt.reader())?;
+    print_part(&rt, events::answers(alloc, text.as_str()))?;
     print_part(&rt, views::answers(alloc))
 }

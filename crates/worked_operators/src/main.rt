@@ -1,4 +1,5 @@
-//! Works the operators of a plan's nodes out, joins among them: prints what each case shows, and what comes of it.
+//! Works the operators of a plan's nodes out, joins among them: prints what each case shows, and what comes of it. The plans
+//! of joins are jobs, which it reads.
 #![tactic(auto)]
 
 mod marks;
@@ -6,9 +7,11 @@ mod operators;
 mod sides;
 mod tables;
 mod told;
+mod written;
 
-use std::alloc::AllocError;
-use std::io;
+use crate::written::part_of;
+use std::alloc::{AllocError, Global};
+use std::io::{self, Read};
 
 /// Prints the answers of a part.
 fn print_part(rt: &impl Print, answers: Result<String, AllocError>) -> io::Result<()> {
@@ -16,9 +19,28 @@ fn print_part(rt: &impl Print, answers: Result<String, AllocError>) -> io::Resul
     print!(rt; "{answers}")
 }
 
+/// All that is read.
+fn input_of(alloc: Global, input: &mut impl Read) -> io::Result<String> {
+    let mut text = String::new(alloc);
+    input.read_to_string(&mut text)?;
+    Ok(text)
+}
+
+/// Prints what comes of the joins of a text.
+fn print_joins(rt: &impl Print, alloc: Global, text: &str) -> io::Result<()> {
+    let joined = part_of(alloc, text, "== tables")?;
+    print_part(rt, tables::answers(alloc, joined.as_slice()))?;
+    let marked = part_of(alloc, text, "== marks")?;
+    let row_by_row = part_of(alloc, text, "== row by row")?;
+    print_part(
+        rt,
+        marks::answers(alloc, marked.as_slice(), row_by_row.as_slice()),
+    )
+}
+
 fn main(rt: HostRuntime) -> io::Result<()> {
     let alloc = rt.alloc();
     print_part(&rt, operators::answers(alloc))?;
-    print_part(&rt, tables::answers(alloc))?;
-    print_part(&rt, marks::answers(alloc))
+    let text = input_of(alloc, &mut rt.reader())?;
+    print_joins(&rt, alloc, text.as_str())
 }

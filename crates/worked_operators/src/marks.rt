@@ -1,9 +1,7 @@
 //! Works joins out that keep rows of their built side: prints what each shows, and what comes of it.
 
 mod built;
-mod cases;
 mod full;
-mod left_cases;
 mod marking;
 mod table;
 

@@ -1,6 +1,6 @@
 //! Works joins out on tables and probes: prints what each shows, and what comes of it.
 
-mod cases;
+mod asked;
 mod indexes;
 mod joining;
 mod placing;

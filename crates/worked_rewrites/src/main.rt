@@ -1,5 +1,5 @@
 //! Works out what is made of plans before they run: prints their branches, where the conjuncts of filters go, the
-//! nodes of rewritten plans, and how plans may be cut into parts.
+//! nodes of rewritten plans, and how plans may be cut into parts. The plans are jobs, which it reads.
 #![tactic(auto)]
 
 mod branches;
@@ -7,9 +7,11 @@ mod optimize;
 mod parts;
 mod rules;
 mod shown;
+mod written;
 
-use std::alloc::AllocError;
-use std::io;
+use crate::written::part_of;
+use std::alloc::{AllocError, Global};
+use std::io::{self, Read};
 
 /// Prints the answers of a part.
 fn print_part(rt: &impl Print, answers: Result<String, AllocError>) -> io::Result<()> {
@@ -17,10 +19,34 @@ fn print_part(rt: &impl Print, answers: Result<String, AllocError>) -> io::Resul
     print!(rt; "{answers}")
 }
 
+/// All that is read.
+fn input_of(alloc: Global, input: &mut impl Read) -> io::Result<String> {
+    let mut text = String::new(alloc);
+    input.read_to_string(&mut text)?;
+    Ok(text)
+}
+
+/// Prints the branches of plans, and where the conjuncts of filters go.
+fn print_cuts(rt: &impl Print, alloc: Global, text: &str) -> io::Result<()> {
+    let cut = part_of(alloc, text, "== branches")?;
+    print_part(rt, branches::answers(alloc, cut.as_slice()))?;
+    let filtered = part_of(alloc, text, "== rules")?;
+    print_part(rt, rules::answers(alloc, filtered.as_slice()))
+}
+
+/// Prints rewritten plans, and how plans may be cut into parts.
+fn print_made(rt: &impl Print, alloc: Global, text: &str) -> io::Result<()> {
+    let rewritten = part_of(alloc, text, "== optimize")?;
+    print_part(rt, optimize::answers(alloc, rewritten.as_slice()))?;
+    let parted = part_of(alloc, text, "== parts")?;
+    print_part(rt, parts::answers(alloc, parted.as_slice()))?;
+    let told = part_of(alloc, text, "== lines")?;
+    print_part(rt, parts::lines(alloc, told.as_slice()))
+}
+
 fn main(rt: HostRuntime) -> io::Result<()> {
     let alloc = rt.alloc();
-    print_part(&rt, branches::answers(alloc))?;
-    print_part(&rt, rules::answers(alloc))?;
-    print_part(&rt, optimize::answers(alloc))?;
-    print_part(&rt, parts::answers(alloc))
+    let text = input_of(alloc, &mut rt.reader())?;
+    print_cuts(&rt, alloc, text.as_str())?;
+    print_made(&rt, alloc, text.as_str())
 }

@@ -2,11 +2,7 @@
 //! part has to have whole, or what holds it up; and the lines of some.
 
 mod answer;
-mod barred;
-mod chains;
-mod joins;
 mod lines;
-mod plain;
-mod table;
 
-pub(crate) use self::table::answers;
+pub(crate) use self::answer::answers;
+pub(crate) use self::lines::lines;

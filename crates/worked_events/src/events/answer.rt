@@ -2,7 +2,7 @@
 
 ghost use Rattle.pipe_replay.specs.KeptWorld.{IsOf};
 
-use crate::events::written::{WrittenEvent, WrittenList};
+use crate::events::written::{WrittenList, event_of, job_of, pieces_of};
 use pipe_check::{CheckedPlan, check_plan};
 use pipe_events::Event;
 use pipe_frame::Row;
@@ -11,7 +11,6 @@ use pipe_replay::{Played, World, play};
 use pipe_rows::Fnv;
 use pipe_schema::{AnyValue, List};
 use std::alloc::{AllocError, Global};
-use worked_builders::plan_of;
 
 /// What is done to a list at a place.
 #[derive(Clone, Copy)]
@@ -72,11 +71,14 @@ pub(crate) fn push_end(
 fn push_event(
     alloc: Global,
     events: &mut List<Event>,
-    written: &[WrittenEvent],
+    written: &[&str],
     i: usize,
 ) -> Result<(), AllocError> {
-    match written.get(i) {
-        Some(event) => events.push(event.event(alloc)?),
+    let Some(words) = written.get(i) else {
+        return Ok(());
+    };
+    match event_of(alloc, words)? {
+        Some(event) => events.push(event),
         None => Ok(()),
     }
 }
@@ -85,7 +87,7 @@ fn push_event(
 fn push_place(
     alloc: Global,
     events: &mut List<Event>,
-    written: &[WrittenEvent],
+    written: &[&str],
     damage: Damage,
     i: usize,
 ) -> Result<(), AllocError> {
@@ -103,12 +105,13 @@ fn push_place(
 
 pub(crate) fn events_of(
     alloc: Global,
-    written: &[WrittenEvent],
+    written: &str,
     damage: Damage,
 ) -> Result<List<Event>, AllocError> {
+    let pieces = pieces_of(alloc, written)?;
     let mut events = List::new(alloc);
-    for i in 0..written.len() {
-        push_place(alloc, &mut events, written, damage, i)?;
+    for i in 0..pieces.len() {
+        push_place(alloc, &mut events, pieces.as_slice(), damage, i)?;
     }
     Ok(events)
 }
@@ -134,11 +137,20 @@ fn tell_events(
     }
 }
 
-/// Plays a list, and appends what it shows and its answer.
-fn tell(alloc: Global, answers: &mut String, list: WrittenList) -> Result<(), AllocError> {
+/// Appends what a list shows.
+pub(crate) fn push_shown(answers: &mut String, list: WrittenList) -> Result<(), AllocError> {
     answers.push_str("# ")?;
     answers.push_str(list.shows)?;
-    answers.push_str("\n")?;
+    answers.push_str("\n")
+}
+
+/// Plays a list, and appends what it shows and its answer.
+pub(crate) fn tell(
+    alloc: Global,
+    answers: &mut String,
+    list: WrittenList,
+) -> Result<(), AllocError> {
+    push_shown(answers, list)?;
     tell_at(alloc, answers, list, Damage::Whole)
 }
 
@@ -149,25 +161,15 @@ fn tell_at(
     list: WrittenList,
     damage: Damage,
 ) -> Result<(), AllocError> {
-    let built = plan_of(alloc, list.nodes)?;
+    let Some(job) = job_of(alloc, list.job)? else {
+        return answers.push_str("no job\n");
+    };
     let events = events_of(alloc, list.events, damage)?;
-    match check_plan(alloc, &built.arena, built.root) {
-        Ok(plan) => tell_events(alloc, answers, &plan, list.workers, events.as_slice()),
+    match check_plan(alloc, &job.arena, job.root) {
+        Ok(plan) => tell_events(alloc, answers, &plan, job.config.workers, events.as_slice()),
         Err(PipeError::Memory) => Err(AllocError),
         Err(_) => answers.push_str("fault\n"),
     }
-}
-
-/// Appends what some lists show, and their answers.
-pub(crate) fn tell_lists(
-    alloc: Global,
-    answers: &mut String,
-    lists: &[WrittenList],
-) -> Result<(), AllocError> {
-    for list in lists {
-        tell(alloc, answers, *list)?;
-    }
-    Ok(())
 }
 
 fn tell_place(
@@ -190,7 +192,7 @@ pub(crate) fn tell_damaged(
     list: WrittenList,
 ) -> Result<(), AllocError> {
     tell(alloc, answers, list)?;
-    let count = list.events.len();
+    let count = pieces_of(alloc, list.events)?.len();
     for i in 0..count {
         tell_place(alloc, answers, list, "without", Damage::Without(i), i)?;
     }

@@ -1,81 +1,115 @@
 //! Lists of events as they are written.
 
 use pipe_events::{Event, Side};
-use pipe_expr::{JoinCoalesce, JoinType};
 use pipe_frame::Row;
-use pipe_schema::AnyValue;
+use pipe_job::{Job, JobError, read_job};
 use std::alloc::{AllocError, Global};
-use worked_builders::{INNER_ON_K, WrittenJoin, WrittenNode};
-use worked_columns::{INT, WrittenColumn};
+use worked_columns::{INT, cell_of};
 
-/// An event. A key has one cell, or is one of two, or of none.
+/// A list of events over the plan of a job for the job's workers, and what it shows.
 #[derive(Clone, Copy)]
-pub(crate) enum WrittenEvent {
-    /// A worker, a source, a position and a number of rows.
-    Take(u32, u32, u32, u32),
-    /// A worker, a join and the cells of a key.
-    Mark(u32, u32, &'static [Option<i64>]),
-    /// A worker.
-    Emit(u32),
-    /// A worker.
-    Done(u32),
-    /// A node and a side.
-    Close(u32, Side),
-    /// A worker, a join and a partition.
-    Flush(u32, u32, u32),
+pub(crate) struct WrittenList<'a> {
+    pub(crate) shows: &'a str,
+    pub(crate) events: &'a str,
+    pub(crate) job: &'a str,
 }
 
-/// A list of events over a plan for some workers, and what it shows.
-#[derive(Clone, Copy)]
-pub(crate) struct WrittenList {
-    pub(crate) shows: &'static str,
-    pub(crate) nodes: &'static [WrittenNode],
-    pub(crate) workers: u32,
-    pub(crate) events: &'static [WrittenEvent],
+/// The job that a line spells, none where it spells none.
+pub(crate) fn job_of(alloc: Global, line: &str) -> Result<Option<Job>, AllocError> {
+    match read_job(alloc, line.as_bytes()) {
+        Ok(job) => Ok(Some(job)),
+        Err(JobError::Memory) => Err(AllocError),
+        Err(_) => Ok(None),
+    }
 }
 
-/// A column `k` of one row, and of two.
-pub(crate) const ONE: &[WrittenColumn] = &[("k", INT, &["1"])];
+/// The words of each event of a list.
+pub(crate) fn pieces_of<'a>(alloc: Global, events: &'a str) -> Result<Vec<&'a str>, AllocError> {
+    let mut pieces = Vec::new(alloc);
+    for piece in events.split("; ") {
+        pieces.push(piece)?;
+    }
+    Ok(pieces)
+}
 
-pub(crate) const ONE_AND_TWO: &[WrittenColumn] = &[("k", INT, &["1", "2"])];
+/// The number at a place among some words, 0 where there is none.
+fn number_at(words: &str, place: usize) -> u32 {
+    match words.split_whitespace().nth(place) {
+        Some(word) => word.parse::<u32>().unwrap_or(0),
+        None => 0,
+    }
+}
 
-/// The full join on both columns `k`, which are both kept. Its right side is built, since the left one is larger.
-pub(crate) const FULL: WrittenJoin = WrittenJoin {
-    how: JoinType::Full,
-    coalesce: JoinCoalesce::KeepColumns,
-    rows_left: (None, 1),
-    ..INNER_ON_K
-};
-
-fn key_of(alloc: Global, cells: &[Option<i64>]) -> Result<Row, AllocError> {
+/// The key of some cells.
+fn key_of(alloc: Global, cells: &str) -> Result<Row, AllocError> {
     let mut key = Row::new(alloc);
-    for cell in cells {
-        key.push(match cell {
-            Some(x) => AnyValue::Int64(*x),
-            None => AnyValue::Null,
-        })?;
+    for cell in cells.split_whitespace() {
+        key.push(cell_of(alloc, INT, cell)?)?;
     }
     Ok(key)
 }
 
-impl WrittenEvent {
-    /// The event that is written so.
-    pub(crate) fn event(self, alloc: Global) -> Result<Event, AllocError> {
-        match self {
-            WrittenEvent::Take(worker, source, from, count) => Ok(Event::Take {
-                worker,
-                source,
-                from,
-                count,
-            }),
-            WrittenEvent::Mark(worker, join, cells) => {
-                let key = key_of(alloc, cells)?;
-                Ok(Event::Mark { worker, join, key })
-            }
-            WrittenEvent::Emit(worker) => Ok(Event::Emit { worker }),
-            WrittenEvent::Done(worker) => Ok(Event::Done { worker }),
-            WrittenEvent::Close(node, side) => Ok(Event::Close { node, side }),
-            WrittenEvent::Flush(worker, join, part) => Ok(Event::Flush { worker, join, part }),
+/// A mark: a worker, a join, and behind the word `key` the cells of a key.
+fn mark_of(alloc: Global, words: &str) -> Result<Option<Event>, AllocError> {
+    match words.split_once(" key") {
+        Some((numbers, cells)) => {
+            let worker = number_at(numbers, 0);
+            let join = number_at(numbers, 1);
+            let key = key_of(alloc, cells)?;
+            Ok(Some(Event::Mark { worker, join, key }))
         }
+        None => Ok(None),
+    }
+}
+
+/// A side that is closed: a node, and `build`, `probe` or `sort`.
+fn closing_of(words: &str) -> Option<Event> {
+    let node = number_at(words, 0);
+    match words.split_whitespace().nth(1) {
+        Some("build") => Some(Event::Close {
+            node,
+            side: Side::Build,
+        }),
+        Some("probe") => Some(Event::Close {
+            node,
+            side: Side::Probe,
+        }),
+        Some("sort") => Some(Event::Close {
+            node,
+            side: Side::Sort,
+        }),
+        _ => None,
+    }
+}
+
+/// An event of numbers alone: a take has a worker, a source, a position and a number of rows, and a flush a worker, a join and
+/// a partition.
+fn plain_of(kind: &str, words: &str) -> Option<Event> {
+    let worker = number_at(words, 0);
+    match kind {
+        "take" => Some(Event::Take {
+            worker,
+            source: number_at(words, 1),
+            from: number_at(words, 2),
+            count: number_at(words, 3),
+        }),
+        "emit" => Some(Event::Emit { worker }),
+        "done" => Some(Event::Done { worker }),
+        "flush" => Some(Event::Flush {
+            worker,
+            join: number_at(words, 1),
+            part: number_at(words, 2),
+        }),
+        _ => None,
+    }
+}
+
+/// The event of some words, none where they write none.
+pub(crate) fn event_of(alloc: Global, words: &str) -> Result<Option<Event>, AllocError> {
+    match words.split_once(" ") {
+        Some(("mark", rest)) => mark_of(alloc, rest),
+        Some(("close", rest)) => Ok(closing_of(rest)),
+        Some((kind, rest)) => Ok(plain_of(kind, rest)),
+        None => Ok(None),
     }
 }

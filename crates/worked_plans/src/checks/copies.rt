@@ -1,10 +1,20 @@
 //! Copies of nodes.
 
-use crate::checks::copied::COPIED;
-use crate::checks::plans::PLANS;
+use crate::written::plan_of_line;
 use pipe_plan::IR;
 use std::alloc::{AllocError, Global};
-use worked_builders::{WrittenNode, plan_of};
+
+/// How many nodes are copied, and how many aren't.
+#[derive(Clone, Copy)]
+struct Counts {
+    copied: u32,
+    missed: u32,
+}
+
+const NONE: Counts = Counts {
+    copied: 0,
+    missed: 0,
+};
 
 /// Whether the copy of a node is spelled as the node.
 fn is_copied(alloc: Global, node: &IR) -> Result<bool, AllocError> {
@@ -14,41 +24,45 @@ fn is_copied(alloc: Global, node: &IR) -> Result<bool, AllocError> {
     Ok(spelled.as_str() == copied.as_str())
 }
 
-/// How many nodes of a plan are copied, and how many aren't.
-fn count_copied(alloc: Global, nodes: &[WrittenNode]) -> Result<(u32, u32), AllocError> {
-    let built = plan_of(alloc, nodes)?;
-    let mut copied: u32 = 0;
-    let mut missed: u32 = 0;
-    for node in built.arena.nodes.as_slice() {
+/// So many, and those of the plan of a line.
+fn count(alloc: Global, counts: Counts, line: &str) -> Result<Counts, AllocError> {
+    let Counts {
+        mut copied,
+        mut missed,
+    } = counts;
+    for node in plan_of_line(alloc, line)?.arena.nodes.as_slice() {
         if is_copied(alloc, node)? {
             copied = copied.saturating_add(1);
         } else {
             missed = missed.saturating_add(1);
         }
     }
-    Ok((copied, missed))
+    Ok(Counts { copied, missed })
 }
 
-/// Appends how many nodes of the good plans are copied.
-fn tell_good(alloc: Global, answers: &mut String) -> Result<(), AllocError> {
-    for nodes in COPIED {
-        let (copied, missed) = count_copied(alloc, nodes)?;
-        answers.push_str(format!(in alloc; "{copied} alike, {missed} not\n")?.as_str())?;
+/// Appends so many.
+fn push_counts(alloc: Global, answers: &mut String, counts: Counts) -> Result<(), AllocError> {
+    let Counts { copied, missed } = counts;
+    answers.push_str(format!(in alloc; "{copied} alike, {missed} not\n")?.as_str())
+}
+
+/// Appends how many nodes of the plans are copied, and of each good plan.
+pub(crate) fn tell(
+    alloc: Global,
+    answers: &mut String,
+    plans: &[&str],
+    good: &[&str],
+) -> Result<(), AllocError> {
+    answers.push_str("# copies of nodes\n")?;
+    let mut counts = NONE;
+    for line in plans {
+        if !line.starts_with("# ") {
+            counts = count(alloc, counts, line)?;
+        }
+    }
+    push_counts(alloc, answers, counts)?;
+    for line in good {
+        push_counts(alloc, answers, count(alloc, NONE, line)?)?;
     }
     Ok(())
-}
-
-/// Appends how many nodes of the plans are copied.
-pub(crate) fn tell(alloc: Global, answers: &mut String) -> Result<(), AllocError> {
-    let mut copied: u32 = 0;
-    let mut missed: u32 = 0;
-    for plan in PLANS {
-        let (more, others) = count_copied(alloc, plan.nodes)?;
-        copied = copied.saturating_add(more);
-        missed = missed.saturating_add(others);
-    }
-    answers.push_str(format!(in alloc;
-        "# copies of nodes\n{copied} alike, {missed} not\n"
-    )?.as_str())?;
-    tell_good(alloc, answers)
 }

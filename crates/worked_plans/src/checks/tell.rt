@@ -2,10 +2,11 @@
 
 use crate::alike::is_told_alike;
 use crate::lines::{fault_line, head_line};
+use crate::written::plan_of_line;
 use pipe_check::check_plan;
 use pipe_plan::Arena;
 use std::alloc::{AllocError, Global};
-use worked_builders::{WrittenPlan, plan_of};
+use worked_builders::BuiltPlan;
 
 /// What `check_plan` tells of a plan.
 pub(crate) fn told(alloc: Global, arena: &Arena, root: u32) -> Result<String, AllocError> {
@@ -15,19 +16,24 @@ pub(crate) fn told(alloc: Global, arena: &Arena, root: u32) -> Result<String, Al
     }
 }
 
-/// Appends what a plan shows, what is told of it, and whether the plain program tells something else.
-pub(crate) fn tell(
-    alloc: Global,
-    answers: &mut String,
-    plan: &WrittenPlan,
-) -> Result<(), AllocError> {
-    answers.push_str("# ")?;
-    answers.push_str(plan.shows)?;
-    answers.push_str("\n")?;
-    let built = plan_of(alloc, plan.nodes)?;
-    answers.push_str(told(alloc, &built.arena, built.root)?.as_str())?;
-    if built.arena.nodes.len() < 4294967296 && !is_told_alike(alloc, &built.arena, built.root)? {
+/// Appends what is told of a plan, and whether the plain program tells something else.
+fn tell_plan(alloc: Global, answers: &mut String, plan: &BuiltPlan) -> Result<(), AllocError> {
+    answers.push_str(told(alloc, &plan.arena, plan.root)?.as_str())?;
+    if plan.arena.nodes.len() < 4294967296 && !is_told_alike(alloc, &plan.arena, plan.root)? {
         answers.push_str("the plain program tells something else\n")?;
+    }
+    Ok(())
+}
+
+/// Appends what each plan shows, and what is told of it.
+pub(crate) fn tell(alloc: Global, answers: &mut String, lines: &[&str]) -> Result<(), AllocError> {
+    for line in lines {
+        if line.starts_with("# ") {
+            answers.push_str(line)?;
+            answers.push_str("\n")?;
+        } else {
+            tell_plan(alloc, answers, &plan_of_line(alloc, line)?)?;
+        }
     }
     Ok(())
 }

@@ -1,66 +1,58 @@
 //! The worked expressions, in the order in which they are told.
 
 use crate::exprs::copies::named;
-use crate::exprs::pairs::{WrittenPairs, frame_of_pairs};
 use crate::exprs::told::{expr_line, type_text};
-use crate::exprs::topic::WrittenTopic;
-use crate::exprs::types::TYPES;
-use crate::exprs::{arithmetic, comparisons, constants, copies, nested, null_tests, truth};
+use crate::exprs::types::{COLUMNS, EXPRS};
+use crate::exprs::{copies, nested};
+use crate::written::plan_of_line;
+use pipe_expr::NamedExpr;
 use pipe_frame::{DataChunk, DataFrame};
-use pipe_schema::Schema;
+use pipe_plan::{Arena, IR};
+use pipe_schema::{Schema, TryClone};
 use std::alloc::{AllocError, Global};
-use worked_builders::WrittenExpr;
 use worked_columns::{INT, WrittenColumn, frame_of};
 
-const PAIRS: &[&[WrittenPairs]] = &[arithmetic::PAIRS, comparisons::PAIRS, truth::PAIRS];
-
-const TOPICS: &[&[WrittenTopic]] = &[
-    arithmetic::TOPICS,
-    comparisons::TOPICS,
-    truth::TOPICS,
-    null_tests::TOPICS,
-    constants::TOPICS,
-];
-
-/// The lines of expressions over a frame.
+/// Appends the lines of expressions over a frame.
 fn tell_over(
     alloc: Global,
     answers: &mut String,
     frame: DataFrame,
-    exprs: &[(&str, WrittenExpr)],
+    exprs: &[NamedExpr],
 ) -> Result<(), AllocError> {
     let chunk = DataChunk::new(0, frame);
-    for (name, written) in exprs {
-        let expr = named(alloc, name, *written)?;
-        answers.push_str(expr_line(alloc, &expr, &chunk)?.as_str())?;
+    for expr in exprs {
+        answers.push_str(expr_line(alloc, expr, &chunk)?.as_str())?;
     }
     Ok(())
 }
 
-fn tell_pairs(alloc: Global, answers: &mut String, pairs: &WrittenPairs) -> Result<(), AllocError> {
-    answers.push_str(format!(in alloc; "# {}\n", pairs.shows)?.as_str())?;
-    match frame_of_pairs(alloc, pairs) {
-        Ok(frame) => tell_over(alloc, answers, frame, pairs.exprs),
-        Err(_) => answers.push_str("no frame\n"),
+/// Appends the lines of what a plan's second node selects, over its one frame.
+fn tell_selected(alloc: Global, answers: &mut String, arena: &Arena) -> Result<(), AllocError> {
+    let frame = arena.frames.as_slice().first();
+    match (frame, arena.nodes.as_slice().get(1)) {
+        (Some(frame), Some(IR::Select { input: _, exprs })) => {
+            tell_over(alloc, answers, frame.try_clone()?, exprs.as_slice())
+        }
+        _ => answers.push_str("no expressions\n"),
     }
 }
 
-fn tell_topic(alloc: Global, answers: &mut String, topic: &WrittenTopic) -> Result<(), AllocError> {
-    answers.push_str(format!(in alloc; "# {}\n", topic.shows)?.as_str())?;
-    match frame_of(alloc, topic.columns)? {
-        Some(frame) => tell_over(alloc, answers, frame, topic.exprs),
-        None => answers.push_str("no frame\n"),
+/// Appends what each selection shows, and the lines of its expressions.
+fn tell_lines(alloc: Global, answers: &mut String, lines: &[&str]) -> Result<(), AllocError> {
+    for line in lines {
+        if line.starts_with("# ") {
+            answers.push_str(line)?;
+            answers.push_str("\n")?;
+        } else {
+            tell_selected(alloc, answers, &plan_of_line(alloc, line)?.arena)?;
+        }
     }
+    Ok(())
 }
 
 /// The types of expressions over a schema.
-fn tell_types_over(
-    alloc: Global,
-    answers: &mut String,
-    schema: &Schema,
-    exprs: &[(&str, WrittenExpr)],
-) -> Result<(), AllocError> {
-    for (name, written) in exprs {
+fn tell_types_over(alloc: Global, answers: &mut String, schema: &Schema) -> Result<(), AllocError> {
+    for (name, written) in EXPRS {
         let expr = named(alloc, name, *written)?;
         let told = type_text(alloc, &expr, schema)?;
         answers.push_str(format!(in alloc; "{name}: {told}\n")?.as_str())?;
@@ -70,8 +62,8 @@ fn tell_types_over(
 
 fn tell_types(alloc: Global, answers: &mut String) -> Result<(), AllocError> {
     answers.push_str("# types\n")?;
-    match frame_of(alloc, TYPES.columns)? {
-        Some(frame) => tell_types_over(alloc, answers, frame.schema(), TYPES.exprs),
+    match frame_of(alloc, COLUMNS)? {
+        Some(frame) => tell_types_over(alloc, answers, frame.schema()),
         None => answers.push_str("no frame\n"),
     }
 }
@@ -91,18 +83,9 @@ fn tell_over_k(alloc: Global, answers: &mut String) -> Result<(), AllocError> {
 }
 
 /// What each expression shows, and its answer.
-pub(crate) fn answers(alloc: Global) -> Result<String, AllocError> {
+pub(crate) fn answers(alloc: Global, lines: &[&str]) -> Result<String, AllocError> {
     let mut answers = String::new(alloc);
-    for part in PAIRS {
-        for pairs in *part {
-            tell_pairs(alloc, &mut answers, pairs)?;
-        }
-    }
-    for part in TOPICS {
-        for topic in *part {
-            tell_topic(alloc, &mut answers, topic)?;
-        }
-    }
+    tell_lines(alloc, &mut answers, lines)?;
     tell_types(alloc, &mut answers)?;
     tell_over_k(alloc, &mut answers)?;
     Ok(answers)

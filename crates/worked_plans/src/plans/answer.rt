@@ -4,12 +4,13 @@ ghost use Rattle.std.specs.Prelude.{◌<◌, ◌^◌, length};
 
 use crate::alike::is_told_alike;
 use crate::lines::{fault_line, head_line};
+use crate::written::plan_of_line;
 use pipe_frame::Row;
 use pipe_plain::{plan_fault, rows, schema};
 use pipe_plan::{Arena, IR, swap_join_order};
 use pipe_schema::AnyValue;
 use std::alloc::{AllocError, Global};
-use worked_builders::{BuiltPlan, WrittenPlan, plan_of};
+use worked_builders::BuiltPlan;
 
 /// A cell in JSON: numbers of 128 bits as texts, bytes in hexadecimal digits.
 fn cell_text(alloc: Global, cell: &AnyValue) -> Result<String, AllocError> {
@@ -119,16 +120,8 @@ fn check_line(alloc: Global, arena: &Arena, root: u32) -> Result<&'static str, A
     }
 }
 
-/// Appends what a plan shows, and its answer.
-pub(crate) fn tell_built(
-    alloc: Global,
-    answers: &mut String,
-    shows: &str,
-    plan: &BuiltPlan,
-) -> Result<(), AllocError> {
-    answers.push_str("# ")?;
-    answers.push_str(shows)?;
-    answers.push_str("\n")?;
+/// Appends the answer to a plan.
+fn tell(alloc: Global, answers: &mut String, plan: &BuiltPlan) -> Result<(), AllocError> {
     if plan.arena.nodes.len() < 4294967296 {
         answers.push_str(plan_text(alloc, &plan.arena, plan.root)?.as_str())?;
         answers.push_str(check_line(alloc, &plan.arena, plan.root)?)?;
@@ -136,20 +129,16 @@ pub(crate) fn tell_built(
     Ok(())
 }
 
-/// Builds a plan, and appends what it shows and its answer.
-fn tell(alloc: Global, answers: &mut String, plan: &WrittenPlan) -> Result<(), AllocError> {
-    let built = plan_of(alloc, plan.nodes)?;
-    tell_built(alloc, answers, plan.shows, &built)
-}
-
-/// Appends what some plans show, and their answers.
-pub(crate) fn tell_plans(
-    alloc: Global,
-    answers: &mut String,
-    plans: &[WrittenPlan],
-) -> Result<(), AllocError> {
-    for plan in plans {
-        tell(alloc, answers, plan)?;
+/// What each plan shows, and its answer.
+pub(crate) fn answers(alloc: Global, lines: &[&str]) -> Result<String, AllocError> {
+    let mut answers = String::new(alloc);
+    for line in lines {
+        if line.starts_with("# ") {
+            answers.push_str(line)?;
+            answers.push_str("\n")?;
+        } else {
+            tell(alloc, &mut answers, &plan_of_line(alloc, line)?)?;
+        }
     }
-    Ok(())
+    Ok(answers)
 }

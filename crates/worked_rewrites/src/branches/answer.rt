@@ -1,10 +1,10 @@
 //! The answer to a plan: its branches, each as its text and as its numbers.
 
+use crate::written::{is_shown, job_of, push_line};
 use pipe_branches::{Branch, SinkAt, SinkNode, cut, explain};
 use pipe_check::{CheckedPlan, check_plan};
 use pipe_plan::Arena;
 use std::alloc::{AllocError, Global};
-use worked_builders::{WrittenPlan, plan_of};
 
 /// Where a sink stands.
 fn place_text(alloc: Global, at: SinkAt) -> Result<String, AllocError> {
@@ -76,23 +76,23 @@ fn push_answer(
     }
 }
 
-/// Builds a plan, and appends what it shows and its branches.
-fn tell(alloc: Global, answers: &mut String, plan: &WrittenPlan) -> Result<(), AllocError> {
-    let built = plan_of(alloc, plan.nodes)?;
-    answers.push_str("# ")?;
-    answers.push_str(plan.shows)?;
-    answers.push_str("\n")?;
-    push_answer(alloc, answers, &built.arena, built.root)
+/// Appends the branches of a plan.
+fn tell(alloc: Global, answers: &mut String, line: &str) -> Result<(), AllocError> {
+    match job_of(alloc, line)? {
+        Some(job) => push_answer(alloc, answers, &job.arena, job.root),
+        None => answers.push_str("no job\n"),
+    }
 }
 
-/// Appends what some plans show, and their branches.
-pub(crate) fn tell_plans(
-    alloc: Global,
-    answers: &mut String,
-    plans: &[WrittenPlan],
-) -> Result<(), AllocError> {
-    for plan in plans {
-        tell(alloc, answers, plan)?;
+/// What each plan shows, and its branches.
+pub(crate) fn answers(alloc: Global, lines: &[&str]) -> Result<String, AllocError> {
+    let mut answers = String::new(alloc);
+    for line in lines {
+        if is_shown(line) {
+            push_line(&mut answers, line)?;
+        } else {
+            tell(alloc, &mut answers, line)?;
+        }
     }
-    Ok(())
+    Ok(answers)
 }

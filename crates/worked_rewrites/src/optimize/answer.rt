@@ -1,11 +1,11 @@
 //! The answer to a case: the nodes of the rewritten plan, or why there is none.
 
 use crate::shown::node_text;
+use crate::written::{is_shown, job_of, push_line};
 use pipe_check::check_plan;
 use pipe_optimize::{Rewritten, optimize};
 use pipe_plan::{Arena, PipeError};
 use std::alloc::{AllocError, Global};
-use worked_builders::{WrittenPlan, plan_of};
 
 /// The plan under a root, rewritten.
 pub(crate) fn rewritten(alloc: Global, arena: &Arena, root: u32) -> Result<Rewritten, PipeError> {
@@ -32,26 +32,29 @@ pub(crate) fn push_refusal(answers: &mut String, error: &PipeError) -> Result<()
     }
 }
 
-/// Appends what a plan shows, and its rewriting.
-fn push_plan(alloc: Global, answers: &mut String, plan: &WrittenPlan) -> Result<(), AllocError> {
-    answers.push_str("# ")?;
-    answers.push_str(plan.shows)?;
-    answers.push_str("\n")?;
-    let built = plan_of(alloc, plan.nodes)?;
-    match rewritten(alloc, &built.arena, built.root) {
+/// Appends the rewriting of the plan of a line.
+fn tell(alloc: Global, answers: &mut String, line: &str) -> Result<(), AllocError> {
+    let Some(job) = job_of(alloc, line)? else {
+        return answers.push_str("no job\n");
+    };
+    match rewritten(alloc, &job.arena, job.root) {
         Ok(made) => push_nodes(alloc, answers, &made),
         Err(error) => push_refusal(answers, &error),
     }
 }
 
 /// Appends what some plans show, and their rewritings.
-pub(crate) fn tell_plans(
+pub(crate) fn tell_all(
     alloc: Global,
     answers: &mut String,
-    plans: &[WrittenPlan],
+    lines: &[&str],
 ) -> Result<(), AllocError> {
-    for plan in plans {
-        push_plan(alloc, answers, plan)?;
+    for line in lines {
+        if is_shown(line) {
+            push_line(answers, line)?;
+        } else {
+            tell(alloc, answers, line)?;
+        }
     }
     Ok(())
 }

@@ -1,16 +1,19 @@
 //! The answer to a case: how each scan is cut, where the rules allow a choice.
 
 use crate::shown::names_text;
+use crate::written::{is_shown, job_of, line_before, push_line};
 use pipe_check::{CheckedPlan, check_plan};
-use pipe_parts::{Found, Obstacle, ScanCut, Why, Wish, find_obstacle, least_choice, parts_line};
+use pipe_parts::{Found, Obstacle, ScanCut, Why, Wish, find_obstacle, least_choice};
 use pipe_plan::Arena;
 use std::alloc::{AllocError, Global};
-use worked_builders::{WrittenPlan, plan_of};
 
-/// A plan, and how many rows each of its frames is told to have.
-pub(crate) struct Case {
-    pub(crate) plan: WrittenPlan,
-    pub(crate) sizes: &'static [u64],
+/// How many rows each frame is told to have.
+pub(crate) fn sizes_of(alloc: Global, written: &str) -> Result<Vec<u64>, AllocError> {
+    let mut sizes = Vec::new(alloc);
+    for word in written.split_whitespace() {
+        sizes.push(word.parse::<u64>().unwrap_or(0))?;
+    }
+    Ok(sizes)
 }
 
 /// How rows are cut.
@@ -94,72 +97,24 @@ fn push_answer(
     }
 }
 
-/// Builds a plan, and appends what the case shows and its choice.
-fn tell(alloc: Global, answers: &mut String, case: &Case) -> Result<(), AllocError> {
-    let built = plan_of(alloc, case.plan.nodes)?;
-    answers.push_str("# ")?;
-    answers.push_str(case.plan.shows)?;
-    answers.push_str("\n")?;
-    push_answer(alloc, answers, &built.arena, built.root, case.sizes)
-}
-
-/// Appends what some cases show, and their choices.
-pub(crate) fn tell_cases(
-    alloc: Global,
-    answers: &mut String,
-    cases: &[Case],
-) -> Result<(), AllocError> {
-    for case in cases {
-        tell(alloc, answers, case)?;
-    }
-    Ok(())
-}
-
-/// The line of a plan.
-fn push_plan_line(
-    alloc: Global,
-    answers: &mut String,
-    plan: &CheckedPlan,
-    sizes: &[u64],
-) -> Result<(), AllocError> {
-    let line = parts_line(alloc, plan, sizes)?;
-    match str::from_utf8(line.as_slice()) {
-        Ok(text) => answers.push_str(text),
-        Err(_error) => answers.push_str("no text\n"),
+/// Appends the choice for the plan of a line, whose frames have these sizes.
+fn tell(alloc: Global, answers: &mut String, line: &str, sizes: &str) -> Result<(), AllocError> {
+    let sizes = sizes_of(alloc, sizes)?;
+    match job_of(alloc, line)? {
+        Some(job) => push_answer(alloc, answers, &job.arena, job.root, sizes.as_slice()),
+        None => answers.push_str("no job\n"),
     }
 }
 
-/// The line of a plan that has no fault.
-fn push_line(
-    alloc: Global,
-    answers: &mut String,
-    arena: &Arena,
-    root: u32,
-    sizes: &[u64],
-) -> Result<(), AllocError> {
-    match check_plan(alloc, arena, root) {
-        Ok(plan) => push_plan_line(alloc, answers, &plan, sizes),
-        Err(_error) => answers.push_str("refused\n"),
+/// What each case shows, and its choice. A case has a line of its own for the sizes of its frames.
+pub(crate) fn answers(alloc: Global, lines: &[&str]) -> Result<String, AllocError> {
+    let mut answers = String::new(alloc);
+    for (place, line) in lines.iter().enumerate() {
+        if is_shown(line) {
+            push_line(&mut answers, line)?;
+        } else if line.starts_with("{") {
+            tell(alloc, &mut answers, line, line_before(lines, place))?;
+        }
     }
-}
-
-/// Builds a plan, and appends what the case shows and its line.
-fn tell_line(alloc: Global, answers: &mut String, case: &Case) -> Result<(), AllocError> {
-    let built = plan_of(alloc, case.plan.nodes)?;
-    answers.push_str("# ")?;
-    answers.push_str(case.plan.shows)?;
-    answers.push_str("\n")?;
-    push_line(alloc, answers, &built.arena, built.root, case.sizes)
-}
-
-/// Appends what some cases show, and their lines.
-pub(crate) fn tell_lines(
-    alloc: Global,
-    answers: &mut String,
-    cases: &[Case],
-) -> Result<(), AllocError> {
-    for case in cases {
-        tell_line(alloc, answers, case)?;
-    }
-    Ok(())
+    Ok(answers)
 }

@@ -1,108 +1,58 @@
 //! The line of a plan.
 
-use crate::parts::answer::{Case, tell_lines};
-use pipe_expr::{JoinCoalesce, JoinType};
+use crate::parts::answer::sizes_of;
+use crate::written::{is_shown, job_of, line_before, push_line};
+use pipe_check::{CheckedPlan, check_plan};
+use pipe_parts::parts_line;
+use pipe_plan::Arena;
 use std::alloc::{AllocError, Global};
-use worked_builders::Operand::{Col, Int};
-use worked_builders::WrittenExpr::{Add, Gt, Just};
-use worked_builders::WrittenNode::{Filter, Join, Scan, ScanAgain, Sort, Union};
-use worked_builders::{BY_K, INNER_ON_K, WrittenJoin, WrittenPlan, WrittenSort};
-use worked_columns::{INT, WrittenColumn};
 
-const K: &[WrittenColumn] = &[("k", INT, &[])];
+/// The line of a plan.
+fn push_plan_line(
+    alloc: Global,
+    answers: &mut String,
+    plan: &CheckedPlan,
+    sizes: &[u64],
+) -> Result<(), AllocError> {
+    let line = parts_line(alloc, plan, sizes)?;
+    match str::from_utf8(line.as_slice()) {
+        Ok(text) => answers.push_str(text),
+        Err(_error) => answers.push_str("no text\n"),
+    }
+}
 
-const A: &[WrittenColumn] = &[("a", INT, &[])];
+/// The line of a plan that has no fault.
+fn push_answer(
+    alloc: Global,
+    answers: &mut String,
+    arena: &Arena,
+    root: u32,
+    sizes: &[u64],
+) -> Result<(), AllocError> {
+    match check_plan(alloc, arena, root) {
+        Ok(plan) => push_plan_line(alloc, answers, &plan, sizes),
+        Err(_error) => answers.push_str("refused\n"),
+    }
+}
 
-const QUOTED: &[WrittenColumn] = &[("a\"b", INT, &[])];
+/// Appends the line of the plan of a line, whose frames have these sizes.
+fn tell(alloc: Global, answers: &mut String, line: &str, sizes: &str) -> Result<(), AllocError> {
+    let sizes = sizes_of(alloc, sizes)?;
+    match job_of(alloc, line)? {
+        Some(job) => push_answer(alloc, answers, &job.arena, job.root, sizes.as_slice()),
+        None => answers.push_str("no job\n"),
+    }
+}
 
-const LEFT_ON_QUOTED: WrittenJoin = WrittenJoin {
-    left_on: &[Just(Col("a\"b"))],
-    right_on: &[Just(Col("a\"b"))],
-    how: JoinType::Left,
-    ..INNER_ON_K
-};
-
-const LEFT_ON_SUM: WrittenJoin = WrittenJoin {
-    left_on: &[Add(Col("k"), Int(1))],
-    how: JoinType::Left,
-    coalesce: JoinCoalesce::KeepColumns,
-    ..INNER_ON_K
-};
-
-const LEFT_ON_SUM_AND_A: WrittenJoin = WrittenJoin {
-    right_on: &[Just(Col("a"))],
-    ..LEFT_ON_SUM
-};
-
-const SECOND_AND_THIRD: WrittenSort = WrittenSort {
-    descending: &[true],
-    slice: Some((1, 2)),
-    ..BY_K
-};
-
-const CASES: &[Case] = &[
-    Case {
-        plan: WrittenPlan {
-            shows: "a join by its keys, and a sort that gathers",
-            nodes: &[Scan(K), Scan(K), Join(0, 1, INNER_ON_K), Sort(2, BY_K)],
-        },
-        sizes: &[5, 7],
-    },
-    Case {
-        plan: WrittenPlan {
-            shows: "a sort with a slice that gathers",
-            nodes: &[Scan(K), Sort(0, SECOND_AND_THIRD)],
-        },
-        sizes: &[5],
-    },
-    Case {
-        plan: WrittenPlan {
-            shows: "a right side whole, and a frame that two scans read",
-            nodes: &[
-                Scan(K),
-                ScanAgain(0),
-                Union(&[0, 1]),
-                Scan(K),
-                Join(2, 3, LEFT_ON_SUM),
-            ],
-        },
-        sizes: &[5, 7],
-    },
-    Case {
-        plan: WrittenPlan {
-            shows: "a column whose name has a quotation mark",
-            nodes: &[Scan(QUOTED), Scan(QUOTED), Join(0, 1, LEFT_ON_QUOTED)],
-        },
-        sizes: &[5, 7],
-    },
-    Case {
-        plan: WrittenPlan {
-            shows: "a plan in one part",
-            nodes: &[
-                Scan(K),
-                Sort(0, SECOND_AND_THIRD),
-                Filter(1, Gt(Col("k"), Int(1))),
-                Sort(2, BY_K),
-            ],
-        },
-        sizes: &[5],
-    },
-    Case {
-        plan: WrittenPlan {
-            shows: "more rows whole than a number of 64 bits tells",
-            nodes: &[
-                Scan(K),
-                Scan(K),
-                Join(0, 1, LEFT_ON_SUM),
-                Scan(A),
-                Join(2, 3, LEFT_ON_SUM_AND_A),
-            ],
-        },
-        sizes: &[1, u64::MAX, 1],
-    },
-];
-
-/// Appends what these cases show, and their lines.
-pub(crate) fn tell_all(alloc: Global, answers: &mut String) -> Result<(), AllocError> {
-    tell_lines(alloc, answers, CASES)
+/// What each case shows, and its line. A case has a line of its own for the sizes of its frames.
+pub(crate) fn lines(alloc: Global, written: &[&str]) -> Result<String, AllocError> {
+    let mut answers = String::new(alloc);
+    for (place, line) in written.iter().enumerate() {
+        if is_shown(line) {
+            push_line(&mut answers, line)?;
+        } else if line.starts_with("{") {
+            tell(alloc, &mut answers, line, line_before(written, place))?;
+        }
+    }
+    Ok(answers)
 }

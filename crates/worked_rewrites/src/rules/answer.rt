@@ -1,41 +1,12 @@
 //! The answer to a case: each conjunct of a predicate, and where it goes.
 
 use crate::shown::expr_text;
+use crate::written::{is_shown, job_of, push_line};
 use pipe_expr::Expr;
-use pipe_plan::IR;
+use pipe_plan::{Arena, IR};
 use pipe_rules::{Placement, conjuncts, place_all};
-use pipe_schema::{DataType, Field, FrameError, List, Schema, Text};
+use pipe_schema::Schema;
 use std::alloc::{AllocError, Global};
-use worked_builders::{WrittenExpr, WrittenNode, expr_of, plan_of};
-
-/// A filter on a node over two schemas, whose columns are all of type `Int64`.
-#[derive(Clone, Copy)]
-pub(crate) struct Case {
-    pub(crate) shows: &'static str,
-    pub(crate) node: WrittenNode,
-    pub(crate) left: &'static [&'static str],
-    pub(crate) right: &'static [&'static str],
-    pub(crate) predicate: WrittenExpr,
-}
-
-/// The fields of some names.
-fn fields_of(alloc: Global, names: &[&str]) -> Result<List<Field>, AllocError> {
-    let mut fields = List::new(alloc);
-    for name in names {
-        let name = Text::from_str(alloc, name)?;
-        fields.push(Field {
-            name,
-            dtype: DataType::Int64,
-        })?;
-    }
-    Ok(fields)
-}
-
-/// The schema of some names.
-fn schema_of(alloc: Global, names: &[&str]) -> Result<Schema, FrameError> {
-    let fields = fields_of(alloc, names)?;
-    Ok(Schema::new(fields)?)
-}
 
 /// Where a conjunct goes, as a text.
 fn placement_text(alloc: Global, placement: &Placement) -> Result<String, AllocError> {
@@ -77,33 +48,53 @@ fn push_placements(
     Ok(())
 }
 
-/// Appends where each conjunct of a case goes.
-fn push_case(alloc: Global, answers: &mut String, case: &Case) -> Result<(), FrameError> {
-    let left = schema_of(alloc, case.left)?;
-    let right = schema_of(alloc, case.right)?;
-    let built = plan_of(alloc, &[case.node])?;
-    let predicate = expr_of(alloc, case.predicate)?;
-    if let Some(node) = built.arena.nodes.as_slice().first() {
-        push_placements(alloc, answers, node, &left, &right, &predicate)?;
+/// Appends where each conjunct of a case goes: its nodes are the node, and the filter on it; its frames have the schemas
+/// of the left input and the right one.
+fn push_case(alloc: Global, answers: &mut String, arena: &Arena) -> Result<(), AllocError> {
+    let nodes = arena.nodes.as_slice();
+    let frames = arena.frames.as_slice();
+    match (nodes.first(), nodes.get(1), frames.first(), frames.get(1)) {
+        (
+            Some(node),
+            Some(
+                IR::Filter {
+                    input: _,
+                    predicate,
+                },
+            ),
+            Some(left),
+            Some(right),
+        ) => {
+            push_placements(
+                alloc,
+                answers,
+                node,
+                left.schema(),
+                right.schema(),
+                predicate,
+            )
+        }
+        _ => answers.push_str("no case\n"),
     }
-    Ok(())
 }
 
-/// Appends what some cases show, and their conjuncts.
-pub(crate) fn tell_cases(
-    alloc: Global,
-    answers: &mut String,
-    cases: &[Case],
-) -> Result<(), AllocError> {
-    for case in cases {
-        answers.push_str("# ")?;
-        answers.push_str(case.shows)?;
-        answers.push_str("\n")?;
-        match push_case(alloc, answers, case) {
-            Ok(()) => {}
-            Err(FrameError::Memory) => return Err(AllocError),
-            Err(_) => answers.push_str("no schema\n")?,
+/// Appends where each conjunct of the case of a line goes.
+fn tell(alloc: Global, answers: &mut String, line: &str) -> Result<(), AllocError> {
+    match job_of(alloc, line)? {
+        Some(job) => push_case(alloc, answers, &job.arena),
+        None => answers.push_str("no job\n"),
+    }
+}
+
+/// What each case shows, and where its conjuncts go.
+pub(crate) fn answers(alloc: Global, lines: &[&str]) -> Result<String, AllocError> {
+    let mut answers = String::new(alloc);
+    for line in lines {
+        if is_shown(line) {
+            push_line(&mut answers, line)?;
+        } else {
+            tell(alloc, &mut answers, line)?;
         }
     }
-    Ok(())
+    Ok(answers)
 }
