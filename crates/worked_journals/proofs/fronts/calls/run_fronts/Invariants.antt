@@ -9,7 +9,7 @@ use Rattle.worked_journals.proofs.fronts.calls.run_fronts.Given as goal
 abbrev pub invariant-fronts : goal.invariant-fronts
 invariant-fronts g l = record {
   settings : Settings Fnv;
-  stand : StandForLeft (λ h. fnv1a) (asked_in l.plan.now settings) l.context l.pipelines.items l.slots l.counts;
+  stand : StandForLeft (λ h. fnv1a) (asked_in l.plan settings) l.context l.pipelines.items l.slots l.counts;
 }
 
 abbrev pub decreases-fronts : goal.decreases-fronts
