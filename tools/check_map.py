@@ -1,5 +1,6 @@
 #!/usr/bin/env python3
-"""Checks that docs/MAP.md has each crate once, in the order of crates.txt, and that the files which it names are there.
+"""Checks that docs/MAP.md has each crate once by its subject, and once in the order of crates.txt, and that the files
+which it names are there.
 
 It prints what is wrong, and ends with 1 where something is.
 
@@ -35,6 +36,15 @@ def changes(text):
             yield re.findall(r"\w+", line.split("|")[1]), line
 
 
+def subjects(text):
+    """The crates by their subject."""
+    for line in text.partition("| subject | crates |\n")[2].split("\n"):
+        if not line.startswith("|"):
+            return
+        if not line.startswith("|---"):
+            yield from re.findall(r"\w+", line.split("|")[2])
+
+
 def faults():
     text = (ROOT / "docs" / "MAP.md").read_text(encoding="utf-8")
     order, told = crates(), [name for names, _ in rows(text) for name in names]
@@ -45,6 +55,9 @@ def faults():
             if not any((ROOT / "crates" / name / path).exists() for name in names):
                 yield f"{', '.join(names)}: no file {path}"
     yield from (f"{name}: told of {told.count(name)} times" for name in order if told.count(name) != 1)
+    under = list(subjects(text))
+    yield from (f"{name}: no crate, and has a subject" for name in under if name not in order)
+    yield from (f"{name}: has {under.count(name)} subjects" for name in order if under.count(name) != 1)
     known = [name for name in told if name in order]
     for one, other in zip(known, known[1:]):
         if order.index(one) > order.index(other):
