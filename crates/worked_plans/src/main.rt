@@ -9,21 +9,14 @@ mod misfits;
 mod plans;
 mod written;
 
-use crate::written::part_of;
 use std::alloc::{AllocError, Global};
-use std::io::{self, Read};
+use std::io;
+use worked_texts::{input_of, part_of};
 
 /// Prints the answers of a part.
 fn print_part(rt: &impl Print, answers: Result<String, AllocError>) -> io::Result<()> {
     let answers = answers?;
     print!(rt; "{answers}")
-}
-
-/// All that is read.
-fn input_of(alloc: Global, input: &mut impl Read) -> io::Result<String> {
-    let mut text = String::new(alloc);
-    input.read_to_string(&mut text)?;
-    Ok(text)
 }
 
 /// Prints what comes of the expressions and plans of a text.

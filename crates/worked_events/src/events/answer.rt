@@ -2,7 +2,7 @@
 
 ghost use Rattle.pipe_replay.specs.KeptWorld.{IsOf};
 
-use crate::events::written::{WrittenList, event_of, job_of, pieces_of};
+use crate::events::written::{WrittenList, event_of, pieces_of};
 use pipe_check::{CheckedPlan, check_plan};
 use pipe_events::Event;
 use pipe_frame::Row;
@@ -11,6 +11,7 @@ use pipe_replay::{Played, World, play};
 use pipe_rows::Fnv;
 use pipe_schema::{AnyValue, List};
 use std::alloc::{AllocError, Global};
+use worked_texts::job_of;
 
 /// What is done to a list at a place.
 #[derive(Clone, Copy)]

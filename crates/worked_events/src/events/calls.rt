@@ -4,13 +4,14 @@ ghost use Rattle.std.specs.Prelude.{◌≤◌, ◌^◌, IfOk};
 ghost use Rattle.pipe_replay.specs.KeptWorld.{IsOf};
 
 use crate::events::answer::{Damage, events_of, push_end, push_shown};
-use crate::events::written::{WrittenList, job_of};
+use crate::events::written::WrittenList;
 use pipe_check::{CheckedPlan, check_plan};
 use pipe_events::Event;
 use pipe_plan::PipeError;
 use pipe_replay::{StepAnswer, World, replay, step};
 use pipe_rows::Fnv;
 use std::alloc::{AllocError, Global};
+use worked_texts::job_of;
 
 /// How a list is told.
 #[derive(Clone, Copy)]

@@ -2,7 +2,6 @@
 
 use pipe_events::{Event, Side};
 use pipe_frame::Row;
-use pipe_job::{Job, JobError, read_job};
 use std::alloc::{AllocError, Global};
 use worked_columns::{INT, cell_of};
 
@@ -12,15 +11,6 @@ pub(crate) struct WrittenList<'a> {
     pub(crate) shows: &'a str,
     pub(crate) events: &'a str,
     pub(crate) job: &'a str,
-}
-
-/// The job that a line spells, none where it spells none.
-pub(crate) fn job_of(alloc: Global, line: &str) -> Result<Option<Job>, AllocError> {
-    match read_job(alloc, line.as_bytes()) {
-        Ok(job) => Ok(Some(job)),
-        Err(JobError::Memory) => Err(AllocError),
-        Err(_) => Ok(None),
-    }
 }
 
 /// The words of each event of a list.

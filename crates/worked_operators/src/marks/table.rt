@@ -6,13 +6,14 @@ ghost use Rattle.worked_operators.specs.Sides.{AreSides};
 use crate::marks::full::through_full;
 use crate::marks::marking::through_marks;
 use crate::sides::{Sides, join_at_root};
-use crate::written::{Words, is_job, job_of, shown, words_of};
+use crate::written::{Words, is_job, shown, words_of};
 use pipe_check::check_plan;
 use pipe_expr::JoinType;
 use pipe_index::HashesKeys;
 use pipe_plan::{Arena, PipeError};
 use pipe_rows::{ConstHash, Fnv};
 use std::alloc::{AllocError, Global};
+use worked_texts::job_of;
 
 /// What comes of a join under a hasher.
 fn joined<H: HashesKeys>(

@@ -7,12 +7,13 @@ use crate::tables::asked::{Asked, asked_by};
 use crate::tables::indexes::index_lines;
 use crate::tables::joining::{members_of_table, slots_of_table, through_cross, through_table};
 use crate::tables::placing::places_of_keys;
-use crate::written::{Words, is_job, job_of, shown, words_of};
+use crate::written::{Words, is_job, shown, words_of};
 use pipe_check::check_plan;
 use pipe_expr::JoinType;
 use pipe_plan::{Arena, PipeError};
 use pipe_rows::{ConstHash, Fnv, KeyHasher};
 use std::alloc::{AllocError, Global};
+use worked_texts::job_of;
 
 /// What comes of a join under a hasher: a cross join has its own probe.
 fn joined<H: KeyHasher>(

@@ -1,10 +1,11 @@
 //! The answer to a plan: its branches, each as its text and as its numbers.
 
-use crate::written::{is_shown, job_of, push_line};
+use crate::written::{is_shown, push_line};
 use pipe_branches::{Branch, SinkAt, SinkNode, cut, explain};
 use pipe_check::{CheckedPlan, check_plan};
 use pipe_plan::Arena;
 use std::alloc::{AllocError, Global};
+use worked_texts::job_of;
 
 /// Where a sink stands.
 fn place_text(alloc: Global, at: SinkAt) -> Result<String, AllocError> {

@@ -1,11 +1,12 @@
 //! The answer to a case: the nodes of the rewritten plan, or why there is none.
 
 use crate::shown::node_text;
-use crate::written::{is_shown, job_of, push_line};
+use crate::written::{is_shown, push_line};
 use pipe_check::check_plan;
 use pipe_optimize::{Rewritten, optimize};
 use pipe_plan::{Arena, PipeError};
 use std::alloc::{AllocError, Global};
+use worked_texts::job_of;
 
 /// The plan under a root, rewritten.
 pub(crate) fn rewritten(alloc: Global, arena: &Arena, root: u32) -> Result<Rewritten, PipeError> {

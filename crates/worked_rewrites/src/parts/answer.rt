@@ -1,11 +1,12 @@
 //! The answer to a case: how each scan is cut, where the rules allow a choice.
 
 use crate::shown::names_text;
-use crate::written::{is_shown, job_of, line_before, push_line};
+use crate::written::{is_shown, line_before, push_line};
 use pipe_check::{CheckedPlan, check_plan};
 use pipe_parts::{Found, Obstacle, ScanCut, Why, Wish, find_obstacle, least_choice};
 use pipe_plan::Arena;
 use std::alloc::{AllocError, Global};
+use worked_texts::job_of;
 
 /// How many rows each frame is told to have.
 pub(crate) fn sizes_of(alloc: Global, written: &str) -> Result<Vec<u64>, AllocError> {

@@ -1,11 +1,12 @@
 //! The line of a plan.
 
 use crate::parts::answer::sizes_of;
-use crate::written::{is_shown, job_of, line_before, push_line};
+use crate::written::{is_shown, line_before, push_line};
 use pipe_check::{CheckedPlan, check_plan};
 use pipe_parts::parts_line;
 use pipe_plan::Arena;
 use std::alloc::{AllocError, Global};
+use worked_texts::job_of;
 
 /// The line of a plan.
 fn push_plan_line(

@@ -1,12 +1,13 @@
 //! The answer to a case: each conjunct of a predicate, and where it goes.
 
 use crate::shown::expr_text;
-use crate::written::{is_shown, job_of, push_line};
+use crate::written::{is_shown, push_line};
 use pipe_expr::Expr;
 use pipe_plan::{Arena, IR};
 use pipe_rules::{Placement, conjuncts, place_all};
 use pipe_schema::Schema;
 use std::alloc::{AllocError, Global};
+use worked_texts::job_of;
 
 /// Where a conjunct goes, as a text.
 fn placement_text(alloc: Global, placement: &Placement) -> Result<String, AllocError> {
