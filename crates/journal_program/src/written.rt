@@ -20,11 +20,7 @@ pub(crate) fn event_line(alloc: Global, event: &Event) -> Result<String, AllocEr
             from,
             count,
         } => format!(in alloc; "[\"Take\",{worker},{source},{from},{count}]\n"),
-        Event::Mark {
-            worker,
-            join,
-            key: _,
-        } => format!(in alloc; "[\"Mark\",{worker},{join}]\n"),
+        Event::Mark { worker, join, .. } => format!(in alloc; "[\"Mark\",{worker},{join}]\n"),
         Event::Emit { worker } => format!(in alloc; "[\"Emit\",{worker}]\n"),
         Event::Done { worker } => format!(in alloc; "[\"Done\",{worker}]\n"),
         Event::Close { node, side } => {

@@ -47,31 +47,20 @@ pub(crate) fn turn_at_node(node: &IR) -> Turn
     ensures { result ≡ turn_at (node_of node.now) }
 {
     match node {
-        IR::DataFrameScan {
-            frame: _,
-            columns: _,
-        } => Turn::Begin,
-        IR::Filter {
-            input,
-            predicate: _,
-        } => Turn::Through(*input),
-        IR::SimpleProjection { input, columns: _ } => Turn::Through(*input),
-        IR::Select { input, exprs: _ } => Turn::Through(*input),
-        IR::HStack { input, exprs: _ } => Turn::Through(*input),
-        IR::MapFunction { input, function: _ } => Turn::Through(*input),
-        IR::Union { inputs: _ } => Turn::Unite,
+        IR::DataFrameScan { .. } => Turn::Begin,
+        IR::Filter { input, .. } => Turn::Through(*input),
+        IR::SimpleProjection { input, .. } => Turn::Through(*input),
+        IR::Select { input, .. } => Turn::Through(*input),
+        IR::HStack { input, .. } => Turn::Through(*input),
+        IR::MapFunction { input, .. } => Turn::Through(*input),
+        IR::Union { .. } => Turn::Unite,
         IR::Join {
             left,
             right,
-            left_on: _,
-            right_on: _,
             options,
+            ..
         } => turn_at_join(*left, *right, options),
-        IR::Sort {
-            input,
-            by: _,
-            options: _,
-        } => Turn::Sort(*input),
+        IR::Sort { input, .. } => Turn::Sort(*input),
     }
 }
 
@@ -82,36 +71,14 @@ pub(crate) fn union_inputs(node: &IR) -> &[u32]
 {
     match node {
         IR::Union { inputs } => inputs.as_slice(),
-        IR::DataFrameScan {
-            frame: _,
-            columns: _,
-        }
-        | IR::Filter {
-            input: _,
-            predicate: _,
-        }
-        | IR::SimpleProjection {
-            input: _,
-            columns: _,
-        }
-        | IR::Select { input: _, exprs: _ }
-        | IR::HStack { input: _, exprs: _ }
-        | IR::MapFunction {
-            input: _,
-            function: _,
-        }
-        | IR::Join {
-            left: _,
-            right: _,
-            left_on: _,
-            right_on: _,
-            options: _,
-        }
-        | IR::Sort {
-            input: _,
-            by: _,
-            options: _,
-        } => unreachable!(),
+        IR::DataFrameScan { .. }
+        | IR::Filter { .. }
+        | IR::SimpleProjection { .. }
+        | IR::Select { .. }
+        | IR::HStack { .. }
+        | IR::MapFunction { .. }
+        | IR::Join { .. }
+        | IR::Sort { .. } => unreachable!(),
     }
 }
 
@@ -120,37 +87,15 @@ fn is_node_scan(node: &IR) -> bool
     ensures { result ≡ is_scan (node_of node.now) }
 {
     match node {
-        IR::DataFrameScan {
-            frame: _,
-            columns: _,
-        } => true,
-        IR::Filter {
-            input: _,
-            predicate: _,
-        } => false,
-        IR::SimpleProjection {
-            input: _,
-            columns: _,
-        } => false,
-        IR::Select { input: _, exprs: _ } => false,
-        IR::HStack { input: _, exprs: _ } => false,
-        IR::MapFunction {
-            input: _,
-            function: _,
-        } => false,
-        IR::Union { inputs: _ } => false,
-        IR::Join {
-            left: _,
-            right: _,
-            left_on: _,
-            right_on: _,
-            options: _,
-        } => false,
-        IR::Sort {
-            input: _,
-            by: _,
-            options: _,
-        } => false,
+        IR::DataFrameScan { .. } => true,
+        IR::Filter { .. } => false,
+        IR::SimpleProjection { .. } => false,
+        IR::Select { .. } => false,
+        IR::HStack { .. } => false,
+        IR::MapFunction { .. } => false,
+        IR::Union { .. } => false,
+        IR::Join { .. } => false,
+        IR::Sort { .. } => false,
     }
 }
 

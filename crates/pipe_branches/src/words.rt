@@ -14,37 +14,15 @@ fn word_of_node(node: &IR) -> &'static str
     ensures { result.now ≡ node_word (node_of node.now) }
 {
     match node {
-        IR::DataFrameScan {
-            frame: _,
-            columns: _,
-        } => "df",
-        IR::Filter {
-            input: _,
-            predicate: _,
-        } => "filter",
-        IR::SimpleProjection {
-            input: _,
-            columns: _,
-        } => "fast_projection",
-        IR::Select { input: _, exprs: _ } => "projection",
-        IR::HStack { input: _, exprs: _ } => "hstack",
-        IR::MapFunction {
-            input: _,
-            function: _,
-        } => "function",
-        IR::Union { inputs: _ } => "union",
-        IR::Join {
-            left: _,
-            right: _,
-            left_on: _,
-            right_on: _,
-            options: _,
-        } => "callback",
-        IR::Sort {
-            input: _,
-            by: _,
-            options: _,
-        } => "sort",
+        IR::DataFrameScan { .. } => "df",
+        IR::Filter { .. } => "filter",
+        IR::SimpleProjection { .. } => "fast_projection",
+        IR::Select { .. } => "projection",
+        IR::HStack { .. } => "hstack",
+        IR::MapFunction { .. } => "function",
+        IR::Union { .. } => "union",
+        IR::Join { .. } => "callback",
+        IR::Sort { .. } => "sort",
     }
 }
 
@@ -75,37 +53,15 @@ fn word_of_build_at(node: &IR) -> &'static str
     ensures { result.now ≡ build_word (node_of node.now) }
 {
     match node {
-        IR::Join {
-            left: _,
-            right: _,
-            left_on: _,
-            right_on: _,
-            options,
-        } => word_of_build(options.how),
-        IR::DataFrameScan {
-            frame: _,
-            columns: _,
-        }
-        | IR::Filter {
-            input: _,
-            predicate: _,
-        }
-        | IR::SimpleProjection {
-            input: _,
-            columns: _,
-        }
-        | IR::Select { input: _, exprs: _ }
-        | IR::HStack { input: _, exprs: _ }
-        | IR::MapFunction {
-            input: _,
-            function: _,
-        }
-        | IR::Union { inputs: _ }
-        | IR::Sort {
-            input: _,
-            by: _,
-            options: _,
-        } => "generic_join_build",
+        IR::Join { options, .. } => word_of_build(options.how),
+        IR::DataFrameScan { .. }
+        | IR::Filter { .. }
+        | IR::SimpleProjection { .. }
+        | IR::Select { .. }
+        | IR::HStack { .. }
+        | IR::MapFunction { .. }
+        | IR::Union { .. }
+        | IR::Sort { .. } => "generic_join_build",
     }
 }
 

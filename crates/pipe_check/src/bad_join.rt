@@ -91,11 +91,10 @@ pub(crate) fn is_join_bad(alloc: Global, node: &IR) -> Result<bool, AllocError>
 {
     match node {
         IR::Join {
-            left: _,
-            right: _,
             left_on,
             right_on,
             options,
+            ..
         } => {
             let are_bad = are_coalesced_badly(
                 alloc,
@@ -105,29 +104,13 @@ pub(crate) fn is_join_bad(alloc: Global, node: &IR) -> Result<bool, AllocError>
             )?;
             Ok(are_counts_bad(options.how, left_on.len(), right_on.len()) || are_bad)
         }
-        IR::DataFrameScan {
-            frame: _,
-            columns: _,
-        }
-        | IR::Filter {
-            input: _,
-            predicate: _,
-        }
-        | IR::SimpleProjection {
-            input: _,
-            columns: _,
-        }
-        | IR::Select { input: _, exprs: _ }
-        | IR::HStack { input: _, exprs: _ }
-        | IR::MapFunction {
-            input: _,
-            function: _,
-        }
-        | IR::Union { inputs: _ }
-        | IR::Sort {
-            input: _,
-            by: _,
-            options: _,
-        } => Ok(false),
+        IR::DataFrameScan { .. }
+        | IR::Filter { .. }
+        | IR::SimpleProjection { .. }
+        | IR::Select { .. }
+        | IR::HStack { .. }
+        | IR::MapFunction { .. }
+        | IR::Union { .. }
+        | IR::Sort { .. } => Ok(false),
     }
 }

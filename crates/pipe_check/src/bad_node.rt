@@ -75,13 +75,8 @@ fn is_function_void(function: &FunctionIR) -> bool
     ensures { result ≡ is_void_function function.now }
 {
     match function {
-        FunctionIR::Unpivot {
-            on,
-            index: _,
-            variable: _,
-            value: _,
-        } => is_none_there(on.as_slice()),
-        FunctionIR::Rename { pairs: _ } => false,
+        FunctionIR::Unpivot { on, .. } => is_none_there(on.as_slice()),
+        FunctionIR::Rename { .. } => false,
     }
 }
 
@@ -93,27 +88,11 @@ fn is_node_void(frames: &[DataFrame], node: &IR) -> bool
     match node {
         IR::DataFrameScan { frame, columns } => is_frame_missing(frames, *frame)
             || is_nothing_named(columns),
-        IR::SimpleProjection { input: _, columns } => is_none_there(columns.as_slice()),
-        IR::Select { input: _, exprs } => are_no_exprs(exprs.as_slice()),
-        IR::MapFunction { input: _, function } => is_function_void(function),
+        IR::SimpleProjection { columns, .. } => is_none_there(columns.as_slice()),
+        IR::Select { exprs, .. } => are_no_exprs(exprs.as_slice()),
+        IR::MapFunction { function, .. } => is_function_void(function),
         IR::Union { inputs } => is_none_there(inputs.as_slice()),
-        IR::Filter {
-            input: _,
-            predicate: _,
-        }
-        | IR::HStack { input: _, exprs: _ }
-        | IR::Join {
-            left: _,
-            right: _,
-            left_on: _,
-            right_on: _,
-            options: _,
-        }
-        | IR::Sort {
-            input: _,
-            by: _,
-            options: _,
-        } => false,
+        IR::Filter { .. } | IR::HStack { .. } | IR::Join { .. } | IR::Sort { .. } => false,
     }
 }
 

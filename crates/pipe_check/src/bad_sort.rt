@@ -51,36 +51,14 @@ pub(crate) fn is_sort_bad(alloc: Global, node: &IR) -> Result<bool, AllocError>
     ensures { IfOk result (λ holds. holds ≡ is_bad_sort (node_of node.now)) }
 {
     match node {
-        IR::Sort {
-            input: _,
-            by,
-            options,
-        } => are_keys_bad(alloc, by.as_slice(), options),
-        IR::DataFrameScan {
-            frame: _,
-            columns: _,
-        }
-        | IR::Filter {
-            input: _,
-            predicate: _,
-        }
-        | IR::SimpleProjection {
-            input: _,
-            columns: _,
-        }
-        | IR::Select { input: _, exprs: _ }
-        | IR::HStack { input: _, exprs: _ }
-        | IR::MapFunction {
-            input: _,
-            function: _,
-        }
-        | IR::Union { inputs: _ }
-        | IR::Join {
-            left: _,
-            right: _,
-            left_on: _,
-            right_on: _,
-            options: _,
-        } => Ok(false),
+        IR::Sort { by, options, .. } => are_keys_bad(alloc, by.as_slice(), options),
+        IR::DataFrameScan { .. }
+        | IR::Filter { .. }
+        | IR::SimpleProjection { .. }
+        | IR::Select { .. }
+        | IR::HStack { .. }
+        | IR::MapFunction { .. }
+        | IR::Union { .. }
+        | IR::Join { .. } => Ok(false),
     }
 }

@@ -38,12 +38,7 @@ fn named_twice_in_function<'n>(
     ensures { IfOk result (λ name. option_copied name ≡ first_repeated (once_named function.now)) }
 {
     match function {
-        FunctionIR::Unpivot {
-            on,
-            index: _,
-            variable: _,
-            value: _,
-        } => repeated_among(alloc, on.as_slice()),
+        FunctionIR::Unpivot { on, .. } => repeated_among(alloc, on.as_slice()),
         FunctionIR::Rename { pairs } => repeated_among(alloc, pairs.as_slice()),
     }
 }
@@ -55,34 +50,15 @@ fn named_twice<'n>(alloc: Global, node: &'n IR) -> Result<Option<&'n Text>, Allo
         IfOk result (λ name. option_copied name ≡ first_repeated names) }
 {
     match node {
-        IR::HStack { input: _, exprs } => repeated_among(alloc, exprs.as_slice()),
-        IR::MapFunction { input: _, function } => named_twice_in_function(alloc, function),
-        IR::DataFrameScan {
-            frame: _,
-            columns: _,
-        }
-        | IR::Filter {
-            input: _,
-            predicate: _,
-        }
-        | IR::SimpleProjection {
-            input: _,
-            columns: _,
-        }
-        | IR::Select { input: _, exprs: _ }
-        | IR::Union { inputs: _ }
-        | IR::Join {
-            left: _,
-            right: _,
-            left_on: _,
-            right_on: _,
-            options: _,
-        }
-        | IR::Sort {
-            input: _,
-            by: _,
-            options: _,
-        } => Ok(None),
+        IR::HStack { exprs, .. } => repeated_among(alloc, exprs.as_slice()),
+        IR::MapFunction { function, .. } => named_twice_in_function(alloc, function),
+        IR::DataFrameScan { .. }
+        | IR::Filter { .. }
+        | IR::SimpleProjection { .. }
+        | IR::Select { .. }
+        | IR::Union { .. }
+        | IR::Join { .. }
+        | IR::Sort { .. } => Ok(None),
     }
 }
 

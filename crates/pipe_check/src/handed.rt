@@ -48,41 +48,21 @@ pub fn handed_on<'s>(
             columns: None,
         } => schema_of_frame(frames, *frame),
         IR::DataFrameScan {
-            frame: _,
             columns: Some(_),
+            ..
         } => None,
-        IR::Filter {
-            input,
-            predicate: _,
-        }
-        | IR::Sort {
-            input,
-            by: _,
-            options: _,
-        } => schema_of(schemas, *input),
+        IR::Filter { input, .. } | IR::Sort { input, .. } => schema_of(schemas, *input),
         IR::Union { inputs } => first_schema(schemas, inputs.as_slice()),
-        IR::Join {
-            left,
-            right: _,
-            left_on: _,
-            right_on: _,
-            options,
-        } => {
+        IR::Join { left, options, .. } => {
             if is_pairing(options.how) {
                 None
             } else {
                 schema_of(schemas, *left)
             }
         }
-        IR::SimpleProjection {
-            input: _,
-            columns: _,
-        }
-        | IR::Select { input: _, exprs: _ }
-        | IR::HStack { input: _, exprs: _ }
-        | IR::MapFunction {
-            input: _,
-            function: _,
-        } => None,
+        IR::SimpleProjection { .. }
+        | IR::Select { .. }
+        | IR::HStack { .. }
+        | IR::MapFunction { .. } => None,
     }
 }

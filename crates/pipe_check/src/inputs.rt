@@ -12,30 +12,14 @@ pub(crate) fn inputs(alloc: Global, node: &IR) -> Result<Vec<u32>, AllocError>
     ensures { IfOk result (λ numbers. numbers.items ≡ inputs_of (node_of node.now)) }
 {
     match node {
-        IR::DataFrameScan {
-            frame: _,
-            columns: _,
-        } => Ok(Vec::new(alloc)),
-        IR::Filter {
-            input,
-            predicate: _,
-        } => Ok(vec![in alloc; *input]?),
-        IR::SimpleProjection { input, columns: _ } => Ok(vec![in alloc; *input]?),
-        IR::Select { input, exprs: _ } => Ok(vec![in alloc; *input]?),
-        IR::HStack { input, exprs: _ } => Ok(vec![in alloc; *input]?),
-        IR::MapFunction { input, function: _ } => Ok(vec![in alloc; *input]?),
+        IR::DataFrameScan { .. } => Ok(Vec::new(alloc)),
+        IR::Filter { input, .. } => Ok(vec![in alloc; *input]?),
+        IR::SimpleProjection { input, .. } => Ok(vec![in alloc; *input]?),
+        IR::Select { input, .. } => Ok(vec![in alloc; *input]?),
+        IR::HStack { input, .. } => Ok(vec![in alloc; *input]?),
+        IR::MapFunction { input, .. } => Ok(vec![in alloc; *input]?),
         IR::Union { inputs } => Ok(inputs.as_slice().to_vec(alloc)?),
-        IR::Join {
-            left,
-            right,
-            left_on: _,
-            right_on: _,
-            options: _,
-        } => Ok(vec![in alloc; *left, *right]?),
-        IR::Sort {
-            input,
-            by: _,
-            options: _,
-        } => Ok(vec![in alloc; *input]?),
+        IR::Join { left, right, .. } => Ok(vec![in alloc; *left, *right]?),
+        IR::Sort { input, .. } => Ok(vec![in alloc; *input]?),
     }
 }

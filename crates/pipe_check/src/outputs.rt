@@ -59,15 +59,10 @@ pub fn node_fields(
         IR::DataFrameScan { frame, columns } => {
             scanned_fields(alloc, &columns_of_frame(frames, *frame), columns)
         }
-        IR::Filter {
-            input,
-            predicate: _,
-        }
-        | IR::Sort {
-            input,
-            by: _,
-            options: _,
-        } => copied_fields(alloc, columns_of(schemas, *input).fields()),
+        IR::Filter { input, .. } | IR::Sort { input, .. } => copied_fields(
+            alloc,
+            columns_of(schemas, *input).fields(),
+        ),
         IR::SimpleProjection { input, columns } => {
             named_fields(alloc, columns.as_slice(), &columns_of(schemas, *input))
         }
@@ -84,9 +79,9 @@ pub fn node_fields(
         IR::Join {
             left,
             right,
-            left_on: _,
             right_on,
             options,
+            ..
         } => joined_fields(
             alloc,
             &columns_of(schemas, *left),

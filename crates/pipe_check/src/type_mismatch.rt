@@ -163,13 +163,8 @@ fn is_function_mistyped(function: &FunctionIR, columns: &Columns) -> bool
     ensures { result ≡ is_mistyped_function columns.now function.now }
 {
     match function {
-        FunctionIR::Unpivot {
-            on,
-            index: _,
-            variable: _,
-            value: _,
-        } => do_columns_differ(on.as_slice(), columns),
-        FunctionIR::Rename { pairs: _ } => false,
+        FunctionIR::Unpivot { on, .. } => do_columns_differ(on.as_slice(), columns),
+        FunctionIR::Rename { .. } => false,
     }
 }
 
@@ -201,25 +196,13 @@ pub(crate) fn is_node_mistyped(schemas: &[Option<Schema>], node: &IR) -> bool
             right,
             left_on,
             right_on,
-            options: _,
+            ..
         } => are_keys_mistyped(
             left_on.as_slice(),
             right_on.as_slice(),
             &columns_of(schemas, *left),
             &columns_of(schemas, *right),
         ),
-        IR::DataFrameScan {
-            frame: _,
-            columns: _,
-        }
-        | IR::SimpleProjection {
-            input: _,
-            columns: _,
-        }
-        | IR::Sort {
-            input: _,
-            by: _,
-            options: _,
-        } => false,
+        IR::DataFrameScan { .. } | IR::SimpleProjection { .. } | IR::Sort { .. } => false,
     }
 }

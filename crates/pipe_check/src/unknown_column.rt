@@ -47,7 +47,7 @@ fn unknown_in_expr<'n>(expr: &'n Expr, columns: &Columns) -> Option<&'n Text>
 {
     match expr {
         Expr::Col(name) => unknown(name, columns),
-        Expr::Lit { dtype: _, value: _ } => None,
+        Expr::Lit { .. } => None,
         Expr::Add(left, right)
         | Expr::Sub(left, right)
         | Expr::Mul(left, right)
@@ -114,12 +114,7 @@ fn unknown_in_function<'n>(function: &'n FunctionIR, columns: &Columns) -> Optio
     ensures { option_copied result ≡ first_unknown columns.now (function_names function.now) }
 {
     match function {
-        FunctionIR::Unpivot {
-            on,
-            index,
-            variable: _,
-            value: _,
-        } => match unknown_of(on.as_slice(), columns) {
+        FunctionIR::Unpivot { on, index, .. } => match unknown_of(on.as_slice(), columns) {
             Some(name) => Some(name),
             None => unknown_of(index.as_slice(), columns),
         },
@@ -178,7 +173,7 @@ pub(crate) fn unknown_column<'n>(
         | IR::Sort {
             input,
             by: names,
-            options: _,
+            ..
         } => unknown_of(names.as_slice(), &columns_of(schemas, *input)),
         IR::Select { input, exprs } | IR::HStack { input, exprs } => {
             unknown_in_named(exprs.as_slice(), &columns_of(schemas, *input))
@@ -186,13 +181,13 @@ pub(crate) fn unknown_column<'n>(
         IR::MapFunction { input, function } => {
             unknown_in_function(function, &columns_of(schemas, *input))
         }
-        IR::Union { inputs: _ } => None,
+        IR::Union { .. } => None,
         IR::Join {
             left,
             right,
             left_on,
             right_on,
-            options: _,
+            ..
         } => unknown_in_keys(
             &columns_of(schemas, *left),
             &columns_of(schemas, *right),

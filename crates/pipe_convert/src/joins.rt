@@ -33,30 +33,14 @@ fn spec_of(alloc: Global, plan: &CheckedPlan, n: u32) -> Result<Option<Arc<JoinS
             let spec = join_spec(alloc, plan, n, *left, *right, left_on, right_on, options)?;
             Ok(Some(Arc::new(alloc, spec)?))
         }
-        IR::DataFrameScan {
-            frame: _,
-            columns: _,
-        }
-        | IR::Filter {
-            input: _,
-            predicate: _,
-        }
-        | IR::SimpleProjection {
-            input: _,
-            columns: _,
-        }
-        | IR::Select { input: _, exprs: _ }
-        | IR::HStack { input: _, exprs: _ }
-        | IR::MapFunction {
-            input: _,
-            function: _,
-        }
-        | IR::Union { inputs: _ }
-        | IR::Sort {
-            input: _,
-            by: _,
-            options: _,
-        } => Ok(None),
+        IR::DataFrameScan { .. }
+        | IR::Filter { .. }
+        | IR::SimpleProjection { .. }
+        | IR::Select { .. }
+        | IR::HStack { .. }
+        | IR::MapFunction { .. }
+        | IR::Union { .. }
+        | IR::Sort { .. } => Ok(None),
     }
 }
 

@@ -29,33 +29,14 @@ fn node_frame(plan: &CheckedPlan, n: u32, node: &IR) -> Result<DataFrame, AllocE
 {
     match node {
         IR::DataFrameScan { frame, columns } => Ok(scan_frame(plan, n, *frame, columns)?),
-        IR::Filter {
-            input: _,
-            predicate: _,
-        }
-        | IR::SimpleProjection {
-            input: _,
-            columns: _,
-        }
-        | IR::Select { input: _, exprs: _ }
-        | IR::HStack { input: _, exprs: _ }
-        | IR::MapFunction {
-            input: _,
-            function: _,
-        }
-        | IR::Union { inputs: _ }
-        | IR::Join {
-            left: _,
-            right: _,
-            left_on: _,
-            right_on: _,
-            options: _,
-        }
-        | IR::Sort {
-            input: _,
-            by: _,
-            options: _,
-        } => unreachable!(),
+        IR::Filter { .. }
+        | IR::SimpleProjection { .. }
+        | IR::Select { .. }
+        | IR::HStack { .. }
+        | IR::MapFunction { .. }
+        | IR::Union { .. }
+        | IR::Join { .. }
+        | IR::Sort { .. } => unreachable!(),
     }
 }
 
@@ -113,10 +94,7 @@ fn node_source(
 {
     let _ = plan.root();
     match node {
-        IR::DataFrameScan {
-            frame: _,
-            columns: _,
-        } => {
+        IR::DataFrameScan { .. } => {
             let mut rows_left = MOST_ROWS;
             let source = source_at(plan, n, &mut rows_left)?;
             Ok(PhysSource::Frame(source))
@@ -125,32 +103,13 @@ fn node_source(
             let source = union_source(alloc, plan, inputs.as_slice())?;
             Ok(PhysSource::Union(source))
         }
-        IR::Filter {
-            input: _,
-            predicate: _,
-        }
-        | IR::SimpleProjection {
-            input: _,
-            columns: _,
-        }
-        | IR::Select { input: _, exprs: _ }
-        | IR::HStack { input: _, exprs: _ }
-        | IR::MapFunction {
-            input: _,
-            function: _,
-        }
-        | IR::Join {
-            left: _,
-            right: _,
-            left_on: _,
-            right_on: _,
-            options: _,
-        }
-        | IR::Sort {
-            input: _,
-            by: _,
-            options: _,
-        } => unreachable!(),
+        IR::Filter { .. }
+        | IR::SimpleProjection { .. }
+        | IR::Select { .. }
+        | IR::HStack { .. }
+        | IR::MapFunction { .. }
+        | IR::Join { .. }
+        | IR::Sort { .. } => unreachable!(),
     }
 }
 
@@ -169,36 +128,14 @@ fn taken_nodes(alloc: Global, n: u32, node: &IR) -> Result<Vec<u32>, AllocError>
 {
     match node {
         IR::Union { inputs } => Ok(inputs.as_slice().to_vec(alloc)?),
-        IR::DataFrameScan {
-            frame: _,
-            columns: _,
-        }
-        | IR::Filter {
-            input: _,
-            predicate: _,
-        }
-        | IR::SimpleProjection {
-            input: _,
-            columns: _,
-        }
-        | IR::Select { input: _, exprs: _ }
-        | IR::HStack { input: _, exprs: _ }
-        | IR::MapFunction {
-            input: _,
-            function: _,
-        }
-        | IR::Join {
-            left: _,
-            right: _,
-            left_on: _,
-            right_on: _,
-            options: _,
-        }
-        | IR::Sort {
-            input: _,
-            by: _,
-            options: _,
-        } => {
+        IR::DataFrameScan { .. }
+        | IR::Filter { .. }
+        | IR::SimpleProjection { .. }
+        | IR::Select { .. }
+        | IR::HStack { .. }
+        | IR::MapFunction { .. }
+        | IR::Join { .. }
+        | IR::Sort { .. } => {
             let mut nodes = Vec::new(alloc);
             nodes.push(n)?;
             Ok(nodes)

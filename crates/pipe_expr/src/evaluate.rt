@@ -47,11 +47,8 @@ fn apply(
         Expr::GtEq(_, _) => Ok(compare(alloc, rows, left, right, IsGreaterOrEqual)?),
         Expr::And(_, _) => Ok(both(alloc, rows, left, right)?),
         Expr::Or(_, _) => Ok(either(alloc, rows, left, right)?),
-        Expr::Col(_)
-        | Expr::Lit { dtype: _, value: _ }
-        | Expr::Not(_)
-        | Expr::IsNull(_)
-        | Expr::IsNotNull(_) => unreachable!(),
+        Expr::Col(_) | Expr::Lit { .. } | Expr::Not(_) | Expr::IsNull(_) | Expr::IsNotNull(_) =>
+            unreachable!(),
     }
 }
 

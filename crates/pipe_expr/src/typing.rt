@@ -162,7 +162,7 @@ pub fn unknown_name<'e>(expr: &'e Expr, schema: &[Field]) -> Option<&'e Text>
             Some(_) => None,
             None => Some(name),
         },
-        Expr::Lit { dtype: _, value: _ } => None,
+        Expr::Lit { .. } => None,
         Expr::Add(left, right)
         | Expr::Sub(left, right)
         | Expr::Mul(left, right)

@@ -34,7 +34,7 @@ fn has_int128(expr: &Expr) -> bool
 {
     match expr {
         Expr::Col(_) => false,
-        Expr::Lit { dtype, value: _ } => *dtype == DataType::Int128,
+        Expr::Lit { dtype, .. } => *dtype == DataType::Int128,
         Expr::Add(left, right)
         | Expr::Sub(left, right)
         | Expr::Mul(left, right)
@@ -79,38 +79,20 @@ fn node_has_int128(node: &IR) -> bool
     ensures { result ≡ node_has_int128 (node_of node.now) }
 {
     match node {
-        IR::Filter {
-            input: _,
-            predicate,
-        } => has_int128(predicate),
-        IR::Select { input: _, exprs } | IR::HStack { input: _, exprs } => {
+        IR::Filter { predicate, .. } => has_int128(predicate),
+        IR::Select { exprs, .. } | IR::HStack { exprs, .. } => {
             any_named_has_int128(exprs.as_slice())
         }
         IR::Join {
-            left: _,
-            right: _,
             left_on,
             right_on,
-            options: _,
+            ..
         } => any_has_int128(left_on.as_slice()) || any_has_int128(right_on.as_slice()),
-        IR::DataFrameScan {
-            frame: _,
-            columns: _,
-        }
-        | IR::SimpleProjection {
-            input: _,
-            columns: _,
-        }
-        | IR::MapFunction {
-            input: _,
-            function: _,
-        }
-        | IR::Union { inputs: _ }
-        | IR::Sort {
-            input: _,
-            by: _,
-            options: _,
-        } => false,
+        IR::DataFrameScan { .. }
+        | IR::SimpleProjection { .. }
+        | IR::MapFunction { .. }
+        | IR::Union { .. }
+        | IR::Sort { .. } => false,
     }
 }
 

@@ -77,26 +77,12 @@ fn node_operator<H: KeyHasher>(
             let operator = function_operator(alloc, plan, n, *input, function, workers)?;
             Ok(PhysOperator::Function(operator))
         }
-        IR::Union { inputs: _ } => Ok(PhysOperator::Pass(Pass::new("union"))),
-        IR::Join {
-            left: _,
-            right: _,
-            left_on: _,
-            right_on: _,
-            options: _,
-        } => {
+        IR::Union { .. } => Ok(PhysOperator::Pass(Pass::new("union"))),
+        IR::Join { .. } => {
             let place = place_at(plan, specs, n)?;
             Ok(PhysOperator::PlaceHolder(place))
         }
-        IR::DataFrameScan {
-            frame: _,
-            columns: _,
-        }
-        | IR::Sort {
-            input: _,
-            by: _,
-            options: _,
-        } => unreachable!(),
+        IR::DataFrameScan { .. } | IR::Sort { .. } => unreachable!(),
     }
 }
 

@@ -65,32 +65,14 @@ fn sort_at(alloc: Global, plan: &CheckedPlan, n: u32, node: &IR) -> Result<SortS
     let _ = plan.root();
     match node {
         IR::Sort { input, by, options } => { Ok(sort_sink(alloc, plan, n, *input, by, options)?) }
-        IR::DataFrameScan {
-            frame: _,
-            columns: _,
-        }
-        | IR::Filter {
-            input: _,
-            predicate: _,
-        }
-        | IR::SimpleProjection {
-            input: _,
-            columns: _,
-        }
-        | IR::Select { input: _, exprs: _ }
-        | IR::HStack { input: _, exprs: _ }
-        | IR::MapFunction {
-            input: _,
-            function: _,
-        }
-        | IR::Union { inputs: _ }
-        | IR::Join {
-            left: _,
-            right: _,
-            left_on: _,
-            right_on: _,
-            options: _,
-        } => unreachable!(),
+        IR::DataFrameScan { .. }
+        | IR::Filter { .. }
+        | IR::SimpleProjection { .. }
+        | IR::Select { .. }
+        | IR::HStack { .. }
+        | IR::MapFunction { .. }
+        | IR::Union { .. }
+        | IR::Join { .. } => unreachable!(),
     }
 }
 

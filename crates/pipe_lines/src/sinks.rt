@@ -24,37 +24,15 @@ fn node_place(node: &IR, n: u32) -> Option<SinkAt>
     ensures { result ≡ own_sink (node_of node.now) n }
 {
     match node {
-        IR::Sort {
-            input: _,
-            by: _,
-            options: _,
-        } => Some(SinkAt::Sort(n)),
-        IR::Join {
-            left: _,
-            right: _,
-            left_on: _,
-            right_on: _,
-            options: _,
-        } => Some(SinkAt::Build(n)),
-        IR::DataFrameScan {
-            frame: _,
-            columns: _,
-        }
-        | IR::Filter {
-            input: _,
-            predicate: _,
-        }
-        | IR::SimpleProjection {
-            input: _,
-            columns: _,
-        }
-        | IR::Select { input: _, exprs: _ }
-        | IR::HStack { input: _, exprs: _ }
-        | IR::MapFunction {
-            input: _,
-            function: _,
-        }
-        | IR::Union { inputs: _ } => None,
+        IR::Sort { .. } => Some(SinkAt::Sort(n)),
+        IR::Join { .. } => Some(SinkAt::Build(n)),
+        IR::DataFrameScan { .. }
+        | IR::Filter { .. }
+        | IR::SimpleProjection { .. }
+        | IR::Select { .. }
+        | IR::HStack { .. }
+        | IR::MapFunction { .. }
+        | IR::Union { .. } => None,
     }
 }
 

@@ -82,34 +82,12 @@ fn needs_all(whole: bool, node: &IR, input: u32) -> bool
     ensures { result ≡ needed_whole whole (node_of node.now) input }
 {
     match node {
-        IR::DataFrameScan {
-            frame: _,
-            columns: _,
-        }
-        | IR::SimpleProjection {
-            input: _,
-            columns: _,
-        }
-        | IR::Select { input: _, exprs: _ } => false,
-        IR::Filter {
-            input: _,
-            predicate: _,
-        }
-        | IR::HStack { input: _, exprs: _ } => whole,
-        IR::MapFunction { input: _, function } => whole && is_rename(function),
-        IR::Union { inputs: _ } => true,
-        IR::Join {
-            left,
-            right: _,
-            left_on: _,
-            right_on: _,
-            options,
-        } => whole && (input == *left || is_pairing(options.how)),
-        IR::Sort {
-            input: _,
-            by: _,
-            options,
-        } => sort_needs_all(whole, options),
+        IR::DataFrameScan { .. } | IR::SimpleProjection { .. } | IR::Select { .. } => false,
+        IR::Filter { .. } | IR::HStack { .. } => whole,
+        IR::MapFunction { function, .. } => whole && is_rename(function),
+        IR::Union { .. } => true,
+        IR::Join { left, options, .. } => whole && (input == *left || is_pairing(options.how)),
+        IR::Sort { options, .. } => sort_needs_all(whole, options),
     }
 }
 

@@ -368,12 +368,12 @@ fn kept_function(
     ensures { IfOk result (λ kept. kept ≡ kept_function_of function.now needed.now names.now) }
 {
     match function {
-        FunctionIR::Unpivot {
-            on,
-            index,
-            variable: _,
-            value: _,
-        } => kept_either(alloc, names, on.as_slice(), index.as_slice()),
+        FunctionIR::Unpivot { on, index, .. } => kept_either(
+            alloc,
+            names,
+            on.as_slice(),
+            index.as_slice(),
+        ),
         FunctionIR::Rename { pairs } => {
             let pairs = NameIndex::of(alloc, pairs.as_slice())?;
             kept_renamed(alloc, names, needed, &pairs)
@@ -394,31 +394,22 @@ fn raw_need(
 {
     let names = names_at(lists, input);
     match node {
-        IR::DataFrameScan {
-            frame: _,
-            columns: _,
-        } => Ok(List::new(alloc)),
-        IR::Filter {
-            input: _,
-            predicate,
-        } => {
+        IR::DataFrameScan { .. } => Ok(List::new(alloc)),
+        IR::Filter { predicate, .. } => {
             let read = columns_of(alloc, predicate)?;
             kept_either(alloc, names, needed, read.as_slice())
         }
-        IR::SimpleProjection {
-            input: _,
-            columns: _,
-        } => kept_among(alloc, names, needed),
-        IR::Select { input: _, exprs } => {
+        IR::SimpleProjection { .. } => kept_among(alloc, names, needed),
+        IR::Select { exprs, .. } => {
             let read = columns_read(alloc, needed, exprs.as_slice())?;
             kept_among(alloc, names, read.as_slice())
         }
-        IR::HStack { input: _, exprs } => {
+        IR::HStack { exprs, .. } => {
             let read = columns_read(alloc, needed, exprs.as_slice())?;
             kept_either(alloc, names, needed, read.as_slice())
         }
-        IR::MapFunction { input: _, function } => kept_function(alloc, names, needed, function),
-        IR::Union { inputs: _ } => copied(alloc, names),
+        IR::MapFunction { function, .. } => kept_function(alloc, names, needed, function),
+        IR::Union { .. } => copied(alloc, names),
         IR::Join {
             left,
             right,
@@ -438,11 +429,7 @@ fn raw_need(
                 kept_right(alloc, lists, left, names, right_on, needed, options)
             }
         }
-        IR::Sort {
-            input: _,
-            by,
-            options,
-        } => kept_sorted(alloc, names, needed, by.as_slice(), options),
+        IR::Sort { by, options, .. } => kept_sorted(alloc, names, needed, by.as_slice(), options),
     }
 }
 

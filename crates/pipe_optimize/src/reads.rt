@@ -19,7 +19,7 @@ pub(crate) fn push_columns(read: &mut List<Text>, expr: &Expr) -> Result<(), All
 {
     match expr {
         Expr::Col(name) => read.push(name.try_clone()?),
-        Expr::Lit { dtype: _, value: _ } => Ok(()),
+        Expr::Lit { .. } => Ok(()),
         Expr::Add(left, right)
         | Expr::Sub(left, right)
         | Expr::Mul(left, right)

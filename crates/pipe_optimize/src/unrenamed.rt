@@ -22,13 +22,8 @@ pub(crate) fn is_rename(function: &FunctionIR) -> bool
     ensures { result ≡ renames function.now }
 {
     match function {
-        FunctionIR::Unpivot {
-            on: _,
-            index: _,
-            variable: _,
-            value: _,
-        } => false,
-        FunctionIR::Rename { pairs: _ } => true,
+        FunctionIR::Unpivot { .. } => false,
+        FunctionIR::Rename { .. } => true,
     }
 }
 
@@ -37,34 +32,15 @@ fn is_renaming(node: &IR) -> bool
     ensures { result ≡ renames_columns (node_of node.now) }
 {
     match node {
-        IR::MapFunction { input: _, function } => is_rename(function),
-        IR::DataFrameScan {
-            frame: _,
-            columns: _,
-        }
-        | IR::Filter {
-            input: _,
-            predicate: _,
-        }
-        | IR::SimpleProjection {
-            input: _,
-            columns: _,
-        }
-        | IR::Select { input: _, exprs: _ }
-        | IR::HStack { input: _, exprs: _ }
-        | IR::Union { inputs: _ }
-        | IR::Join {
-            left: _,
-            right: _,
-            left_on: _,
-            right_on: _,
-            options: _,
-        }
-        | IR::Sort {
-            input: _,
-            by: _,
-            options: _,
-        } => false,
+        IR::MapFunction { function, .. } => is_rename(function),
+        IR::DataFrameScan { .. }
+        | IR::Filter { .. }
+        | IR::SimpleProjection { .. }
+        | IR::Select { .. }
+        | IR::HStack { .. }
+        | IR::Union { .. }
+        | IR::Join { .. }
+        | IR::Sort { .. } => false,
     }
 }
 

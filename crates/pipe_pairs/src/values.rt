@@ -172,7 +172,7 @@ fn of_operands(expr: &Expr, a: &AnyValue, b: &AnyValue) -> AnyValue
         Expr::And(_, _) => both(a, b),
         Expr::Or(_, _) => either(a, b),
         Expr::Col(_) => AnyValue::Null,
-        Expr::Lit { dtype: _, value: _ } => AnyValue::Null,
+        Expr::Lit { .. } => AnyValue::Null,
         Expr::Not(_) | Expr::IsNull(_) | Expr::IsNotNull(_) => AnyValue::Null,
     }
 }
@@ -183,7 +183,7 @@ pub fn value_at(expr: &Expr, schema: &[Field], row: &[AnyValue]) -> Result<AnyVa
 {
     match expr {
         Expr::Col(name) => cell_named(schema, row, name),
-        Expr::Lit { dtype: _, value } => value.try_clone(),
+        Expr::Lit { value, .. } => value.try_clone(),
         Expr::Add(left, right)
         | Expr::Sub(left, right)
         | Expr::Mul(left, right)

@@ -103,12 +103,7 @@ fn through<'a>(input: &'a Schema, function: &'a FunctionIR, name: &'a Text) -> O
     ensures { option_copied result ≡ function_below input.now function.now name.now }
 {
     match function {
-        FunctionIR::Unpivot {
-            on: _,
-            index,
-            variable: _,
-            value: _,
-        } => name_among(index.as_slice(), name),
+        FunctionIR::Unpivot { index, .. } => name_among(index.as_slice(), name),
         FunctionIR::Rename { pairs } => Some(former(pairs.as_slice(), input, name)),
     }
 }
@@ -118,34 +113,15 @@ fn column_below<'a>(input: &'a Schema, node: &'a IR, name: &'a Text) -> Option<&
     ensures { option_copied result ≡ name_below input.now (node_of node.now) name.now }
 {
     match node {
-        IR::DataFrameScan {
-            frame: _,
-            columns: _,
-        } => None,
-        IR::Filter {
-            input: _,
-            predicate: _,
-        } => Some(name),
-        IR::SimpleProjection {
-            input: _,
-            columns: _,
-        } => Some(name),
-        IR::Select { input: _, exprs } => plain(exprs.as_slice(), name),
-        IR::HStack { input: _, exprs } => stacked(exprs.as_slice(), name),
-        IR::MapFunction { input: _, function } => through(input, function, name),
-        IR::Union { inputs: _ } => Some(name),
-        IR::Join {
-            left: _,
-            right: _,
-            left_on: _,
-            right_on: _,
-            options: _,
-        } => name_in(input, name),
-        IR::Sort {
-            input: _,
-            by: _,
-            options: _,
-        } => Some(name),
+        IR::DataFrameScan { .. } => None,
+        IR::Filter { .. } => Some(name),
+        IR::SimpleProjection { .. } => Some(name),
+        IR::Select { exprs, .. } => plain(exprs.as_slice(), name),
+        IR::HStack { exprs, .. } => stacked(exprs.as_slice(), name),
+        IR::MapFunction { function, .. } => through(input, function, name),
+        IR::Union { .. } => Some(name),
+        IR::Join { .. } => name_in(input, name),
+        IR::Sort { .. } => Some(name),
     }
 }
 

@@ -43,7 +43,7 @@ pub(crate) fn one(
 {
     let whole = match cut {
         Wish::Split => 0,
-        Wish::Key { key: _, columns: _ } => 0,
+        Wish::Key { .. } => 0,
         Wish::Whole => rows as u128,
     };
     let mut cuts = List::new(alloc);

@@ -58,11 +58,7 @@ pub(crate) fn gather_value(alloc: Global, plan: &CheckedPlan) -> Result<Value, A
         ≡ nodes_spelling (gather_nodes (node_at (plan_of plan.now.arena).nodes plan.now.root))) }
 {
     match node_of_plan(plan, plan.root()) {
-        IR::Sort {
-            input: _,
-            by,
-            options,
-        } => sorted_value(alloc, by, options),
+        IR::Sort { by, options, .. } => sorted_value(alloc, by, options),
         _ => Ok(Value::Null),
     }
 }

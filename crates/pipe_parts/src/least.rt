@@ -277,7 +277,7 @@ fn least_sorted(
         None => least(alloc, plan, sizes, input, wish),
         Some(_) => match wish {
             Wish::Split => Ok(None),
-            Wish::Key { key: _, columns: _ } => Ok(None),
+            Wish::Key { .. } => Ok(None),
             Wish::Whole => least(alloc, plan, sizes, input, wish),
         },
     }
@@ -300,24 +300,14 @@ fn least(
 {
     let node = node_of_plan(plan, n);
     match node {
-        IR::DataFrameScan { frame, columns: _ } => one(
-            alloc,
-            n,
-            wish,
-            rows_of_frame(sizes, *frame),
-        ),
-        IR::Filter {
-            input,
-            predicate: _,
-        } => least_below(alloc, plan, sizes, n, node, *input, wish),
-        IR::SimpleProjection { input, columns: _ } => {
+        IR::DataFrameScan { frame, .. } => one(alloc, n, wish, rows_of_frame(sizes, *frame)),
+        IR::Filter { input, .. } => least_below(alloc, plan, sizes, n, node, *input, wish),
+        IR::SimpleProjection { input, .. } => {
             least_below(alloc, plan, sizes, n, node, *input, wish)
         }
-        IR::Select { input, exprs: _ } => least_below(alloc, plan, sizes, n, node, *input, wish),
-        IR::HStack { input, exprs: _ } => least_below(alloc, plan, sizes, n, node, *input, wish),
-        IR::MapFunction { input, function: _ } => {
-            least_below(alloc, plan, sizes, n, node, *input, wish)
-        }
+        IR::Select { input, .. } => least_below(alloc, plan, sizes, n, node, *input, wish),
+        IR::HStack { input, .. } => least_below(alloc, plan, sizes, n, node, *input, wish),
+        IR::MapFunction { input, .. } => { least_below(alloc, plan, sizes, n, node, *input, wish) }
         IR::Union { inputs } => least_all(alloc, plan, sizes, n, inputs.as_slice(), wish),
         IR::Join {
             left,
@@ -336,11 +326,15 @@ fn least(
             };
             least_join(alloc, plan, sizes, join, node, wish)
         }
-        IR::Sort {
-            input,
-            by: _,
-            options,
-        } => least_sorted(alloc, plan, sizes, n, *input, options.slice, wish),
+        IR::Sort { input, options, .. } => least_sorted(
+            alloc,
+            plan,
+            sizes,
+            n,
+            *input,
+            options.slice,
+            wish,
+        ),
     }
 }
 
@@ -350,11 +344,7 @@ pub fn parts_root(plan: &CheckedPlan) -> u32
     ensures under { is_under (plan_of plan.now.arena).nodes plan.now.root result ≡ true }
 {
     match node_of_plan(plan, plan.root()) {
-        IR::Sort {
-            input,
-            by: _,
-            options: _,
-        } => *input,
+        IR::Sort { input, .. } => *input,
         _ => plan.root(),
     }
 }

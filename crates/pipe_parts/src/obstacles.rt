@@ -47,7 +47,7 @@ fn reason_joined(how: JoinType, wish: &Wish) -> Why
     match how {
         JoinType::Full => match wish {
             Wish::Split => Why::KeysNotColumns,
-            Wish::Key { key: _, columns: _ } => Why::FullUnderKey,
+            Wish::Key { .. } => Why::FullUnderKey,
             Wish::Whole => Why::NoPlainColumn,
         },
         JoinType::Inner | JoinType::Left | JoinType::Cross | JoinType::Semi | JoinType::Anti =>
@@ -60,37 +60,15 @@ fn reason(node: &IR, wish: &Wish) -> Why
     ensures { result ≡ why_of (node_of node.now) wish.now }
 {
     match node {
-        IR::Sort {
-            input: _,
-            by: _,
-            options: _,
-        } => Why::SlicedSort,
-        IR::Join {
-            left: _,
-            right: _,
-            left_on: _,
-            right_on: _,
-            options,
-        } => reason_joined(options.how, wish),
-        IR::DataFrameScan {
-            frame: _,
-            columns: _,
-        } => Why::NoPlainColumn,
-        IR::Filter {
-            input: _,
-            predicate: _,
-        } => Why::NoPlainColumn,
-        IR::SimpleProjection {
-            input: _,
-            columns: _,
-        } => Why::NoPlainColumn,
-        IR::Select { input: _, exprs: _ } => Why::NoPlainColumn,
-        IR::HStack { input: _, exprs: _ } => Why::NoPlainColumn,
-        IR::MapFunction {
-            input: _,
-            function: _,
-        } => Why::NoPlainColumn,
-        IR::Union { inputs: _ } => Why::NoPlainColumn,
+        IR::Sort { .. } => Why::SlicedSort,
+        IR::Join { options, .. } => reason_joined(options.how, wish),
+        IR::DataFrameScan { .. } => Why::NoPlainColumn,
+        IR::Filter { .. } => Why::NoPlainColumn,
+        IR::SimpleProjection { .. } => Why::NoPlainColumn,
+        IR::Select { .. } => Why::NoPlainColumn,
+        IR::HStack { .. } => Why::NoPlainColumn,
+        IR::MapFunction { .. } => Why::NoPlainColumn,
+        IR::Union { .. } => Why::NoPlainColumn,
     }
 }
 
@@ -99,31 +77,15 @@ fn inputs(alloc: Global, node: &IR) -> Result<Vec<u32>, AllocError>
     ensures { IfOk result (λ numbers. numbers.items ≡ inputs_of (node_of node.now)) }
 {
     match node {
-        IR::DataFrameScan {
-            frame: _,
-            columns: _,
-        } => Ok(Vec::new(alloc)),
-        IR::Filter {
-            input,
-            predicate: _,
-        } => Ok(vec![in alloc; *input]?),
-        IR::SimpleProjection { input, columns: _ } => Ok(vec![in alloc; *input]?),
-        IR::Select { input, exprs: _ } => Ok(vec![in alloc; *input]?),
-        IR::HStack { input, exprs: _ } => Ok(vec![in alloc; *input]?),
-        IR::MapFunction { input, function: _ } => Ok(vec![in alloc; *input]?),
+        IR::DataFrameScan { .. } => Ok(Vec::new(alloc)),
+        IR::Filter { input, .. } => Ok(vec![in alloc; *input]?),
+        IR::SimpleProjection { input, .. } => Ok(vec![in alloc; *input]?),
+        IR::Select { input, .. } => Ok(vec![in alloc; *input]?),
+        IR::HStack { input, .. } => Ok(vec![in alloc; *input]?),
+        IR::MapFunction { input, .. } => Ok(vec![in alloc; *input]?),
         IR::Union { inputs } => Ok(inputs.as_slice().to_vec(alloc)?),
-        IR::Join {
-            left,
-            right,
-            left_on: _,
-            right_on: _,
-            options: _,
-        } => Ok(vec![in alloc; *left, *right]?),
-        IR::Sort {
-            input,
-            by: _,
-            options: _,
-        } => Ok(vec![in alloc; *input]?),
+        IR::Join { left, right, .. } => Ok(vec![in alloc; *left, *right]?),
+        IR::Sort { input, .. } => Ok(vec![in alloc; *input]?),
     }
 }
 

@@ -24,7 +24,7 @@ fn frame_of(node: &IR) -> u32
     ensures { result ≡ frame_in (node_of node.now) }
 {
     match node {
-        IR::DataFrameScan { frame, columns: _ } => *frame,
+        IR::DataFrameScan { frame, .. } => *frame,
         _ => 0,
     }
 }

@@ -175,7 +175,7 @@ fn ways_sorted(
 {
     let whole = match wish {
         Wish::Split => false,
-        Wish::Key { key: _, columns: _ } => false,
+        Wish::Key { .. } => false,
         Wish::Whole => true,
     };
     if slice.is_some() && !whole {
@@ -199,22 +199,12 @@ pub(crate) fn ways_of(
         IfOk result (λ made. made ≡ ways input n x wish.now) }
 {
     match node {
-        IR::DataFrameScan {
-            frame: _,
-            columns: _,
-        } => one_way(alloc, List::new(alloc)),
-        IR::Filter {
-            input,
-            predicate: _,
-        } => ways_below(alloc, plan.schema(*input), node, wish),
-        IR::SimpleProjection { input, columns: _ } => {
-            ways_below(alloc, plan.schema(*input), node, wish)
-        }
-        IR::Select { input, exprs: _ } => ways_below(alloc, plan.schema(*input), node, wish),
-        IR::HStack { input, exprs: _ } => ways_below(alloc, plan.schema(*input), node, wish),
-        IR::MapFunction { input, function: _ } => {
-            ways_below(alloc, plan.schema(*input), node, wish)
-        }
+        IR::DataFrameScan { .. } => one_way(alloc, List::new(alloc)),
+        IR::Filter { input, .. } => ways_below(alloc, plan.schema(*input), node, wish),
+        IR::SimpleProjection { input, .. } => { ways_below(alloc, plan.schema(*input), node, wish) }
+        IR::Select { input, .. } => ways_below(alloc, plan.schema(*input), node, wish),
+        IR::HStack { input, .. } => ways_below(alloc, plan.schema(*input), node, wish),
+        IR::MapFunction { input, .. } => { ways_below(alloc, plan.schema(*input), node, wish) }
         IR::Union { inputs } => {
             let way = alike(alloc, wish, inputs.as_slice())?;
             one_way(alloc, way)
@@ -236,10 +226,6 @@ pub(crate) fn ways_of(
             };
             ways_joined(alloc, plan.schema(*left), node, join, wish)
         }
-        IR::Sort {
-            input: _,
-            by: _,
-            options,
-        } => ways_sorted(alloc, options.slice, wish),
+        IR::Sort { options, .. } => ways_sorted(alloc, options.slice, wish),
     }
 }

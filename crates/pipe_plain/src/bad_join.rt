@@ -115,29 +115,13 @@ pub(crate) fn is_node_bad_join(alloc: Global, node: &IR) -> Result<bool, AllocEr
             right_on,
             options,
         } => is_join_bad(alloc, *left, *right, left_on, right_on, options),
-        IR::DataFrameScan {
-            frame: _,
-            columns: _,
-        } => Ok(false),
-        IR::Filter {
-            input: _,
-            predicate: _,
-        } => Ok(false),
-        IR::SimpleProjection {
-            input: _,
-            columns: _,
-        } => Ok(false),
-        IR::Select { input: _, exprs: _ } => Ok(false),
-        IR::HStack { input: _, exprs: _ } => Ok(false),
-        IR::MapFunction {
-            input: _,
-            function: _,
-        } => Ok(false),
-        IR::Union { inputs: _ } => Ok(false),
-        IR::Sort {
-            input: _,
-            by: _,
-            options: _,
-        } => Ok(false),
+        IR::DataFrameScan { .. } => Ok(false),
+        IR::Filter { .. } => Ok(false),
+        IR::SimpleProjection { .. } => Ok(false),
+        IR::Select { .. } => Ok(false),
+        IR::HStack { .. } => Ok(false),
+        IR::MapFunction { .. } => Ok(false),
+        IR::Union { .. } => Ok(false),
+        IR::Sort { .. } => Ok(false),
     }
 }

@@ -142,27 +142,14 @@ fn is_void_node(frames: &[DataFrame], node: &IR) -> bool
         IR::DataFrameScan { frame, columns } => {
             frames.len() <= *frame as usize || is_nothing_named(columns)
         }
-        IR::SimpleProjection { input: _, columns } => is_none_there(columns.as_slice()),
-        IR::Select { input: _, exprs } => is_none_there(exprs.as_slice()),
+        IR::SimpleProjection { columns, .. } => is_none_there(columns.as_slice()),
+        IR::Select { exprs, .. } => is_none_there(exprs.as_slice()),
         IR::Union { inputs } => is_none_there(inputs.as_slice()),
-        IR::MapFunction { input: _, function } => is_void_function(function),
-        IR::Filter {
-            input: _,
-            predicate: _,
-        } => false,
-        IR::HStack { input: _, exprs: _ } => false,
-        IR::Join {
-            left: _,
-            right: _,
-            left_on: _,
-            right_on: _,
-            options: _,
-        } => false,
-        IR::Sort {
-            input: _,
-            by: _,
-            options: _,
-        } => false,
+        IR::MapFunction { function, .. } => is_void_function(function),
+        IR::Filter { .. } => false,
+        IR::HStack { .. } => false,
+        IR::Join { .. } => false,
+        IR::Sort { .. } => false,
     }
 }
 
@@ -171,13 +158,8 @@ fn is_void_function(function: &FunctionIR) -> bool
     ensures { result ≡ is_function_void function.now }
 {
     match function {
-        FunctionIR::Unpivot {
-            on,
-            index: _,
-            variable: _,
-            value: _,
-        } => is_none_there(on.as_slice()),
-        FunctionIR::Rename { pairs: _ } => false,
+        FunctionIR::Unpivot { on, .. } => is_none_there(on.as_slice()),
+        FunctionIR::Rename { .. } => false,
     }
 }
 

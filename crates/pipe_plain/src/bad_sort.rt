@@ -51,31 +51,13 @@ pub(crate) fn is_node_bad_sort(node: &IR) -> Result<bool, AllocError>
 {
     match node {
         IR::Sort { input, by, options } => is_sort_bad(*input, by, options),
-        IR::DataFrameScan {
-            frame: _,
-            columns: _,
-        } => Ok(false),
-        IR::Filter {
-            input: _,
-            predicate: _,
-        } => Ok(false),
-        IR::SimpleProjection {
-            input: _,
-            columns: _,
-        } => Ok(false),
-        IR::Select { input: _, exprs: _ } => Ok(false),
-        IR::HStack { input: _, exprs: _ } => Ok(false),
-        IR::MapFunction {
-            input: _,
-            function: _,
-        } => Ok(false),
-        IR::Union { inputs: _ } => Ok(false),
-        IR::Join {
-            left: _,
-            right: _,
-            left_on: _,
-            right_on: _,
-            options: _,
-        } => Ok(false),
+        IR::DataFrameScan { .. } => Ok(false),
+        IR::Filter { .. } => Ok(false),
+        IR::SimpleProjection { .. } => Ok(false),
+        IR::Select { .. } => Ok(false),
+        IR::HStack { .. } => Ok(false),
+        IR::MapFunction { .. } => Ok(false),
+        IR::Union { .. } => Ok(false),
+        IR::Join { .. } => Ok(false),
     }
 }

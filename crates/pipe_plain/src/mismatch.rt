@@ -143,13 +143,8 @@ fn is_function_mistyped(schema: &[Field], function: &FunctionIR) -> bool
     ensures { result ≡ is_mistyped_function schema.now function.now }
 {
     match function {
-        FunctionIR::Unpivot {
-            on,
-            index: _,
-            variable: _,
-            value: _,
-        } => do_columns_differ(schema, on.as_slice()),
-        FunctionIR::Rename { pairs: _ } => false,
+        FunctionIR::Unpivot { on, .. } => do_columns_differ(schema, on.as_slice()),
+        FunctionIR::Rename { .. } => false,
     }
 }
 
@@ -185,24 +180,14 @@ pub(crate) fn is_node_mistyped(schemas: &[List<Field>], node: &IR) -> bool
             right,
             left_on,
             right_on,
-            options: _,
+            ..
         } => {
             let left = fields_at(schemas, *left);
             let right = fields_at(schemas, *right);
             are_keys_mistyped(left, right, left_on.as_slice(), right_on.as_slice())
         }
-        IR::DataFrameScan {
-            frame: _,
-            columns: _,
-        } => false,
-        IR::SimpleProjection {
-            input: _,
-            columns: _,
-        } => false,
-        IR::Sort {
-            input: _,
-            by: _,
-            options: _,
-        } => false,
+        IR::DataFrameScan { .. } => false,
+        IR::SimpleProjection { .. } => false,
+        IR::Sort { .. } => false,
     }
 }

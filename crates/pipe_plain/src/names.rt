@@ -56,7 +56,7 @@ fn columns(alloc: Global, expr: &Expr) -> Result<List<Text>, AllocError>
 {
     match expr {
         Expr::Col(name) => one_name(alloc, name),
-        Expr::Lit { dtype: _, value: _ } => Ok(List::new(alloc)),
+        Expr::Lit { .. } => Ok(List::new(alloc)),
         Expr::Add(left, right)
         | Expr::Sub(left, right)
         | Expr::Mul(left, right)
@@ -111,12 +111,7 @@ fn names_of_function(alloc: Global, function: &FunctionIR) -> Result<List<Text>,
     ensures { IfOk result (λ names. names ≡ function_names function.now) }
 {
     match function {
-        FunctionIR::Unpivot {
-            on,
-            index,
-            variable: _,
-            value: _,
-        } => {
+        FunctionIR::Unpivot { on, index, .. } => {
             let mut names = on.try_clone()?;
             push_names(&mut names, index.as_slice())?;
             Ok(names)
@@ -233,23 +228,19 @@ pub(crate) fn unknown(
         IR::MapFunction { input, function } => {
             missing_in_function(alloc, fields_at(schemas, *input), function)
         }
-        IR::Union { inputs: _ } => Ok(None),
+        IR::Union { .. } => Ok(None),
         IR::Join {
             left,
             right,
             left_on,
             right_on,
-            options: _,
+            ..
         } => {
             let left = fields_at(schemas, *left);
             let right = fields_at(schemas, *right);
             missing_keys(alloc, left, right, left_on.as_slice(), right_on.as_slice())
         }
-        IR::Sort {
-            input,
-            by,
-            options: _,
-        } => first_missing(fields_at(schemas, *input), by.as_slice()),
+        IR::Sort { input, by, .. } => first_missing(fields_at(schemas, *input), by.as_slice()),
     }
 }
 
@@ -320,12 +311,7 @@ fn function_once(alloc: Global, function: &FunctionIR) -> Result<List<Text>, All
     ensures { IfOk result (λ names. names ≡ once_named function.now) }
 {
     match function {
-        FunctionIR::Unpivot {
-            on,
-            index: _,
-            variable: _,
-            value: _,
-        } => Ok(on.try_clone()?),
+        FunctionIR::Unpivot { on, .. } => Ok(on.try_clone()?),
         FunctionIR::Rename { pairs } => Ok(renamed_names(alloc, pairs.as_slice())?),
     }
 }
@@ -335,34 +321,15 @@ fn once(alloc: Global, node: &IR) -> Result<List<Text>, AllocError>
     ensures { IfOk result (λ names. names ≡ once_names (node_of node.now)) }
 {
     match node {
-        IR::HStack { input: _, exprs } => Ok(expr_names(alloc, exprs.as_slice())?),
-        IR::MapFunction { input: _, function } => Ok(function_once(alloc, function)?),
-        IR::DataFrameScan {
-            frame: _,
-            columns: _,
-        } => Ok(List::new(alloc)),
-        IR::Filter {
-            input: _,
-            predicate: _,
-        } => Ok(List::new(alloc)),
-        IR::SimpleProjection {
-            input: _,
-            columns: _,
-        } => Ok(List::new(alloc)),
-        IR::Select { input: _, exprs: _ } => Ok(List::new(alloc)),
-        IR::Union { inputs: _ } => Ok(List::new(alloc)),
-        IR::Join {
-            left: _,
-            right: _,
-            left_on: _,
-            right_on: _,
-            options: _,
-        } => Ok(List::new(alloc)),
-        IR::Sort {
-            input: _,
-            by: _,
-            options: _,
-        } => Ok(List::new(alloc)),
+        IR::HStack { exprs, .. } => Ok(expr_names(alloc, exprs.as_slice())?),
+        IR::MapFunction { function, .. } => Ok(function_once(alloc, function)?),
+        IR::DataFrameScan { .. } => Ok(List::new(alloc)),
+        IR::Filter { .. } => Ok(List::new(alloc)),
+        IR::SimpleProjection { .. } => Ok(List::new(alloc)),
+        IR::Select { .. } => Ok(List::new(alloc)),
+        IR::Union { .. } => Ok(List::new(alloc)),
+        IR::Join { .. } => Ok(List::new(alloc)),
+        IR::Sort { .. } => Ok(List::new(alloc)),
     }
 }
 

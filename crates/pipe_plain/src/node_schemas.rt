@@ -101,10 +101,7 @@ pub(crate) fn fields_of_node(
         IR::DataFrameScan { frame, columns } => {
             scanned_fields(alloc, frame_fields(frames, *frame), columns)
         }
-        IR::Filter {
-            input,
-            predicate: _,
-        } => copied_fields(alloc, fields_at(schemas, *input)),
+        IR::Filter { input, .. } => copied_fields(alloc, fields_at(schemas, *input)),
         IR::SimpleProjection { input, columns } => {
             named_fields(alloc, fields_at(schemas, *input), columns.as_slice())
         }
@@ -130,11 +127,7 @@ pub(crate) fn fields_of_node(
                 &sides_over(schemas, *left, *right, left_on, right_on, options),
             )
         }
-        IR::Sort {
-            input,
-            by: _,
-            options: _,
-        } => copied_fields(alloc, fields_at(schemas, *input)),
+        IR::Sort { input, .. } => copied_fields(alloc, fields_at(schemas, *input)),
     }
 }
 

@@ -24,35 +24,19 @@ pub(crate) fn inputs(alloc: Global, node: &IR) -> Result<List<u32>, AllocError>
     ensures { IfOk result (λ inputs. inputs ≡ inputs_of (node_of node.now)) }
 {
     match node {
-        IR::DataFrameScan {
-            frame: _,
-            columns: _,
-        } => Ok(List::new(alloc)),
-        IR::Filter {
-            input,
-            predicate: _,
-        } => one(alloc, *input),
-        IR::SimpleProjection { input, columns: _ } => one(alloc, *input),
-        IR::Select { input, exprs: _ } => one(alloc, *input),
-        IR::HStack { input, exprs: _ } => one(alloc, *input),
-        IR::MapFunction { input, function: _ } => one(alloc, *input),
+        IR::DataFrameScan { .. } => Ok(List::new(alloc)),
+        IR::Filter { input, .. } => one(alloc, *input),
+        IR::SimpleProjection { input, .. } => one(alloc, *input),
+        IR::Select { input, .. } => one(alloc, *input),
+        IR::HStack { input, .. } => one(alloc, *input),
+        IR::MapFunction { input, .. } => one(alloc, *input),
         IR::Union { inputs } => inputs.try_clone(),
-        IR::Join {
-            left,
-            right,
-            left_on: _,
-            right_on: _,
-            options: _,
-        } => {
+        IR::Join { left, right, .. } => {
             let mut inputs = one(alloc, *left)?;
             inputs.push(*right)?;
             Ok(inputs)
         }
-        IR::Sort {
-            input,
-            by: _,
-            options: _,
-        } => one(alloc, *input),
+        IR::Sort { input, .. } => one(alloc, *input),
     }
 }
 

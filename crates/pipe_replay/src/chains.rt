@@ -18,18 +18,9 @@ fn is_build_closed(marks: &[bool], world: &Progress, plan: &StagedPlan, k: usize
 {
     match plan.stage(k) {
         Stage::Scan(_) => true,
-        Stage::Each {
-            input: _,
-            schema: _,
-            op: _,
-        } => true,
+        Stage::Each { .. } => true,
         Stage::Union(_) => true,
-        Stage::Sort {
-            input: _,
-            schema: _,
-            by: _,
-            options: _,
-        } => true,
+        Stage::Sort { .. } => true,
         Stage::Joined(join) => {
             !is_marked(marks, join.probe as usize) || world.is_closed(join.build as usize)
         },

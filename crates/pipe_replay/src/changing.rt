@@ -64,18 +64,9 @@ pub(crate) fn mark(
 {
     match plan.stage(k) {
         Stage::Scan(_) => Ok(()),
-        Stage::Each {
-            input: _,
-            schema: _,
-            op: _,
-        } => Ok(()),
+        Stage::Each { .. } => Ok(()),
         Stage::Union(_) => Ok(()),
-        Stage::Sort {
-            input: _,
-            schema: _,
-            by: _,
-            options: _,
-        } => Ok(()),
+        Stage::Sort { .. } => Ok(()),
         Stage::Joined(join) => {
             let mut keys = List::new(alloc);
             keys.push(key.try_clone()?)?;

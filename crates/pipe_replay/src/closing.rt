@@ -105,18 +105,9 @@ fn is_probe_built(world: &Progress, t: usize, plan: &StagedPlan, k: usize) -> bo
 {
     match plan.stage(k) {
         Stage::Scan(_) => true,
-        Stage::Each {
-            input: _,
-            schema: _,
-            op: _,
-        } => true,
+        Stage::Each { .. } => true,
         Stage::Union(_) => true,
-        Stage::Sort {
-            input: _,
-            schema: _,
-            by: _,
-            options: _,
-        } => true,
+        Stage::Sort { .. } => true,
         Stage::Joined(join) => join.probe as usize != t || world.is_closed(join.build as usize),
     }
 }
@@ -188,18 +179,9 @@ pub fn side_below(stage: Stage, side: Side) -> Option<u32>
 {
     match stage {
         Stage::Scan(_) => None,
-        Stage::Each {
-            input: _,
-            schema: _,
-            op: _,
-        } => None,
+        Stage::Each { .. } => None,
         Stage::Union(_) => None,
-        Stage::Sort {
-            input,
-            schema: _,
-            by: _,
-            options: _,
-        } => side_of_sort(input, side),
+        Stage::Sort { input, .. } => side_of_sort(input, side),
         Stage::Joined(join) => side_of_join(&join, side),
     }
 }

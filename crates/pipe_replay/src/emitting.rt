@@ -20,18 +20,9 @@ fn is_end(stage: Stage, t: usize) -> bool
 {
     match stage {
         Stage::Scan(_) => false,
-        Stage::Each {
-            input: _,
-            schema: _,
-            op: _,
-        } => false,
+        Stage::Each { .. } => false,
         Stage::Union(_) => false,
-        Stage::Sort {
-            input,
-            schema: _,
-            by: _,
-            options: _,
-        } => input as usize == t,
+        Stage::Sort { input, .. } => input as usize == t,
         Stage::Joined(join) => join.build as usize == t,
     }
 }

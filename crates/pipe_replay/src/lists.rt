@@ -106,11 +106,7 @@ impl SortedLists {
     {
         match plan.stage(n) {
             Stage::Scan(_) => Ok(()),
-            Stage::Each {
-                input: _,
-                schema: _,
-                op: _,
-            } => Ok(()),
+            Stage::Each { .. } => Ok(()),
             Stage::Union(_) => Ok(()),
             Stage::Sort {
                 input,
@@ -138,18 +134,9 @@ impl SortedLists {
     {
         match plan.stage(n) {
             Stage::Scan(rows) => rows,
-            Stage::Each {
-                input: _,
-                schema: _,
-                op: _,
-            } => &[],
+            Stage::Each { .. } => &[],
             Stage::Union(_) => &[],
-            Stage::Sort {
-                input: _,
-                schema: _,
-                by: _,
-                options: _,
-            } => self.rows(n),
+            Stage::Sort { .. } => self.rows(n),
             Stage::Joined(_) => &[],
         }
     }

@@ -49,18 +49,9 @@ pub(crate) fn may_flush(
 {
     match plan.stage(k) {
         Stage::Scan(_) => Ok(false),
-        Stage::Each {
-            input: _,
-            schema: _,
-            op: _,
-        } => Ok(false),
+        Stage::Each { .. } => Ok(false),
         Stage::Union(_) => Ok(false),
-        Stage::Sort {
-            input: _,
-            schema: _,
-            by: _,
-            options: _,
-        } => Ok(false),
+        Stage::Sort { .. } => Ok(false),
         Stage::Joined(join) => may_flush_join(alloc, plan, world, k, part, &join),
     }
 }

@@ -57,18 +57,9 @@ pub(crate) fn may_mark(
 {
     match plan.stage(k) {
         Stage::Scan(_) => Ok(false),
-        Stage::Each {
-            input: _,
-            schema: _,
-            op: _,
-        } => Ok(false),
+        Stage::Each { .. } => Ok(false),
         Stage::Union(_) => Ok(false),
-        Stage::Sort {
-            input: _,
-            schema: _,
-            by: _,
-            options: _,
-        } => Ok(false),
+        Stage::Sort { .. } => Ok(false),
         Stage::Joined(join) => {
             if is_marking(&join) {
                 is_key_seen(alloc, plan, world, worker, &join, key)
@@ -117,18 +108,9 @@ fn is_none_owed_at(
 {
     match plan.stage(k) {
         Stage::Scan(_) => Ok(true),
-        Stage::Each {
-            input: _,
-            schema: _,
-            op: _,
-        } => Ok(true),
+        Stage::Each { .. } => Ok(true),
         Stage::Union(_) => Ok(true),
-        Stage::Sort {
-            input: _,
-            schema: _,
-            by: _,
-            options: _,
-        } => Ok(true),
+        Stage::Sort { .. } => Ok(true),
         Stage::Joined(join) => is_none_owed(alloc, world, tables, k, &join),
     }
 }

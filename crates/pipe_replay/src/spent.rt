@@ -17,18 +17,9 @@ pub(crate) fn is_spent(plan: &StagedPlan, world: &Progress, n: usize) -> bool
 {
     match plan.stage(n) {
         Stage::Scan(rows) => are_all_taken(world, n, rows.len()),
-        Stage::Each {
-            input: _,
-            schema: _,
-            op: _,
-        } => true,
+        Stage::Each { .. } => true,
         Stage::Union(_) => true,
-        Stage::Sort {
-            input,
-            schema: _,
-            by: _,
-            options,
-        } => {
+        Stage::Sort { input, options, .. } => {
             let kept = kept_slice(&options.slice, world.bag(input as usize)).len();
             world.is_closed(input as usize) && are_all_taken(world, n, kept)
         }

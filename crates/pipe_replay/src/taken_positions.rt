@@ -18,18 +18,12 @@ pub(crate) fn source_count(world: &Progress, stage: Stage) -> usize
 {
     match stage {
         Stage::Scan(rows) => rows.len(),
-        Stage::Each {
-            input: _,
-            schema: _,
-            op: _,
-        } => 0,
+        Stage::Each { .. } => 0,
         Stage::Union(_) => 0,
-        Stage::Sort {
-            input,
-            schema: _,
-            by: _,
-            options,
-        } => kept_slice(&options.slice, world.bag(input as usize)).len(),
+        Stage::Sort { input, options, .. } => kept_slice(
+            &options.slice,
+            world.bag(input as usize),
+        ).len(),
         Stage::Joined(_) => 0,
     }
 }
@@ -40,18 +34,9 @@ pub(crate) fn is_source_ready(world: &Progress, stage: Stage) -> bool
 {
     match stage {
         Stage::Scan(_) => true,
-        Stage::Each {
-            input: _,
-            schema: _,
-            op: _,
-        } => false,
+        Stage::Each { .. } => false,
         Stage::Union(_) => false,
-        Stage::Sort {
-            input,
-            schema: _,
-            by: _,
-            options: _,
-        } => world.is_closed(input as usize),
+        Stage::Sort { input, .. } => world.is_closed(input as usize),
         Stage::Joined(_) => false,
     }
 }

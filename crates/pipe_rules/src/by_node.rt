@@ -35,38 +35,23 @@ pub fn place_all(
         return Ok(List::new(alloc));
     }
     match node {
-        IR::DataFrameScan {
-            frame: _,
-            columns: _,
-        } => Ok(place_each(alloc, &Barrier, conjuncts)?),
-        IR::Filter {
-            input: _,
-            predicate: _,
-        } => Ok(place_each(alloc, &Opening, conjuncts)?),
-        IR::SimpleProjection {
-            input: _,
-            columns: _,
-        } => Ok(place_each(alloc, &Opening, conjuncts)?),
-        IR::Select { input: _, exprs } => Ok(place_on_select(alloc, exprs.as_slice(), conjuncts)?),
-        IR::HStack { input: _, exprs } => {
+        IR::DataFrameScan { .. } => Ok(place_each(alloc, &Barrier, conjuncts)?),
+        IR::Filter { .. } => Ok(place_each(alloc, &Opening, conjuncts)?),
+        IR::SimpleProjection { .. } => Ok(place_each(alloc, &Opening, conjuncts)?),
+        IR::Select { exprs, .. } => Ok(place_on_select(alloc, exprs.as_slice(), conjuncts)?),
+        IR::HStack { exprs, .. } => {
             Ok(place_on_hstack(alloc, left, exprs.as_slice(), conjuncts)?)
         }
-        IR::MapFunction { input: _, function } => {
+        IR::MapFunction { function, .. } => {
             Ok(place_on_function(alloc, left, function, conjuncts)?)
         }
-        IR::Union { inputs: _ } => Ok(place_each(alloc, &Opening, conjuncts)?),
+        IR::Union { .. } => Ok(place_each(alloc, &Opening, conjuncts)?),
         IR::Join {
-            left: _,
-            right: _,
-            left_on: _,
             right_on,
             options,
+            ..
         } => Ok(place_on_join(alloc, left, right, right_on.as_slice(), options, conjuncts)?),
-        IR::Sort {
-            input: _,
-            by: _,
-            options,
-        } => match options.slice {
+        IR::Sort { options, .. } => match options.slice {
             None => Ok(place_each(alloc, &Opening, conjuncts)?),
             Some(_) => Ok(place_each(alloc, &Barrier, conjuncts)?),
         },

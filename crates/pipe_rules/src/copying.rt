@@ -16,31 +16,15 @@ pub fn inputs(alloc: Global, node: &IR) -> Result<Vec<u32>, AllocError>
     ensures { IfOk result (λ numbers. numbers.items ≡ inputs_of (node_of node.now)) }
 {
     match node {
-        IR::DataFrameScan {
-            frame: _,
-            columns: _,
-        } => Ok(Vec::new(alloc)),
-        IR::Filter {
-            input,
-            predicate: _,
-        } => Ok(vec![in alloc; *input]?),
-        IR::SimpleProjection { input, columns: _ } => Ok(vec![in alloc; *input]?),
-        IR::Select { input, exprs: _ } => Ok(vec![in alloc; *input]?),
-        IR::HStack { input, exprs: _ } => Ok(vec![in alloc; *input]?),
-        IR::MapFunction { input, function: _ } => Ok(vec![in alloc; *input]?),
+        IR::DataFrameScan { .. } => Ok(Vec::new(alloc)),
+        IR::Filter { input, .. } => Ok(vec![in alloc; *input]?),
+        IR::SimpleProjection { input, .. } => Ok(vec![in alloc; *input]?),
+        IR::Select { input, .. } => Ok(vec![in alloc; *input]?),
+        IR::HStack { input, .. } => Ok(vec![in alloc; *input]?),
+        IR::MapFunction { input, .. } => Ok(vec![in alloc; *input]?),
         IR::Union { inputs } => Ok(inputs.as_slice().to_vec(alloc)?),
-        IR::Join {
-            left,
-            right,
-            left_on: _,
-            right_on: _,
-            options: _,
-        } => Ok(vec![in alloc; *left, *right]?),
-        IR::Sort {
-            input,
-            by: _,
-            options: _,
-        } => Ok(vec![in alloc; *input]?),
+        IR::Join { left, right, .. } => Ok(vec![in alloc; *left, *right]?),
+        IR::Sort { input, .. } => Ok(vec![in alloc; *input]?),
     }
 }
 
@@ -103,38 +87,34 @@ pub(crate) fn copy_over(alloc: Global, node: &IR, inputs: &[u32]) -> Result<IR, 
             frame: *frame,
             columns: copy_names(columns)?,
         }),
-        IR::Filter {
-            input: _,
-            predicate,
-        } => Ok(IR::Filter {
+        IR::Filter { predicate, .. } => Ok(IR::Filter {
             input: first(inputs),
             predicate: predicate.try_clone()?,
         }),
-        IR::SimpleProjection { input: _, columns } => Ok(IR::SimpleProjection {
+        IR::SimpleProjection { columns, .. } => Ok(IR::SimpleProjection {
             input: first(inputs),
             columns: columns.try_clone()?,
         }),
-        IR::Select { input: _, exprs } => Ok(IR::Select {
+        IR::Select { exprs, .. } => Ok(IR::Select {
             input: first(inputs),
             exprs: copy_named_exprs(alloc, exprs.as_slice())?,
         }),
-        IR::HStack { input: _, exprs } => Ok(IR::HStack {
+        IR::HStack { exprs, .. } => Ok(IR::HStack {
             input: first(inputs),
             exprs: copy_named_exprs(alloc, exprs.as_slice())?,
         }),
-        IR::MapFunction { input: _, function } => Ok(IR::MapFunction {
+        IR::MapFunction { function, .. } => Ok(IR::MapFunction {
             input: first(inputs),
             function: function.try_clone()?,
         }),
-        IR::Union { inputs: _ } => Ok(IR::Union {
+        IR::Union { .. } => Ok(IR::Union {
             inputs: List::from_vec(inputs.to_vec(alloc)?),
         }),
         IR::Join {
-            left: _,
-            right: _,
             left_on,
             right_on,
             options,
+            ..
         } => Ok(IR::Join {
             left: first(inputs),
             right: second(inputs),
@@ -142,11 +122,7 @@ pub(crate) fn copy_over(alloc: Global, node: &IR, inputs: &[u32]) -> Result<IR, 
             right_on: copy_exprs(alloc, right_on.as_slice())?,
             options: options.try_clone()?,
         }),
-        IR::Sort {
-            input: _,
-            by,
-            options,
-        } => Ok(IR::Sort {
+        IR::Sort { by, options, .. } => Ok(IR::Sort {
             input: first(inputs),
             by: by.try_clone()?,
             options: options.try_clone()?,

@@ -193,12 +193,7 @@ pub(crate) fn place_on_function<'a>(
         ≡ map (below_function input.now function.now) (map formula_of conjuncts)) }
 {
     match function {
-        FunctionIR::Unpivot {
-            on: _,
-            index,
-            variable: _,
-            value: _,
-        } => {
+        FunctionIR::Unpivot { index, .. } => {
             let names = NameIndex::of(alloc, index.as_slice())?;
             let index = IndexColumns { names };
             Ok(place_each(alloc, &index, conjuncts)?)

@@ -27,7 +27,7 @@ pub(crate) fn reach(schema: &Schema, expr: &Expr) -> usize
 {
     match expr {
         Expr::Col(name) => place(schema, name),
-        Expr::Lit { dtype: _, value: _ } => 0,
+        Expr::Lit { .. } => 0,
         Expr::Add(left, right)
         | Expr::Sub(left, right)
         | Expr::Mul(left, right)

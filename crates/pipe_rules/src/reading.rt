@@ -24,7 +24,7 @@ pub fn reads_only<T: NameTest>(expr: &Expr, test: &T) -> bool
 {
     match expr {
         Expr::Col(name) => test.passes(name),
-        Expr::Lit { dtype: _, value: _ } => true,
+        Expr::Lit { .. } => true,
         Expr::Add(left, right)
         | Expr::Sub(left, right)
         | Expr::Mul(left, right)

@@ -45,37 +45,15 @@ fn passes_left(node: &IR) -> bool
     ensures { result ≡ is_passed_left (node_of node.now) }
 {
     match node {
-        IR::Join {
-            left: _,
-            right: _,
-            left_on: _,
-            right_on: _,
-            options,
-        } => lets_left(options.how),
-        IR::DataFrameScan {
-            frame: _,
-            columns: _,
-        }
-        | IR::Filter {
-            input: _,
-            predicate: _,
-        }
-        | IR::SimpleProjection {
-            input: _,
-            columns: _,
-        }
-        | IR::Select { input: _, exprs: _ }
-        | IR::HStack { input: _, exprs: _ }
-        | IR::MapFunction {
-            input: _,
-            function: _,
-        }
-        | IR::Union { inputs: _ }
-        | IR::Sort {
-            input: _,
-            by: _,
-            options: _,
-        } => false,
+        IR::Join { options, .. } => lets_left(options.how),
+        IR::DataFrameScan { .. }
+        | IR::Filter { .. }
+        | IR::SimpleProjection { .. }
+        | IR::Select { .. }
+        | IR::HStack { .. }
+        | IR::MapFunction { .. }
+        | IR::Union { .. }
+        | IR::Sort { .. } => false,
     }
 }
 
@@ -193,13 +171,7 @@ impl Shares {
             → AreOver fields self.new.left }
     {
         match node {
-            IR::Join {
-                left,
-                right,
-                left_on: _,
-                right_on: _,
-                options: _,
-            } => {
+            IR::Join { left, right, .. } => {
                 if input == *left {
                     Ok(replace(&mut self.left, Batch::Plain(List::new(alloc))))
                 } else if input == *right {
@@ -208,7 +180,7 @@ impl Shares {
                     Ok(Batch::Plain(List::new(alloc)))
                 }
             }
-            IR::Union { inputs: _ } => {
+            IR::Union { .. } => {
                 let copies = copy_exprs(alloc, self.inputs.as_slice())?;
                 Ok(Batch::Plain(copies))
             }

@@ -70,38 +70,20 @@ fn is_node_known(version: u32, node: &IR) -> bool
     ensures { result ≡ node_known version (node_of node.now) }
 {
     match node {
-        IR::Filter {
-            input: _,
-            predicate,
-        } => is_known(version, predicate),
-        IR::Select { input: _, exprs } | IR::HStack { input: _, exprs } => {
+        IR::Filter { predicate, .. } => is_known(version, predicate),
+        IR::Select { exprs, .. } | IR::HStack { exprs, .. } => {
             are_named_known(version, exprs.as_slice())
         }
         IR::Join {
-            left: _,
-            right: _,
             left_on,
             right_on,
-            options: _,
+            ..
         } => are_known(version, left_on.as_slice()) && are_known(version, right_on.as_slice()),
-        IR::DataFrameScan {
-            frame: _,
-            columns: _,
-        }
-        | IR::SimpleProjection {
-            input: _,
-            columns: _,
-        }
-        | IR::MapFunction {
-            input: _,
-            function: _,
-        }
-        | IR::Union { inputs: _ }
-        | IR::Sort {
-            input: _,
-            by: _,
-            options: _,
-        } => true,
+        IR::DataFrameScan { .. }
+        | IR::SimpleProjection { .. }
+        | IR::MapFunction { .. }
+        | IR::Union { .. }
+        | IR::Sort { .. } => true,
     }
 }
 

@@ -118,11 +118,10 @@ pub(crate) fn push_bad_join(
     match arena.nodes.as_slice().get(n as usize) {
         Some(
             IR::Join {
-                left: _,
-                right: _,
                 left_on,
                 right_on,
                 options,
+                ..
             },
         ) => push_keys(alloc, out, left_on.as_slice(), right_on.as_slice(), options),
         _ => out.push_str("\n"),

@@ -130,44 +130,26 @@ fn push_void(out: &mut String, arena: &Arena, node: &IR) -> Result<(), AllocErro
             push_numbered(out, arena.frames.len(), "frame")?;
             write!(out, "\nfound: {frame}\n")
         }
-        IR::SimpleProjection {
-            input: _,
-            columns: _,
-        } => out.push_str(": it names no column\nexpected: columns: one name or more\nfound: []\n"),
-        IR::Select { input: _, exprs: _ } => {
+        IR::SimpleProjection { .. } => out.push_str(
+            ": it names no column\nexpected: columns: one name or more\nfound: []\n",
+        ),
+        IR::Select { .. } => {
             out.push_str(": it has no expression\nexpected: exprs: one or more\nfound: []\n")
         }
-        IR::MapFunction { input: _, function } => match function {
-            FunctionIR::Unpivot {
-                on: _,
-                index: _,
-                variable: _,
-                value: _,
-            } => out.push_str(": it names no column\nexpected: on: one name or more\nfound: []\n"),
-            FunctionIR::Rename { pairs: _ } => out.push_str("\n"),
+        IR::MapFunction { function, .. } => match function {
+            FunctionIR::Unpivot { .. } => out.push_str(
+                ": it names no column\nexpected: on: one name or more\nfound: []\n",
+            ),
+            FunctionIR::Rename { .. } => out.push_str("\n"),
         },
-        IR::Union { inputs: _ } => {
+        IR::Union { .. } => {
             out.push_str(
                 ": it has no input\nexpected: inputs: the numbers of one node or more\nfound: []\n",
             )
         }
-        IR::Filter {
-            input: _,
-            predicate: _,
-        }
-        | IR::HStack { input: _, exprs: _ }
-        | IR::Join {
-            left: _,
-            right: _,
-            left_on: _,
-            right_on: _,
-            options: _,
-        }
-        | IR::Sort {
-            input: _,
-            by: _,
-            options: _,
-        } => out.push_str("\n"),
+        IR::Filter { .. } | IR::HStack { .. } | IR::Join { .. } | IR::Sort { .. } => out.push_str(
+            "\n",
+        ),
     }
 }
 

@@ -68,13 +68,7 @@ pub(crate) fn push_bad_sort(
 ) -> Result<(), AllocError> {
     push_kind(out, arena, n)?;
     match arena.nodes.as_slice().get(n as usize) {
-        Some(
-            IR::Sort {
-                input: _,
-                by,
-                options,
-            },
-        ) => push_keys(alloc, out, by.as_slice(), options),
+        Some(IR::Sort { by, options, .. }) => push_keys(alloc, out, by.as_slice(), options),
         _ => out.push_str("\n"),
     }
 }

@@ -80,12 +80,7 @@ fn push_function(
     name: &Text,
 ) -> Result<(), AllocError> {
     match function {
-        FunctionIR::Unpivot {
-            on,
-            index: _,
-            variable: _,
-            value: _,
-        } => {
+        FunctionIR::Unpivot { on, .. } => {
             if 1 < times(on.as_slice(), name) {
                 return push_around(
                     out,
@@ -153,20 +148,13 @@ fn push_at(
     name: &Text,
 ) -> Result<(), AllocError> {
     match node {
-        IR::DataFrameScan {
-            frame: _,
-            columns: _,
-        }
-        | IR::SimpleProjection {
-            input: _,
-            columns: _,
-        } => push_around(
+        IR::DataFrameScan { .. } | IR::SimpleProjection { .. } => push_around(
             out,
             ": columns names ",
             name,
             " twice\nexpected: columns: distinct names\n",
         ),
-        IR::Select { input: _, exprs } | IR::HStack { input: _, exprs } => {
+        IR::Select { exprs, .. } | IR::HStack { exprs, .. } => {
             push_around(out, ": it has ", name, " as the name of ")?;
             write!(
                 out,
@@ -180,20 +168,15 @@ fn push_at(
         IR::Join {
             left,
             right,
-            left_on: _,
-            right_on: _,
             options,
+            ..
         } => push_join(alloc, out, arena, *left, *right, &options.suffix, name),
-        IR::Filter {
-            input: _,
-            predicate: _,
-        }
-        | IR::Union { inputs: _ }
-        | IR::Sort {
-            input: _,
-            by: _,
-            options: _,
-        } => push_around(out, ": it would give two columns ", name, "\n"),
+        IR::Filter { .. } | IR::Union { .. } | IR::Sort { .. } => push_around(
+            out,
+            ": it would give two columns ",
+            name,
+            "\n",
+        ),
     }
 }
 

@@ -34,7 +34,7 @@ fn takes_words(takes: Takes) -> &'static str {
 fn word_of(expr: &Expr) -> &'static str {
     match expr {
         Expr::Col(_) => "col",
-        Expr::Lit { dtype: _, value: _ } => "lit",
+        Expr::Lit { .. } => "lit",
         Expr::Add(_, _) => "add",
         Expr::Sub(_, _) => "sub",
         Expr::Mul(_, _) => "mul",
@@ -91,8 +91,8 @@ fn push_sides(
 /// Appends that a literal may be given the type of the other side.
 fn push_literal_hint(out: &mut String, left: &Expr, right: &Expr) -> Result<(), AllocError> {
     let is_literal = match (left, right) {
-        (Expr::Lit { dtype: _, value: _ }, _) => true,
-        (_, Expr::Lit { dtype: _, value: _ }) => true,
+        (Expr::Lit { .. }, _) => true,
+        (_, Expr::Lit { .. }) => true,
         _ => false,
     };
     if is_literal {
@@ -166,9 +166,7 @@ pub(crate) fn push_untyped(
             }
             push_inner(out, path.as_str(), inner, columns)
         }
-        Expr::Col(_) | Expr::Lit { dtype: _, value: _ } => {
-            write!(out, ": {} has no type\n", path.as_str())
-        }
+        Expr::Col(_) | Expr::Lit { .. } => { write!(out, ": {} has no type\n", path.as_str()) }
     }
 }
 

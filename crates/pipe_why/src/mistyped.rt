@@ -220,12 +220,7 @@ fn push_at(
         }
         IR::MapFunction {
             input,
-            function: FunctionIR::Unpivot {
-                on,
-                index: _,
-                variable: _,
-                value: _,
-            },
+            function: FunctionIR::Unpivot { on, .. },
         } => {
             let schema = schema_of(alloc, arena, *input)?;
             push_on(out, on.as_slice(), &columns_of(&schema))
@@ -236,7 +231,7 @@ fn push_at(
             right,
             left_on,
             right_on,
-            options: _,
+            ..
         } => push_keys(
             alloc,
             out,

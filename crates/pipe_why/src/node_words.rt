@@ -8,42 +8,18 @@ use std::fmt::Write;
 /// The word of a node's kind.
 pub(crate) fn kind_word(node: &IR) -> &'static str {
     match node {
-        IR::DataFrameScan {
-            frame: _,
-            columns: _,
-        } => "DataFrameScan",
-        IR::Filter {
-            input: _,
-            predicate: _,
-        } => "Filter",
-        IR::SimpleProjection {
-            input: _,
-            columns: _,
-        } => "SimpleProjection",
-        IR::Select { input: _, exprs: _ } => "Select",
-        IR::HStack { input: _, exprs: _ } => "HStack",
-        IR::MapFunction { input: _, function } => match function {
-            FunctionIR::Unpivot {
-                on: _,
-                index: _,
-                variable: _,
-                value: _,
-            } => "Unpivot",
-            FunctionIR::Rename { pairs: _ } => "Rename",
+        IR::DataFrameScan { .. } => "DataFrameScan",
+        IR::Filter { .. } => "Filter",
+        IR::SimpleProjection { .. } => "SimpleProjection",
+        IR::Select { .. } => "Select",
+        IR::HStack { .. } => "HStack",
+        IR::MapFunction { function, .. } => match function {
+            FunctionIR::Unpivot { .. } => "Unpivot",
+            FunctionIR::Rename { .. } => "Rename",
         },
-        IR::Union { inputs: _ } => "Union",
-        IR::Join {
-            left: _,
-            right: _,
-            left_on: _,
-            right_on: _,
-            options: _,
-        } => "Join",
-        IR::Sort {
-            input: _,
-            by: _,
-            options: _,
-        } => "Sort",
+        IR::Union { .. } => "Union",
+        IR::Join { .. } => "Join",
+        IR::Sort { .. } => "Sort",
     }
 }
 
@@ -64,31 +40,15 @@ pub(crate) fn push_node(out: &mut String, arena: &Arena, n: u32) -> Result<(), A
 /// The numbers of the nodes that a node reads.
 pub(crate) fn numbers_read(alloc: Global, node: &IR) -> Result<Vec<u32>, AllocError> {
     match node {
-        IR::DataFrameScan {
-            frame: _,
-            columns: _,
-        } => Ok(Vec::new(alloc)),
-        IR::Filter {
-            input,
-            predicate: _,
-        }
-        | IR::SimpleProjection { input, columns: _ }
-        | IR::Select { input, exprs: _ }
-        | IR::HStack { input, exprs: _ }
-        | IR::MapFunction { input, function: _ }
-        | IR::Sort {
-            input,
-            by: _,
-            options: _,
-        } => Ok(vec![in alloc; *input]?),
+        IR::DataFrameScan { .. } => Ok(Vec::new(alloc)),
+        IR::Filter { input, .. }
+        | IR::SimpleProjection { input, .. }
+        | IR::Select { input, .. }
+        | IR::HStack { input, .. }
+        | IR::MapFunction { input, .. }
+        | IR::Sort { input, .. } => Ok(vec![in alloc; *input]?),
         IR::Union { inputs } => Ok(inputs.as_slice().to_vec(alloc)?),
-        IR::Join {
-            left,
-            right,
-            left_on: _,
-            right_on: _,
-            options: _,
-        } => Ok(vec![in alloc; *left, *right]?),
+        IR::Join { left, right, .. } => Ok(vec![in alloc; *left, *right]?),
     }
 }
 

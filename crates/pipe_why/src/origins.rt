@@ -49,7 +49,7 @@ fn name_before<'a>(pairs: &'a [RenamePair], name: &'a Text) -> &'a Text {
 /// The column of its input that a column of a node is, where the node gives all rows of its input, each once.
 fn origin_below<'a>(node: &'a IR, name: &'a Text) -> Option<Origin<'a>> {
     match node {
-        IR::SimpleProjection { input, columns: _ } => Some(Origin { node: *input, name }),
+        IR::SimpleProjection { input, .. } => Some(Origin { node: *input, name }),
         IR::Select { input, exprs } => Some(Origin {
             node: *input,
             name: column_named(exprs.as_slice(), name)?,
@@ -68,11 +68,7 @@ fn origin_below<'a>(node: &'a IR, name: &'a Text) -> Option<Origin<'a>> {
             node: *input,
             name: name_before(pairs.as_slice(), name),
         }),
-        IR::Sort {
-            input,
-            by: _,
-            options,
-        } => if options.slice.is_none() {
+        IR::Sort { input, options, .. } => if options.slice.is_none() {
             Some(Origin { node: *input, name })
         } else {
             None
@@ -91,7 +87,7 @@ fn frame_column<'a>(arena: &'a Arena, node: u32, name: &'a Text) -> Option<(u32,
     let mut at = Origin { node, name };
     for _ in 0..=arena.nodes.len() {
         let node = node_at(arena, at.node)?;
-        if let IR::DataFrameScan { frame, columns: _ } = node {
+        if let IR::DataFrameScan { frame, .. } = node {
             return Some((*frame, at.name));
         }
         at = origin_below(node, at.name)?;

@@ -77,7 +77,7 @@ fn push_near(out: &mut String, fields: &[Field], order: &[Near]) -> Result<(), A
 fn reads(expr: &Expr, name: &Text) -> bool {
     match expr {
         Expr::Col(column) => column.is_same(name),
-        Expr::Lit { dtype: _, value: _ } => false,
+        Expr::Lit { .. } => false,
         Expr::Add(left, right)
         | Expr::Sub(left, right)
         | Expr::Mul(left, right)
@@ -176,16 +176,13 @@ pub(crate) fn push_unknown(
 ) -> Result<(), AllocError> {
     push_kind(out, arena, n)?;
     match arena.nodes.as_slice().get(n as usize) {
-        Some(IR::DataFrameScan { frame, columns: _ }) => {
-            push_scan(alloc, out, arena, *frame, name)
-        }
+        Some(IR::DataFrameScan { frame, .. }) => { push_scan(alloc, out, arena, *frame, name) }
         Some(
             IR::Join {
                 left,
                 right,
                 left_on,
-                right_on: _,
-                options: _,
+                ..
             },
         ) => push_join(alloc, out, arena, *left, *right, left_on.as_slice(), name),
         Some(node) => {

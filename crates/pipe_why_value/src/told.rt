@@ -148,11 +148,7 @@ fn push_wrong(
             push_count(out, *count, "member")?;
             push_other(alloc, out, Want::Expr, found)
         }
-        Wrong::Cell {
-            dtype,
-            column,
-            count: _,
-        } => {
+        Wrong::Cell { dtype, column, .. } => {
             out.push_str(", in the column ")?;
             push_quoted(out, column.as_str())?;
             write!(out, " of type {}", type_word(*dtype))?;
@@ -166,12 +162,9 @@ fn push_wrong(
         Wrong::Parts(_) => push_other(alloc, out, Want::Foreign(Foreign::Edit), found),
         Wrong::Width { cells, columns } => push_width(out, *cells, *columns),
         Wrong::Wide => push_wide(out),
-        Wrong::NoColumns
-        | Wrong::SecondName(_)
-        | Wrong::Height {
-            cells: _,
-            wanted: _,
-        } => { push_table(alloc, out, &misfit.wrong, found) }
+        Wrong::NoColumns | Wrong::SecondName(_) | Wrong::Height { .. } => {
+            push_table(alloc, out, &misfit.wrong, found)
+        }
     }
 }
 

@@ -58,12 +58,7 @@ fn made_of(
             rows_at(flows, input as usize),
         ),
         Stage::Union(inputs) => united(alloc, flows, inputs),
-        Stage::Sort {
-            input: _,
-            schema: _,
-            by: _,
-            options: _,
-        } => Ok(List::new(alloc)),
+        Stage::Sort { .. } => Ok(List::new(alloc)),
         Stage::Joined(join) => {
             let built = rows_at(bags, join.build as usize);
             shares(alloc, &join, built, rows_at(flows, join.probe as usize))

@@ -109,10 +109,7 @@ fn stage_over<'a>(
         stage_value result ≡ stage_of frames.now schema (node_of node.now) }
 {
     match node {
-        IR::DataFrameScan {
-            frame: _,
-            columns: _,
-        } => Stage::Scan(scan),
+        IR::DataFrameScan { .. } => Stage::Scan(scan),
         IR::Filter { input, predicate } => each(schemas, *input, RowOp::Filter(predicate)),
         IR::SimpleProjection { input, columns } => each(schemas, *input, RowOp::Columns(columns)),
         IR::Select { input, exprs } => each(schemas, *input, RowOp::Select(exprs)),

@@ -57,33 +57,14 @@ fn scan_rows_of(alloc: Global, frames: &[DataFrame], node: &IR) -> Result<List<R
 {
     match node {
         IR::DataFrameScan { frame, columns } => scanned_rows(alloc, frames, *frame, columns),
-        IR::Filter {
-            input: _,
-            predicate: _,
-        } => Ok(List::new(alloc)),
-        IR::SimpleProjection {
-            input: _,
-            columns: _,
-        } => Ok(List::new(alloc)),
-        IR::Select { input: _, exprs: _ } => Ok(List::new(alloc)),
-        IR::HStack { input: _, exprs: _ } => Ok(List::new(alloc)),
-        IR::MapFunction {
-            input: _,
-            function: _,
-        } => Ok(List::new(alloc)),
-        IR::Union { inputs: _ } => Ok(List::new(alloc)),
-        IR::Join {
-            left: _,
-            right: _,
-            left_on: _,
-            right_on: _,
-            options: _,
-        } => Ok(List::new(alloc)),
-        IR::Sort {
-            input: _,
-            by: _,
-            options: _,
-        } => Ok(List::new(alloc)),
+        IR::Filter { .. } => Ok(List::new(alloc)),
+        IR::SimpleProjection { .. } => Ok(List::new(alloc)),
+        IR::Select { .. } => Ok(List::new(alloc)),
+        IR::HStack { .. } => Ok(List::new(alloc)),
+        IR::MapFunction { .. } => Ok(List::new(alloc)),
+        IR::Union { .. } => Ok(List::new(alloc)),
+        IR::Join { .. } => Ok(List::new(alloc)),
+        IR::Sort { .. } => Ok(List::new(alloc)),
     }
 }
 

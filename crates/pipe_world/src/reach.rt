@@ -40,18 +40,9 @@ fn is_fed(marks: &[bool], stage: Stage) -> bool
 {
     match stage {
         Stage::Scan(_) => false,
-        Stage::Each {
-            input,
-            schema: _,
-            op: _,
-        } => is_marked(marks, input as usize),
+        Stage::Each { input, .. } => is_marked(marks, input as usize),
         Stage::Union(inputs) => is_any_marked(marks, inputs),
-        Stage::Sort {
-            input: _,
-            schema: _,
-            by: _,
-            options: _,
-        } => false,
+        Stage::Sort { .. } => false,
         Stage::Joined(join) => is_marked(marks, join.probe as usize),
     }
 }

@@ -28,7 +28,7 @@ fn value_text(alloc: Global, value: &AnyValue) -> Result<String, AllocError> {
 pub(crate) fn expr_text(alloc: Global, expr: &Expr) -> Result<String, AllocError> {
     match expr {
         Expr::Col(name) => String::from_str(alloc, name.as_str()),
-        Expr::Lit { dtype: _, value } => value_text(alloc, value),
+        Expr::Lit { value, .. } => value_text(alloc, value),
         Expr::Gt(a, b) => between(alloc, expr_text(alloc, a)?, ">", expr_text(alloc, b)?),
         Expr::Eq(a, b) => between(alloc, expr_text(alloc, a)?, "=", expr_text(alloc, b)?),
         Expr::Add(a, b) => between(alloc, expr_text(alloc, a)?, "+", expr_text(alloc, b)?),
@@ -71,12 +71,7 @@ fn columns_text(alloc: Global, columns: &Option<List<Text>>) -> Result<String, A
 /// A function as a text.
 fn function_text(alloc: Global, input: u32, function: &FunctionIR) -> Result<String, AllocError> {
     match function {
-        FunctionIR::Unpivot {
-            on,
-            index,
-            variable: _,
-            value: _,
-        } => {
+        FunctionIR::Unpivot { on, index, .. } => {
             let on = names_text(alloc, on.as_slice())?;
             let index = names_text(alloc, index.as_slice())?;
             format!(in alloc; "unpivot {input} on{on} index{index}")
@@ -132,18 +127,8 @@ pub(crate) fn node_text(alloc: Global, node: &IR) -> Result<String, AllocError> 
             let inputs = numbers_text(alloc, inputs.as_slice())?;
             format!(in alloc; "union{inputs}")
         }
-        IR::Join {
-            left,
-            right,
-            left_on: _,
-            right_on: _,
-            options: _,
-        } => format!(in alloc; "join {left} {right}"),
-        IR::Sort {
-            input,
-            by,
-            options: _,
-        } => {
+        IR::Join { left, right, .. } => format!(in alloc; "join {left} {right}"),
+        IR::Sort { input, by, .. } => {
             let by = names_text(alloc, by.as_slice())?;
             format!(in alloc; "sort {input} by{by}")
         }

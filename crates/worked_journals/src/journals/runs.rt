@@ -43,11 +43,9 @@ fn line(alloc: Global, event: &Event) -> Result<String, AllocError> {
             from,
             count,
         } => format!(in alloc; "worker {worker} takes {count} of node {source} from {from}\n"),
-        Event::Mark {
-            worker,
-            join,
-            key: _,
-        } => format!(in alloc; "worker {worker} marks at node {join}\n"),
+        Event::Mark { worker, join, .. } => format!(in alloc;
+            "worker {worker} marks at node {join}\n"
+        ),
         Event::Emit { worker } => format!(in alloc; "worker {worker} hands on\n"),
         Event::Done { worker } => format!(in alloc; "worker {worker} is done\n"),
         Event::Close { node, side } => {

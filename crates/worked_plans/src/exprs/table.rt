@@ -30,7 +30,7 @@ fn tell_over(
 fn tell_selected(alloc: Global, answers: &mut String, arena: &Arena) -> Result<(), AllocError> {
     let frame = arena.frames.as_slice().first();
     match (frame, arena.nodes.as_slice().get(1)) {
-        (Some(frame), Some(IR::Select { input: _, exprs })) => {
+        (Some(frame), Some(IR::Select { exprs, .. })) => {
             tell_over(alloc, answers, frame.try_clone()?, exprs.as_slice())
         }
         _ => answers.push_str("no expressions\n"),

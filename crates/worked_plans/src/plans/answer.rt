@@ -58,15 +58,7 @@ fn row_lines(alloc: Global, rows: &[Row], is_in_order: bool) -> Result<Vec<Strin
 /// Which side is built, where the node is a join.
 fn side_line(node: Option<&IR>) -> &'static str {
     match node {
-        Some(
-            IR::Join {
-                left: _,
-                right: _,
-                left_on: _,
-                right_on: _,
-                options,
-            },
-        ) => if swap_join_order(options) {
+        Some(IR::Join { options, .. }) => if swap_join_order(options) {
             "right side built\n"
         } else {
             "left side built\n"
@@ -77,14 +69,7 @@ fn side_line(node: Option<&IR>) -> &'static str {
 
 /// Whether a node puts its rows in an order.
 fn is_sort(node: Option<&IR>) -> bool {
-    matches!(
-        node,
-        Some(IR::Sort {
-            input: _,
-            by: _,
-            options: _
-        })
-    )
+    matches!(node, Some(IR::Sort { .. }))
 }
 
 /// What the plain program gives for a plan that has no fault.

@@ -113,18 +113,8 @@ fn chain(alloc: Global) -> Result<Arena, FrameError> {
 fn low_filters(nodes: &[IR]) -> usize {
     let mut count = 0;
     for node in nodes {
-        if let IR::Filter {
-            input,
-            predicate: _,
-        } = node
-        {
-            if let Some(
-                IR::DataFrameScan {
-                    frame: _,
-                    columns: _,
-                },
-            ) = nodes.get(*input as usize)
-            {
+        if let IR::Filter { input, .. } = node {
+            if let Some(IR::DataFrameScan { .. }) = nodes.get(*input as usize) {
                 count = usize::min(count, nodes.len()) + 1;
             }
         }

@@ -55,17 +55,7 @@ fn push_case(alloc: Global, answers: &mut String, arena: &Arena) -> Result<(), A
     let nodes = arena.nodes.as_slice();
     let frames = arena.frames.as_slice();
     match (nodes.first(), nodes.get(1), frames.first(), frames.get(1)) {
-        (
-            Some(node),
-            Some(
-                IR::Filter {
-                    input: _,
-                    predicate,
-                },
-            ),
-            Some(left),
-            Some(right),
-        ) => {
+        (Some(node), Some(IR::Filter { predicate, .. }), Some(left), Some(right)) => {
             push_placements(
                 alloc,
                 answers,
