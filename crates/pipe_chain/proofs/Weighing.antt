@@ -4,7 +4,7 @@ use Rattle.std.specs.List.{flat_map}
 use Rattle.pipe_schema.specs.Rows.{Row, Same, Within}
 use Rattle.pipe_schema.specs.Weights.{total}
 use Rattle.pipe_schema.proofs.Weights.{total-append, total-flat_map, SameBag-from_rows, Same-from_bag, WithinBag-from_rows, Within-from_bag}
-use Rattle.pipe_words.specs.Sums.{total as key_total}
+use Rattle.pipe_chain.specs.Sums.{total as key_total}
 use Rattle.pipe_chain.specs.Keys.{SameKeys, WithinKeys}
 
 -- both sums are one

@@ -1,3 +1,8 @@
+pub mod Sums
+pub mod Flags
+pub mod FlagRule
+pub mod Claims
+pub mod ClaimRule
 -- lists of keys that have the same keys
 pub mod Keys
 -- rows through operators that also mark keys

@@ -1,7 +1,7 @@
 -- Jobs, a kind of inputs: which are sound and which within their limit, and what is written of them.
 use Rattle.std.specs.Prelude.{ℕ, ◌≡◌, ◌⊎◌, List, [], ◌∷◌, ◌++◌, false, map}
 use Rattle.std.specs.List.{flat_map}
-use Rattle.pipe_branches.specs.Texts.{texts}
+use Rattle.pipe_driver.specs.Texts.{texts}
 use Rattle.pipe_driver.specs.Within.{AllWithin}
 use Rattle.pipe_cli.specs.FaultLine.{fault_line, fault_status}
 use Rattle.pipe_schema.specs.Rows.{SameLines}

@@ -10,7 +10,7 @@ use Rattle.pipe_expr.specs.Projections.{known_type, on_type}
 use Rattle.pipe_expr.specs.declared.join_words.FunctionIR.{FunctionIR}
 use Rattle.pipe_expr.specs.declared.join_words.FunctionIR.TheVariants as function
 use Rattle.pipe_plan.specs.Faults.{eq_types, is_void_function, function_names, on_differ, is_mistyped_function}
-use Rattle.pipe_function.specs.Applied.{CanRead, IsOfType}
+use Rattle.pipe_source.specs.Applied.{CanRead, IsOfType}
 use Rattle.pipe_convert.proofs.Granted.{first_false, second_false}
 use Rattle.pipe_convert.proofs.Types.{same_types_first}
 

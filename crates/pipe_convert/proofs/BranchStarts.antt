@@ -7,14 +7,14 @@ use Rattle.pipe_plan.specs.Node as node
 use Rattle.pipe_plan.specs.Plan.{Plan}
 use Rattle.pipe_plan.specs.Swap.{swaps}
 use Rattle.pipe_plan.specs.Under.{inputs_of, is_under, node_at}
-use Rattle.pipe_branches.specs.declared.branch.SinkAt.{SinkAt}
-use Rattle.pipe_branches.specs.declared.branch.SinkAt.TheVariants as at
-use Rattle.pipe_branches.specs.declared.branch.Branch.{Branch}
-use Rattle.pipe_branches.specs.Branches.{Path, through, closed_by, sorted_paths, put_operator, put_sink, union_paths, node_paths, paths_of, plan_paths, numbered_paths, named_after, is_scan_at, built_side, probed_side, branches}
-use Rattle.pipe_branches.specs.Climbing.{turn_at}
-use Rattle.pipe_branches.proofs.Down.{node-turn, turn-is}
-use Rattle.pipe_branches.proofs.Sound.{member, or-true, down-under, under-self, root-there}
-use Rattle.pipe_branches.specs.Laws.{sinks_of}
+use Rattle.pipe_driver.specs.declared.branch.SinkAt.{SinkAt}
+use Rattle.pipe_driver.specs.declared.branch.SinkAt.TheVariants as at
+use Rattle.pipe_driver.specs.declared.branch.Branch.{Branch}
+use Rattle.pipe_driver.specs.Branches.{Path, through, closed_by, sorted_paths, put_operator, put_sink, union_paths, node_paths, paths_of, plan_paths, numbered_paths, named_after, is_scan_at, built_side, probed_side, branches}
+use Rattle.pipe_driver.specs.Climbing.{turn_at}
+use Rattle.pipe_driver.proofs.Down.{node-turn, turn-is}
+use Rattle.pipe_driver.proofs.Sound.{member, or-true, down-under, under-self, root-there}
+use Rattle.pipe_driver.specs.BranchLaws.{sinks_of}
 use Rattle.pipe_check.specs.Checked.{Checked}
 use Rattle.pipe_driver.specs.Legs.{way_of}
 use Rattle.pipe_driver.specs.Ways.{IsWay}
@@ -23,8 +23,8 @@ use Rattle.pipe_driver.proofs.Runnable.{are_chains}
 use Rattle.pipe_convert.specs.Laws.{IsBranch, BranchesAre, Numbered}
 use Rattle.pipe_convert.specs.Nodes.{plan_in, nodes_in, meaning_in}
 use Rattle.pipe_convert.proofs.Sums.{all_first, all_second}
-use Rattle.pipe_branches.proofs.Covers.{side-member, self-member}
-use Rattle.pipe_branches.proofs.Readers.{there-under, input-under}
+use Rattle.pipe_driver.proofs.Covers.{side-member, self-member}
+use Rattle.pipe_driver.proofs.Readers.{there-under, input-under}
 use Rattle.pipe_driver.specs.Shape.{Begins, kind_at, kind_of, union_kind}
 use Rattle.pipe_driver.proofs.PlanParts.{there}
 use Rattle.pipe_driver.proofs.Tests.{all-append}

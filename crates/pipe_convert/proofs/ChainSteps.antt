@@ -11,10 +11,10 @@ use Rattle.pipe_plan.specs.Swap.{swaps}
 use Rattle.pipe_plan.specs.Under.{is_under, inputs_of, node_at}
 use Rattle.pipe_events.specs.Worlds.{ends}
 use Rattle.pipe_events.specs.PlanStages.{stage_of, stage_at}
-use Rattle.pipe_branches.specs.declared.branch.SinkAt.{SinkAt}
-use Rattle.pipe_branches.specs.declared.branch.SinkAt.TheVariants as at
-use Rattle.pipe_branches.proofs.Sound.{member, under-self, root-there}
-use Rattle.pipe_branches.proofs.Readers.{reader-under}
+use Rattle.pipe_driver.specs.declared.branch.SinkAt.{SinkAt}
+use Rattle.pipe_driver.specs.declared.branch.SinkAt.TheVariants as at
+use Rattle.pipe_driver.proofs.Sound.{member, under-self, root-there}
+use Rattle.pipe_driver.proofs.Readers.{reader-under}
 use Rattle.pipe_check.specs.Checked.{Checked}
 use Rattle.pipe_driver.specs.Chains.{Chain, goes_through, reads, reader, last_where, chain_of, through_first, ends_in}
 use Rattle.pipe_driver.proofs.Chains.{found_is, chain_from, chain_none}

@@ -11,7 +11,7 @@ use Rattle.pipe_plan.specs.Node as node
 use Rattle.pipe_plan.specs.Under.{is_under, node_at}
 use Rattle.pipe_plan.specs.declared.ir.JoinOptions.{JoinOptions}
 use Rattle.pipe_plan.specs.declared.ir.SortOptions.{SortOptions}
-use Rattle.pipe_branches.specs.Branches.{is_scan_at}
+use Rattle.pipe_driver.specs.Branches.{is_scan_at}
 use Rattle.pipe_table.specs.declared.spec.JoinSpec.{JoinSpec}
 use Rattle.pipe_check.specs.Checked.{Checked}
 use Rattle.pipe_convert.specs.Converted.{IsNode}

@@ -19,7 +19,7 @@ use Rattle.pipe_plan.specs.Under.{inputs_of, is_under}
 use Rattle.pipe_plan.specs.Faults.{IsWellFormed}
 use Rattle.pipe_ops.specs.Each.{IsPredicate, filtered_row, named_row}
 use Rattle.pipe_ops.specs.Exprs.{exprs_in, CanProject, CanStack, projected_row, stacked_row}
-use Rattle.pipe_function.specs.Applied.{Applies}
+use Rattle.pipe_source.specs.Applied.{Applies}
 use Rattle.pipe_events.specs.Stages.{Each}
 use Rattle.pipe_events.specs.PlanStages.{filtered_row as one_filtered, one_row}
 use Rattle.pipe_check.specs.Checked.{Checked}

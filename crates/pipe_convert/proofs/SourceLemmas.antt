@@ -13,8 +13,8 @@ use Rattle.pipe_plan.specs.Faults.{IsWellFormed, is_void}
 use Rattle.pipe_plan.specs.Node.{Node}
 use Rattle.pipe_plan.specs.Node as node
 use Rattle.pipe_plan.specs.Under.{node_at}
-use Rattle.pipe_branches.specs.Branches.{is_scan_at}
-use Rattle.pipe_branches.specs.Texts.{node_word}
+use Rattle.pipe_driver.specs.Branches.{is_scan_at}
+use Rattle.pipe_driver.specs.Texts.{node_word}
 use Rattle.pipe_driver.specs.Shape.{Begins, kind_at, kind_of, union_kind}
 use Rattle.pipe_check.specs.Checked.{Checked}
 use Rattle.pipe_check.proofs.Walks.{member, itself}

@@ -11,8 +11,8 @@ use Rattle.pipe_plan.specs.PlanRows.{rows_of}
 use Rattle.pipe_plan.specs.Schemas.{schema_of, join_over}
 use Rattle.pipe_plan.specs.Swap.{swaps}
 use Rattle.pipe_plan.specs.declared.ir.JoinOptions.{JoinOptions}
-use Rattle.pipe_branches.specs.Branches.{built_side, probed_side}
-use Rattle.pipe_branches.specs.Texts.{build_word, build_word_of}
+use Rattle.pipe_driver.specs.Branches.{built_side, probed_side}
+use Rattle.pipe_driver.specs.Texts.{build_word, build_word_of}
 use Rattle.pipe_events.specs.Stages.{JoinStage, Joined, through, flushes, flushes_by}
 use Rattle.pipe_events.specs.PlanStages.{stage_at, join_stage}
 use Rattle.pipe_table.specs.Spec.{IsSpec, settings_of}

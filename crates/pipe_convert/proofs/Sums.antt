@@ -4,13 +4,13 @@ use Rattle.std.specs.List.{flat_map, AllByRecursion}
 use Rattle.std.proofs.lemmas.List.{length_push}
 use Rattle.pipe_plan.specs.Plan.{Plan}
 use Rattle.pipe_plan.specs.Faults.{IsWellFormed}
-use Rattle.pipe_branches.specs.declared.branch.SinkAt.{SinkAt}
-use Rattle.pipe_branches.specs.declared.branch.SinkNode.{SinkNode}
-use Rattle.pipe_branches.specs.declared.branch.Branch.{Branch}
-use Rattle.pipe_branches.specs.Branches.{Path, PlacedSink, eq_sink, is_named, add_named, number_of, named_after, numbered_sinks, numbered_paths, plan_paths, branches}
-use Rattle.pipe_branches.specs.Laws.{sinks_of, first_named}
-use Rattle.pipe_branches.specs.Texts.{between}
-use Rattle.pipe_branches.proofs.Names.{number-unnamed, add_named-new, add_named-old}
+use Rattle.pipe_driver.specs.declared.branch.SinkAt.{SinkAt}
+use Rattle.pipe_driver.specs.declared.branch.SinkNode.{SinkNode}
+use Rattle.pipe_driver.specs.declared.branch.Branch.{Branch}
+use Rattle.pipe_driver.specs.Branches.{Path, PlacedSink, eq_sink, is_named, add_named, number_of, named_after, numbered_sinks, numbered_paths, plan_paths, branches}
+use Rattle.pipe_driver.specs.BranchLaws.{sinks_of, first_named}
+use Rattle.pipe_driver.specs.Texts.{between}
+use Rattle.pipe_driver.proofs.Names.{number-unnamed, add_named-new, add_named-old}
 use Rattle.pipe_driver.specs.Legs.{sink_node, legs_from, way_of, ways_of}
 use Rattle.pipe_driver.specs.Numbers.{named_sinks, sink_number, HasNumber}
 use Rattle.pipe_driver.specs.Ways.{one, occurs, legs_to, legs_through, feeds, passes}

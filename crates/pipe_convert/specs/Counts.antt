@@ -1,9 +1,9 @@
 -- How many legs of branches feed each sink, and how many go through each node.
 use Rattle.std.specs.Prelude.{ℕ, ◌+◌, ◌==◌, List, [], ◌∷◌, max}
 use Rattle.pipe_schema.specs.Weights.{total}
-use Rattle.pipe_branches.specs.declared.branch.SinkNode.{SinkNode}
-use Rattle.pipe_branches.specs.declared.branch.Branch.{Branch}
-use Rattle.pipe_branches.specs.Texts.{between}
+use Rattle.pipe_driver.specs.declared.branch.SinkNode.{SinkNode}
+use Rattle.pipe_driver.specs.declared.branch.Branch.{Branch}
+use Rattle.pipe_driver.specs.Texts.{between}
 use Rattle.pipe_driver.specs.Ways.{one, occurs}
 
 -- ---- sinks

@@ -10,7 +10,7 @@ use Rattle.pipe_table.specs.declared.spec.JoinSpec.{JoinSpec}
 use Rattle.pipe_plan.specs.Under.{node_at}
 use Rattle.pipe_events.specs.Stages.{JoinStage, Joined, flushes, flushes_by}
 use Rattle.pipe_events.specs.PlanStages.{stage_at}
-use Rattle.pipe_branches.specs.Texts.{build_word, build_word_of}
+use Rattle.pipe_driver.specs.Texts.{build_word, build_word_of}
 use Rattle.pipe_check.specs.Checked.{Checked}
 use Rattle.pipe_convert.specs.Converted.{schema_in}
 use Rattle.pipe_driver.specs.Shape.{kind_at, below_sink}

@@ -2,10 +2,10 @@
 use Rattle.std.specs.Prelude.{◌≡◌, ℕ, List, length}
 use Rattle.std.specs.List.{AllByRecursion}
 use Rattle.pipe_plan.specs.Faults.{IsWellFormed}
-use Rattle.pipe_branches.specs.Branches.{branches}
-use Rattle.pipe_branches.specs.declared.branch.Branch.{Branch}
-use Rattle.pipe_branches.specs.declared.branch.SinkAt.{SinkAt}
-use Rattle.pipe_branches.specs.declared.branch.SinkNode.{SinkNode}
+use Rattle.pipe_driver.specs.Branches.{branches}
+use Rattle.pipe_driver.specs.declared.branch.Branch.{Branch}
+use Rattle.pipe_driver.specs.declared.branch.SinkAt.{SinkAt}
+use Rattle.pipe_driver.specs.declared.branch.SinkNode.{SinkNode}
 use Rattle.pipe_check.specs.Checked.{Checked}
 use Rattle.pipe_driver.specs.Legs.{legs_from}
 use Rattle.pipe_driver.specs.Numbers.{named_sinks, HasNumber}

@@ -11,8 +11,8 @@ use Rattle.pipe_source.specs.declared.phys_source.PhysSource.{PhysSource}
 use Rattle.pipe_plan.specs.Node.{Node}
 use Rattle.pipe_plan.specs.Node as node
 use Rattle.pipe_plan.specs.Under.{node_at}
-use Rattle.pipe_branches.specs.Branches.{is_scan_at}
-use Rattle.pipe_branches.specs.Texts.{node_word}
+use Rattle.pipe_driver.specs.Branches.{is_scan_at}
+use Rattle.pipe_driver.specs.Texts.{node_word}
 use Rattle.pipe_check.specs.Checked.{Checked}
 use Rattle.pipe_convert.specs.Converted.{IsSourceOf, schema_in}
 use Rattle.pipe_convert.specs.Nodes.{IsUnder, nodes_in, rows_in}

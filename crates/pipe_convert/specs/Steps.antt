@@ -3,8 +3,8 @@ use Rattle.std.specs.Prelude.{◌≡◌, ℕ, List, [], ◌∷◌, true, length}
 use Rattle.pipe_events.specs.Stages.{Stage}
 use Rattle.pipe_events.specs.Worlds.{ends}
 use Rattle.pipe_events.specs.PlanStages.{stage_at}
-use Rattle.pipe_branches.specs.declared.branch.SinkAt.{SinkAt}
-use Rattle.pipe_branches.specs.declared.branch.SinkAt.TheVariants as at
+use Rattle.pipe_driver.specs.declared.branch.SinkAt.{SinkAt}
+use Rattle.pipe_driver.specs.declared.branch.SinkAt.TheVariants as at
 use Rattle.pipe_check.specs.Checked.{Checked}
 use Rattle.pipe_driver.specs.Chains.{goes_through}
 use Rattle.pipe_driver.specs.Legs.{sink_node}

@@ -2,17 +2,16 @@
 
 ghost use Rattle.std.specs.Prelude.{◌≡◌, ℕ, ◌+◌, ◌==◌, length, max, IfOk, OnOk};
 ghost use Rattle.pipe_plan.specs.Plan.{plan_of};
-ghost use Rattle.pipe_branches.specs.Branches.{branches as branches_of_plan};
-ghost use Rattle.pipe_branches.specs.Texts.{between};
+ghost use Rattle.pipe_driver.specs.Branches.{branches as branches_of_plan};
+ghost use Rattle.pipe_driver.specs.Texts.{between};
 ghost use Rattle.pipe_driver.specs.Legs.{ways_of};
 ghost use Rattle.pipe_driver.specs.Numbers.{named_sinks, sink_number};
 ghost use Rattle.pipe_driver.specs.Ways.{one, occurs, feeds, passes};
 ghost use Rattle.pipe_driver.specs.Tables.{number_at};
 ghost use Rattle.pipe_convert.specs.Counts.{sinks_numbered, branch_numbered, numbered, bound_of, bound, branch_through, gone_through, sinks_behind};
 
-use pipe_branches::{Branch, SinkNode};
 use pipe_check::CheckedPlan;
-use pipe_driver::SinkCounts;
+use pipe_driver::{Branch, SinkCounts, SinkNode};
 use std::alloc::{AllocError, Global};
 
 /// How many legs of a plan's branches feed each sink, by its number, and how many go through each node.
@@ -51,7 +50,7 @@ fn add_one(counts: &mut SinkCounts, number: u32) -> Result<(), AllocError>
 }
 
 /// The operators of a branch between two of its sinks.
-#[tactic(auto, using(pipe_branches::proofs::Between::between_cut))]
+#[tactic(auto, using(pipe_driver::proofs::Between::between_cut))]
 pub fn operators_between(operators: &[u32], first: usize, offset: usize) -> &[u32]
     ensures { result.now ≡ between operators.now first offset }
 {

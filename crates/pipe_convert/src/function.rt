@@ -7,8 +7,8 @@ ghost use Rattle.pipe_convert.specs.Converted.{IsNode};
 use crate::row_by_row::RowByRow;
 use pipe_check::CheckedPlan;
 use pipe_expr::FunctionIR;
-use pipe_function::FunctionOperator;
 use pipe_schema::TryClone;
+use pipe_source::FunctionOperator;
 use std::alloc::{AllocError, Global};
 
 /// The operator of a function, for so many workers.

@@ -3,7 +3,7 @@
 ghost use Rattle.std.specs.Prelude.{◌≡◌, ◌+◌, ◌^◌, ◌<◌, true, length, IfOk, OnOk};
 ghost use Rattle.pipe_plan.specs.Node.{node_of};
 ghost use Rattle.pipe_plan.specs.Under.{node_at};
-ghost use Rattle.pipe_branches.specs.Branches.{is_scan, is_scan_at};
+ghost use Rattle.pipe_driver.specs.Branches.{is_scan, is_scan_at};
 ghost use Rattle.pipe_convert.specs.Converted.{IsScanOf, IsSourceOf};
 ghost use Rattle.pipe_driver.specs.Shape.{Begins, kind_at, kind_of};
 ghost use Rattle.pipe_convert.specs.Nodes.{IsUnder, nodes_in};

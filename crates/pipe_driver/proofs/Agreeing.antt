@@ -5,7 +5,7 @@ use Rattle.pipe_events.specs.Stages.{Stage, Stages, Scan, Each, Union, Sort, Joi
 use Rattle.pipe_events.specs.Worlds.{Event, Side, OfSort, OfBuild, OfProbe, side_below, ends, is_sink}
 use Rattle.pipe_events.proofs.Tied.{closed_sides, closed_probes}
 use Rattle.pipe_driver.proofs.Tests.{by_test, eq-is, eq-true, or-first, or-right}
-use Rattle.pipe_laws.proofs.Steps.{some_same, flushing_marks}
+use Rattle.pipe_events.proofs.Steps.{some_same, flushing_marks}
 use Rattle.pipe_driver.specs.Legs.{Way}
 use Rattle.pipe_driver.specs.State.{Counts}
 use Rattle.pipe_driver.specs.Boards.{Board, IsBoard}

@@ -5,10 +5,10 @@ use Rattle.pipe_events.specs.Stages.{Stages}
 use Rattle.pipe_events.specs.Worlds.{Event, Side, OfSort, OfBuild, OfProbe, start}
 use Rattle.pipe_events.specs.Schedules.{run, IsComplete}
 use Rattle.pipe_events.proofs.Every.{every}
-use Rattle.pipe_laws.proofs.Journals.{journals_end}
-use Rattle.pipe_laws.proofs.Steps.{Knows, spent}
-use Rattle.pipe_branches.specs.declared.branch.SinkAt.{SinkAt}
-use Rattle.pipe_branches.specs.declared.branch.SinkAt.TheVariants as at
+use Rattle.pipe_events.proofs.Journals.{journals_end}
+use Rattle.pipe_events.proofs.Steps.{Knows, spent}
+use Rattle.pipe_driver.specs.declared.branch.SinkAt.{SinkAt}
+use Rattle.pipe_driver.specs.declared.branch.SinkAt.TheVariants as at
 use Rattle.pipe_driver.specs.Meaning.{Meaning}
 use Rattle.pipe_driver.specs.Legs.{Leg, Way}
 use Rattle.pipe_driver.specs.Ways.{one, legs_to, way_to, feeds, passes, begun, IsSinkOf, AreLegs}

@@ -4,10 +4,10 @@ use Rattle.std.specs.List.{list_any}
 use Rattle.pipe_schema.specs.Rows.{Row}
 use Rattle.pipe_events.specs.Stages.{JoinStage, Stage, Stages, Scan, Each, Union, Sort, Joined, feeds}
 use Rattle.pipe_events.specs.Worlds.{count}
-use Rattle.pipe_laws.specs.Runs.{inputs_of, IsTree}
-use Rattle.pipe_laws.proofs.Members.{either, or_cases, or_left, mem, head, behind}
-use Rattle.pipe_laws.proofs.Chains.{Comes}
-use Rattle.pipe_laws.proofs.Flows.{supplies}
+use Rattle.pipe_events.specs.Runs.{inputs_of, IsTree}
+use Rattle.pipe_events.proofs.Members.{either, or_cases, or_left, mem, head, behind}
+use Rattle.pipe_events.proofs.Chains.{Comes}
+use Rattle.pipe_events.proofs.Flows.{supplies}
 use Rattle.pipe_driver.specs.Ways.{one, occurs}
 use Rattle.pipe_driver.proofs.Tests.{by_test, eq-is, eq-true, eq-false, not-both}
 use Rattle.pipe_driver.specs.State.{Counts}

@@ -4,10 +4,10 @@ use Rattle.std.proofs.lemmas.Bool.Decides.{Decides-eqb}
 use Rattle.pipe_schema.specs.Rows.{Row}
 use Rattle.pipe_events.specs.Stages.{JoinStage, Stage, Stages, Scan, Each, Union, Sort, Joined, feeds}
 use Rattle.pipe_events.specs.Worlds.{ends}
-use Rattle.pipe_laws.specs.Runs.{inputs_of, IsTree}
-use Rattle.pipe_laws.proofs.Members.{either, decide, or_cases, or_left, or_right, mem, head}
-use Rattle.pipe_laws.proofs.Chains.{Comes, inside, first_step, fed_below, upwards, build_top}
-use Rattle.pipe_laws.proofs.Going.{untrue}
+use Rattle.pipe_events.specs.Runs.{inputs_of, IsTree}
+use Rattle.pipe_events.proofs.Members.{either, decide, or_cases, or_left, or_right, mem, head}
+use Rattle.pipe_events.proofs.Chains.{Comes, inside, first_step, fed_below, upwards, build_top}
+use Rattle.pipe_events.proofs.Going.{untrue}
 use Rattle.pipe_driver.specs.Chains.{Chain, ends_in, through_first, goes_through, reads, reader, chain_of}
 use Rattle.pipe_driver.specs.Ways.{one, occurs}
 use Rattle.pipe_driver.proofs.Chains.{ReadsBelow, found_one, chain_from, GoesUp, chain_up}

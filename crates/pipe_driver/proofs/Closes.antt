@@ -3,14 +3,14 @@ use Rattle.std.proofs.Common.{◌≡◌, ℕ, ◌<◌, Bool, true, false, cond, 
 use Rattle.std.specs.List.{AllByRecursion, list_any}
 use Rattle.pipe_events.specs.Stages.{Stages, feeds, reaches}
 use Rattle.pipe_events.specs.Worlds.{Event, Close, Side, OfSort, OfBuild, OfProbe, side_below, MayClose}
-use Rattle.pipe_laws.specs.Journals.{world_after}
-use Rattle.pipe_laws.specs.Runs.{IsTree, inputs_of, reads}
-use Rattle.pipe_laws.proofs.Members.{mem, head, behind}
-use Rattle.pipe_laws.proofs.Chains.{Comes, IsTop, upwards, sort_top, build_top}
-use Rattle.pipe_laws.proofs.Flows.{acts, fed_probe}
-use Rattle.pipe_laws.proofs.Steps.{some_same, Knows, step_close, spent, SortedBelow}
-use Rattle.pipe_branches.specs.declared.branch.SinkAt.{SinkAt}
-use Rattle.pipe_branches.specs.declared.branch.SinkAt.TheVariants as at
+use Rattle.pipe_events.specs.Journals.{world_after}
+use Rattle.pipe_events.specs.Runs.{IsTree, inputs_of, reads}
+use Rattle.pipe_events.proofs.Members.{mem, head, behind}
+use Rattle.pipe_events.proofs.Chains.{Comes, IsTop, upwards, sort_top, build_top}
+use Rattle.pipe_events.proofs.Flows.{acts, fed_probe}
+use Rattle.pipe_events.proofs.Steps.{some_same, Knows, step_close, spent, SortedBelow}
+use Rattle.pipe_driver.specs.declared.branch.SinkAt.{SinkAt}
+use Rattle.pipe_driver.specs.declared.branch.SinkAt.TheVariants as at
 use Rattle.pipe_driver.specs.Legs.{Way, sink_node}
 use Rattle.pipe_driver.specs.Ways as ways
 use Rattle.pipe_driver.specs.Ways.{begun, IsSinkOf}

@@ -3,7 +3,7 @@ use Rattle.std.proofs.Common.{◌≡◌, ℕ, ◌+◌, ◌<◌, Bool, true, fals
 use Rattle.std.specs.List.{flat_map, AllByRecursion}
 use Rattle.pipe_schema.specs.Weights.{total}
 use Rattle.pipe_schema.proofs.Weights.{total-append}
-use Rattle.pipe_branches.specs.declared.branch.SinkAt.{SinkAt}
+use Rattle.pipe_driver.specs.declared.branch.SinkAt.{SinkAt}
 use Rattle.pipe_driver.specs.Meaning.{Meaning}
 use Rattle.pipe_driver.specs.Ways.{occurs}
 use Rattle.pipe_driver.proofs.Tests.{by_test, eq-is, not-both, or-first, or-right, some-left, all-append, all-map, flat-total, occurs-append}

@@ -8,8 +8,8 @@ use Rattle.std.proofs.lemmas.List.{take-append-drop, take_all, append-nil}
 use Rattle.std.proofs.Math.Seq.{drop-cons}
 use Rattle.pipe_schema.specs.Rows.{Row}
 use Rattle.pipe_schema.proofs.Weights.{SameBag, total-append}
-use Rattle.pipe_branches.specs.declared.branch.SinkAt.{SinkAt}
-use Rattle.pipe_branches.specs.declared.branch.SinkAt.TheVariants as at
+use Rattle.pipe_driver.specs.declared.branch.SinkAt.{SinkAt}
+use Rattle.pipe_driver.specs.declared.branch.SinkAt.TheVariants as at
 use Rattle.pipe_driver.specs.Meaning.{Meaning}
 use Rattle.pipe_driver.specs.Legs as plan
 use Rattle.pipe_driver.specs.Legs.{Way, sink_node}

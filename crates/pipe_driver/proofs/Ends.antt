@@ -3,14 +3,14 @@ use Rattle.std.proofs.Common.{◌≡◌, ℕ, ◌<◌, Bool, true, false, cond, 
 use Rattle.std.specs.List.{AllByRecursion, list_any}
 use Rattle.pipe_events.specs.Stages.{JoinStage, Stage, Stages, Scan, Each, Union, Sort, Joined, flushes, feeds, reaches}
 use Rattle.pipe_events.specs.Worlds.{Event, Close, Side, OfSort, OfBuild, OfProbe, at_join, side_below, MayClose}
-use Rattle.pipe_laws.specs.Rounds.{flushing}
-use Rattle.pipe_laws.specs.Journals.{world_after}
-use Rattle.pipe_laws.specs.Runs.{IsEnding, IsFlushed, IsTree, reads}
-use Rattle.pipe_laws.proofs.Members.{mem, or_left, or_right}
-use Rattle.pipe_laws.proofs.Chains.{Comes, upwards, fed_below}
-use Rattle.pipe_laws.proofs.Flows.{supplies, acts, fed_probe, probe_read}
-use Rattle.pipe_laws.proofs.Steps.{adds, or_none, some_same, Knows, knows_idle, step_close, step_flush, spent, SortedBelow}
-use Rattle.pipe_laws.proofs.Going.{probe_of}
+use Rattle.pipe_events.specs.Rounds.{flushing}
+use Rattle.pipe_events.specs.Journals.{world_after}
+use Rattle.pipe_events.specs.Runs.{IsEnding, IsFlushed, IsTree, reads}
+use Rattle.pipe_events.proofs.Members.{mem, or_left, or_right}
+use Rattle.pipe_events.proofs.Chains.{Comes, upwards, fed_below}
+use Rattle.pipe_events.proofs.Flows.{supplies, acts, fed_probe, probe_read}
+use Rattle.pipe_events.proofs.Steps.{adds, or_none, some_same, Knows, knows_idle, step_close, step_flush, spent, SortedBelow}
+use Rattle.pipe_events.proofs.Going.{probe_of}
 use Rattle.pipe_driver.specs.Legs.{Way}
 use Rattle.pipe_driver.specs.Ways.{one, occurs, passes}
 use Rattle.pipe_driver.proofs.Tests.{by_test, eq-is, eq-not, eq-true, eq-false, not-both}

@@ -12,9 +12,9 @@ use Rattle.pipe_plan.specs.Schemas.{schemas_to}
 use Rattle.pipe_plan.specs.Faults.{IsWellFormed}
 use Rattle.pipe_events.specs.Stages.{Stage, Scan, Each, Union, Sort, Joined}
 use Rattle.pipe_events.specs.PlanStages.{Setting, stage_of, stage_at}
-use Rattle.pipe_laws.proofs.Members.{mem, head, behind, or_left}
-use Rattle.pipe_branches.specs.Branches.{is_scan_at}
-use Rattle.pipe_branches.proofs.Readers.{one-reader}
+use Rattle.pipe_events.proofs.Members.{mem, head, behind, or_left}
+use Rattle.pipe_driver.specs.Branches.{is_scan_at}
+use Rattle.pipe_driver.proofs.Readers.{one-reader}
 use Rattle.pipe_driver.specs.Shape.{kind_of, kind_at, union_kind}
 use Rattle.pipe_driver.specs.Chains.{reads, reader}
 use Rattle.pipe_driver.specs.Meaning.{is_source_over, is_read_whole, is_part, meaning_of}

@@ -3,12 +3,12 @@ use Rattle.std.proofs.Common.{◌≡◌, ℕ, ◌<◌, ◌≤◌, Bool, true, fa
 use Rattle.std.proofs.lemmas.Bool.Decides.{Decides-eqb}
 use Rattle.pipe_events.specs.Stages.{JoinStage, Stages, Joined, IsStages}
 use Rattle.pipe_events.specs.Worlds.{Event, Side, count, side_below}
-use Rattle.pipe_laws.specs.Rounds.{takes}
-use Rattle.pipe_laws.specs.Runs.{SourcesTaken}
-use Rattle.pipe_laws.proofs.Members.{either, decide, or_left, mem, head, behind, count_head, stands_there}
-use Rattle.pipe_laws.proofs.Flows.{supplies}
-use Rattle.pipe_laws.proofs.Steps.{adds, or_none, Knows, knows_alike, step_idle, step_take, BuiltAbove, SortedBelow}
-use Rattle.pipe_laws.proofs.Going.{untrue}
+use Rattle.pipe_events.specs.Rounds.{takes}
+use Rattle.pipe_events.specs.Runs.{SourcesTaken}
+use Rattle.pipe_events.proofs.Members.{either, decide, or_left, mem, head, behind, count_head, stands_there}
+use Rattle.pipe_events.proofs.Flows.{supplies}
+use Rattle.pipe_events.proofs.Steps.{adds, or_none, Knows, knows_alike, step_idle, step_take, BuiltAbove, SortedBelow}
+use Rattle.pipe_events.proofs.Going.{untrue}
 use Rattle.pipe_driver.specs.Recorded.{IsRecorded}
 
 pub knows : (plan : Stages) (ran : ℕ → Bool) (shut : ℕ → Side → Bool) (events : List Event) → IsRecorded plan ran shut events → Knows plan ran shut events

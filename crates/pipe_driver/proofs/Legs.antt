@@ -3,10 +3,10 @@ use Rattle.std.proofs.Common.{◌≡◌, ℕ, ◌+◌, ◌<◌, Bool, true, fals
 use Rattle.pipe_schema.specs.Rows.{Row}
 use Rattle.pipe_events.specs.Stages.{Stage, Scan, Each, Union, Sort, Joined}
 use Rattle.pipe_events.specs.Worlds.{Event, Side}
-use Rattle.pipe_laws.proofs.Members.{mem, or_right}
-use Rattle.pipe_laws.proofs.Flows.{supplies}
-use Rattle.pipe_laws.proofs.Steps.{adds, or_none, Knows, BuiltAbove, SortedBelow}
-use Rattle.pipe_laws.proofs.Going.{untrue}
+use Rattle.pipe_events.proofs.Members.{mem, or_right}
+use Rattle.pipe_events.proofs.Flows.{supplies}
+use Rattle.pipe_events.proofs.Steps.{adds, or_none, Knows, BuiltAbove, SortedBelow}
+use Rattle.pipe_events.proofs.Going.{untrue}
 use Rattle.pipe_driver.specs.Meaning.{Meaning}
 use Rattle.pipe_driver.specs.Legs.{Leg, Way}
 use Rattle.pipe_driver.specs.Ways.{one, occurs, starts, way_starts, AreLegs}

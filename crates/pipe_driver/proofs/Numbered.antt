@@ -1,13 +1,13 @@
 -- The numbers of sinks.
 use Rattle.std.proofs.Common.{◌≡◌, ℕ, suc, ◌<◌, true, false, cond, ◌==◌, List, [], ◌∷◌, ◌++◌, length, map, refl, sym, ap, subst, ◌∙◌, arith}
 use Rattle.std.specs.List.{flat_map, AllByRecursion}
-use Rattle.pipe_branches.specs.declared.branch.SinkAt.{SinkAt}
-use Rattle.pipe_branches.specs.declared.branch.SinkAt.TheVariants as at
-use Rattle.pipe_branches.specs.declared.branch.SinkNode.{SinkNode}
-use Rattle.pipe_branches.specs.declared.branch.Branch.{Branch}
-use Rattle.pipe_branches.specs.Branches.{eq_sink, is_named, add_named, number_of, branches}
-use Rattle.pipe_branches.specs.Laws.{sinks_of, all_sinks, first_named, AreNumberedBy}
-use Rattle.pipe_branches.proofs.Numbered.{numbered-as-named}
+use Rattle.pipe_driver.specs.declared.branch.SinkAt.{SinkAt}
+use Rattle.pipe_driver.specs.declared.branch.SinkAt.TheVariants as at
+use Rattle.pipe_driver.specs.declared.branch.SinkNode.{SinkNode}
+use Rattle.pipe_driver.specs.declared.branch.Branch.{Branch}
+use Rattle.pipe_driver.specs.Branches.{eq_sink, is_named, add_named, number_of, branches}
+use Rattle.pipe_driver.specs.BranchLaws.{sinks_of, all_sinks, first_named, AreNumberedBy}
+use Rattle.pipe_driver.proofs.BranchNumbers.{numbered-as-named}
 use Rattle.pipe_driver.specs.Meaning.{Meaning, meaning_of}
 use Rattle.pipe_driver.specs.Legs.{sink_node, legs_from, way_of}
 use Rattle.pipe_driver.specs.Ways.{IsSinkOf, AreLegs, IsWay, IsSound}

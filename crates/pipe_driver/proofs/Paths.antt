@@ -8,17 +8,17 @@ use Rattle.pipe_plan.specs.Plan.{Plan}
 use Rattle.pipe_plan.specs.Under.{node_at, inputs_of, is_under}
 use Rattle.pipe_plan.specs.Swap.{swaps}
 use Rattle.pipe_plan.specs.Faults.{IsWellFormed}
-use Rattle.pipe_branches.specs.declared.branch.SinkAt.{SinkAt}
-use Rattle.pipe_branches.specs.declared.branch.SinkAt.TheVariants as at
-use Rattle.pipe_branches.specs.Branches.{Path, PlacedSink, placed, path_from, sorted_paths, add_named, named_after, numbered_sinks, numbered_paths, is_scan_at, union_paths, node_paths, paths_of, plan_paths, built_side, probed_side, branches}
-use Rattle.pipe_branches.specs.Branches as branch
-use Rattle.pipe_branches.specs.Climbing.{turn_at}
-use Rattle.pipe_branches.specs.Texts.{between}
-use Rattle.pipe_branches.proofs.Chains.{AreWithin}
-use Rattle.pipe_branches.proofs.Down.{node-turn, turn-is}
-use Rattle.pipe_branches.proofs.Sound.{or-true, member, down-under}
-use Rattle.pipe_branches.proofs.Covers.{side-member, self-member}
-use Rattle.pipe_branches.proofs.Readers.{there-under, input-under}
+use Rattle.pipe_driver.specs.declared.branch.SinkAt.{SinkAt}
+use Rattle.pipe_driver.specs.declared.branch.SinkAt.TheVariants as at
+use Rattle.pipe_driver.specs.Branches.{Path, PlacedSink, placed, path_from, sorted_paths, add_named, named_after, numbered_sinks, numbered_paths, is_scan_at, union_paths, node_paths, paths_of, plan_paths, built_side, probed_side, branches}
+use Rattle.pipe_driver.specs.Branches as branch
+use Rattle.pipe_driver.specs.Climbing.{turn_at}
+use Rattle.pipe_driver.specs.Texts.{between}
+use Rattle.pipe_driver.proofs.BranchChains.{AreWithin}
+use Rattle.pipe_driver.proofs.Down.{node-turn, turn-is}
+use Rattle.pipe_driver.proofs.Sound.{or-true, member, down-under}
+use Rattle.pipe_driver.proofs.Covers.{side-member, self-member}
+use Rattle.pipe_driver.proofs.Readers.{there-under, input-under}
 use Rattle.pipe_driver.specs.Shape.{kind_of, union_kind}
 use Rattle.pipe_driver.specs.Meaning.{tree_of}
 use Rattle.pipe_driver.specs.Legs.{Leg, Way, sink_node, leg_of, legs_from, way_of, ways_of}

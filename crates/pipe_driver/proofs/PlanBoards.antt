@@ -13,13 +13,13 @@ use Rattle.pipe_plan.specs.Faults.{IsWellFormed}
 use Rattle.pipe_events.specs.Stages.{JoinStage, Stage, Scan, Each, Union, Sort, Joined, IsStages}
 use Rattle.pipe_events.specs.Worlds.{Side, OfSort, OfBuild, OfProbe, side_below}
 use Rattle.pipe_events.specs.PlanStages.{Setting, stage_of, stage_at, stages_of}
-use Rattle.pipe_laws.proofs.Journals.{empty_journals}
-use Rattle.pipe_laws.specs.Runs.{supply_of}
-use Rattle.pipe_laws.proofs.Trees.{plans_trees}
-use Rattle.pipe_laws.proofs.Flows.{supplies}
-use Rattle.pipe_branches.specs.Branches.{is_scan_at}
-use Rattle.pipe_branches.specs.Branches as branches
-use Rattle.pipe_branches.proofs.Readers.{input-under}
+use Rattle.pipe_events.proofs.Journals.{empty_journals}
+use Rattle.pipe_events.specs.Runs.{supply_of}
+use Rattle.pipe_events.proofs.Trees.{plans_trees}
+use Rattle.pipe_events.proofs.Flows.{supplies}
+use Rattle.pipe_driver.specs.Branches.{is_scan_at}
+use Rattle.pipe_driver.specs.Branches as branches
+use Rattle.pipe_driver.proofs.Readers.{input-under}
 use Rattle.pipe_driver.specs.Shape.{Kind, Begins, Unites, Joins, Sorts, kind_of, kind_at, union_kind, is_joining, is_sorting}
 use Rattle.pipe_driver.specs.Shape as kind
 use Rattle.pipe_driver.specs.Chains.{through_first, ends_in, goes_through, reads, reader, chain_of}

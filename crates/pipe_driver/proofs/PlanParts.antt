@@ -19,11 +19,11 @@ use Rattle.pipe_plan.specs.Schemas.{schemas_to}
 use Rattle.pipe_plan.specs.Swap.{swaps}
 use Rattle.pipe_plan.specs.Faults.{repeats, IsWellFormed}
 use Rattle.pipe_plan.specs.declared.ir.JoinOptions.{JoinOptions}
-use Rattle.pipe_branches.specs.Branches.{is_scan, is_scan_at, built_side, probed_side}
-use Rattle.pipe_branches.proofs.Down.{walk-at, walk-below}
-use Rattle.pipe_branches.proofs.Sound.{member, any-member, under-self, under-trans, under-one, root-there, good-node, first_false}
-use Rattle.pipe_branches.proofs.Covers.{under-cases, side-member, self-member, second_false}
-use Rattle.pipe_branches.proofs.Readers.{there-under, input-under, under-low, one-reader, apart}
+use Rattle.pipe_driver.specs.Branches.{is_scan, is_scan_at, built_side, probed_side}
+use Rattle.pipe_driver.proofs.Down.{walk-at, walk-below}
+use Rattle.pipe_driver.proofs.Sound.{member, any-member, under-self, under-trans, under-one, root-there, good-node, first_false}
+use Rattle.pipe_driver.proofs.Covers.{under-cases, side-member, self-member, second_false}
+use Rattle.pipe_driver.proofs.Readers.{there-under, input-under, under-low, one-reader, apart}
 use Rattle.pipe_events.specs.Stages.{Stage, Each, Union, Joined, JoinStage, Stages, feeds, through, own_rows, stage_rows, rows, rows_at, rows_to, IsBelow}
 use Rattle.pipe_events.specs.Worlds.{ends}
 use Rattle.pipe_events.specs.PlanStages.{stage_of, stage_at, Setting, stages_of}

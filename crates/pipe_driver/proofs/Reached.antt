@@ -13,10 +13,10 @@ use Rattle.pipe_plan.specs.PlanRows.{rows_of, rows_at, node_rows}
 use Rattle.pipe_plan.specs.Schemas.{schemas_to}
 use Rattle.pipe_plan.specs.Under.{node_at, inputs_of, is_under}
 use Rattle.pipe_plan.specs.Walk.{walk}
-use Rattle.pipe_branches.specs.Branches.{is_scan, is_scan_at}
-use Rattle.pipe_branches.proofs.Down.{walk-at, walk-below}
-use Rattle.pipe_branches.proofs.Readers.{there-under}
-use Rattle.pipe_branches.proofs.Sound.{member}
+use Rattle.pipe_driver.specs.Branches.{is_scan, is_scan_at}
+use Rattle.pipe_driver.proofs.Down.{walk-at, walk-below}
+use Rattle.pipe_driver.proofs.Readers.{there-under}
+use Rattle.pipe_driver.proofs.Sound.{member}
 use Rattle.pipe_driver.specs.Meaning.{Meaning, OutOf, due, is_part, is_source_over, meaning_of}
 use Rattle.pipe_driver.specs.Shape.{kind_of, union_kind}
 use Rattle.pipe_driver.specs.Ways.{own_brings}

@@ -8,10 +8,10 @@ use Rattle.pipe_plan.specs.Node as node
 use Rattle.pipe_plan.specs.Plan.{Plan}
 use Rattle.pipe_plan.specs.Swap.{swaps}
 use Rattle.pipe_plan.specs.Under.{node_at, inputs_of, is_under}
-use Rattle.pipe_branches.specs.Branches.{is_scan, is_scan_at}
-use Rattle.pipe_branches.proofs.Covers.{self-member, side-member}
-use Rattle.pipe_branches.proofs.Readers.{input-under, one-reader, there-under}
-use Rattle.pipe_branches.proofs.Sound.{member, root-there, under-self}
+use Rattle.pipe_driver.specs.Branches.{is_scan, is_scan_at}
+use Rattle.pipe_driver.proofs.Covers.{self-member, side-member}
+use Rattle.pipe_driver.proofs.Readers.{input-under, one-reader, there-under}
+use Rattle.pipe_driver.proofs.Sound.{member, root-there, under-self}
 use Rattle.pipe_events.specs.PlanStages.{stage_at}
 use Rattle.pipe_driver.specs.Chains.{chain_of, ends_in, goes_through, reader, reads, through_first}
 use Rattle.pipe_driver.specs.Legs.{ways_of}

@@ -7,7 +7,7 @@ use Rattle.pipe_schema.proofs.Weights.{total-append, total-flat_map, Same-from_b
 use Rattle.pipe_plan.specs.Plan.{Plan}
 use Rattle.pipe_plan.specs.Under.{is_under}
 use Rattle.pipe_plan.specs.Faults.{IsWellFormed}
-use Rattle.pipe_branches.specs.declared.branch.SinkAt.TheVariants as at
+use Rattle.pipe_driver.specs.declared.branch.SinkAt.TheVariants as at
 use Rattle.pipe_driver.specs.Shape.{Kind, Begins, Each, Unites, Joins, Sorts, is_joining, sources_by, joins_by, sources_of}
 use Rattle.pipe_driver.specs.Meaning.{Meaning, Place, OutOf, Into, comes, from, Tree, is_join_at, tree_of, meaning_of}
 use Rattle.pipe_driver.specs.Legs.{Leg, Way, ways_of}

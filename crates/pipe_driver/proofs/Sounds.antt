@@ -12,10 +12,10 @@ use Rattle.pipe_plan.specs.PlanRows.{rows_of}
 use Rattle.pipe_plan.specs.Schemas.{schemas_to}
 use Rattle.pipe_plan.specs.Swap.{swaps}
 use Rattle.pipe_plan.specs.Faults.{IsWellFormed}
-use Rattle.pipe_branches.specs.Branches.{is_scan_at}
-use Rattle.pipe_branches.proofs.Sound.{member}
-use Rattle.pipe_branches.proofs.Covers.{side-member}
-use Rattle.pipe_branches.proofs.Readers.{one-reader}
+use Rattle.pipe_driver.specs.Branches.{is_scan_at}
+use Rattle.pipe_driver.proofs.Sound.{member}
+use Rattle.pipe_driver.proofs.Covers.{side-member}
+use Rattle.pipe_driver.proofs.Readers.{one-reader}
 use Rattle.pipe_events.specs.Stages.{Union}
 use Rattle.pipe_events.specs.PlanStages.{stage_of, stage_at}
 use Rattle.pipe_driver.specs.Shape.{Kind, Begins, Each, Unites, Joins, Sorts, kind_of, kind_at, union_kind, is_joining, is_sorting, probed_of, joins_by}

@@ -7,10 +7,10 @@ use Rattle.pipe_plan.specs.Node as node
 use Rattle.pipe_plan.specs.Plan.{Plan}
 use Rattle.pipe_plan.specs.Under.{inputs_of}
 use Rattle.pipe_plan.specs.Faults.{IsWellFormed}
-use Rattle.pipe_branches.specs.Branches.{is_scan_at}
-use Rattle.pipe_branches.specs.declared.branch.SinkAt.{SinkAt}
-use Rattle.pipe_branches.specs.declared.branch.SinkAt.TheVariants as at
-use Rattle.pipe_branches.proofs.Sound.{member}
+use Rattle.pipe_driver.specs.Branches.{is_scan_at}
+use Rattle.pipe_driver.specs.declared.branch.SinkAt.{SinkAt}
+use Rattle.pipe_driver.specs.declared.branch.SinkAt.TheVariants as at
+use Rattle.pipe_driver.proofs.Sound.{member}
 use Rattle.pipe_driver.specs.Shape.{Kind, Begins, Each, Unites, Joins, Sorts, kind_of, kind_at, union_kind, is_sorting, sources_by, sources_of}
 use Rattle.pipe_driver.specs.Meaning.{Tree, tree_of, meaning_of, is_sort_at, is_source_over}
 use Rattle.pipe_driver.specs.Legs.{Leg, Way, ways_of}

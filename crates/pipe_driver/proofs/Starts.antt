@@ -4,8 +4,8 @@ use Rattle.std.specs.List.{flat_map, AllByRecursion}
 use Rattle.pipe_schema.specs.Rows.{Row}
 use Rattle.pipe_schema.specs.Weights.{total}
 use Rattle.pipe_schema.proofs.Weights.{total-append, SameBag-from_rows}
-use Rattle.pipe_branches.specs.declared.branch.SinkAt.{SinkAt}
-use Rattle.pipe_branches.specs.declared.branch.SinkAt.TheVariants as at
+use Rattle.pipe_driver.specs.declared.branch.SinkAt.{SinkAt}
+use Rattle.pipe_driver.specs.declared.branch.SinkAt.TheVariants as at
 use Rattle.pipe_driver.specs.Meaning.{Meaning, Place, OutOf, Into, from, is_place, due}
 use Rattle.pipe_driver.specs.Legs.{Leg, Way}
 use Rattle.pipe_driver.specs.Ways.{one, occurs, legs_to, way_to, feeds, brought, own_brings, IsSinkOf, AreLegs, IsWay}

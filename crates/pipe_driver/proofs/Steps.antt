@@ -4,7 +4,7 @@ use Rattle.std.proofs.lemmas.List.{append-nil}
 use Rattle.std.specs.List.{flat_map, AllByRecursion}
 use Rattle.pipe_schema.specs.Weights.{total}
 use Rattle.pipe_schema.proofs.Weights.{total-append}
-use Rattle.pipe_branches.specs.declared.branch.SinkAt.{SinkAt}
+use Rattle.pipe_driver.specs.declared.branch.SinkAt.{SinkAt}
 use Rattle.pipe_driver.specs.Meaning.{Meaning}
 use Rattle.pipe_driver.specs.Legs.{Leg}
 use Rattle.pipe_driver.specs.Ways.{one, legs_to, legs_through, starts_from, IsSinkOf}

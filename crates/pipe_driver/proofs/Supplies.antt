@@ -9,7 +9,7 @@ use Rattle.pipe_events.specs.Stages.{Stages, Scan, Sort, rows, rows_at, rows_to,
 use Rattle.pipe_events.specs.PlanStages.{Setting, stage_at, stages_of}
 use Rattle.pipe_events.proofs.WalkLemmas.{walk_is}
 use Rattle.pipe_events.proofs.PlanLemmas.{stages_have_rows}
-use Rattle.pipe_laws.specs.Runs.{supply, supply_of}
+use Rattle.pipe_events.specs.Runs.{supply, supply_of}
 use Rattle.pipe_driver.proofs.PlanParts.{there}
 use Rattle.pipe_driver.specs.JournalLaws.{SuppliesAreRows}
 

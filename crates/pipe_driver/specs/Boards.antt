@@ -5,7 +5,7 @@ use Rattle.pipe_schema.specs.Rows.{Row}
 use Rattle.pipe_plan.specs.Plan.{Plan}
 use Rattle.pipe_events.specs.Stages.{JoinStage, Stage, Stages, Scan, Each, Union, Sort, Joined, IsStages, feeds}
 use Rattle.pipe_events.specs.PlanStages.{Setting, stage_at, stages_of}
-use Rattle.pipe_laws.specs.Runs.{IsTree}
+use Rattle.pipe_events.specs.Runs.{IsTree}
 use Rattle.pipe_driver.specs.Shape as kind
 use Rattle.pipe_driver.specs.Shape.{Kind, Begins, Unites, Joins, Sorts}
 use Rattle.pipe_driver.specs.Chains.{reader, chain_of}

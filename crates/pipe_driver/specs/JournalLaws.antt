@@ -10,8 +10,8 @@ use Rattle.pipe_events.specs.Stages.{JoinStage, Scan, Sort, Joined, IsStages, fl
 use Rattle.pipe_events.specs.Worlds.{Event, Side, OfSort, OfBuild, OfProbe, start, side_below}
 use Rattle.pipe_events.specs.Schedules.{AllAllowed, run, IsComplete, FlagsAreMatches}
 use Rattle.pipe_events.specs.PlanStages.{Setting, stage_at, stages_of}
-use Rattle.pipe_laws.specs.Runs.{supply}
-use Rattle.pipe_branches.specs.declared.branch.SinkAt.{SinkAt}
+use Rattle.pipe_events.specs.Runs.{supply}
+use Rattle.pipe_driver.specs.declared.branch.SinkAt.{SinkAt}
 use Rattle.pipe_driver.specs.Shape.{kind_at}
 use Rattle.pipe_driver.specs.Meaning.{meaning_of}
 use Rattle.pipe_driver.specs.Legs.{Leg, Way, ways_of, sink_node}

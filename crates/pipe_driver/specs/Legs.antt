@@ -6,12 +6,12 @@
 -- sink of 3, and from there no operator into the root's sink, which goes by 4.
 use Rattle.std.specs.Prelude.{ℕ, List, [], ◌∷◌, length, map}
 use Rattle.pipe_plan.specs.Plan.{Plan}
-use Rattle.pipe_branches.specs.declared.branch.SinkAt.{SinkAt}
-use Rattle.pipe_branches.specs.declared.branch.SinkAt.TheVariants as at
-use Rattle.pipe_branches.specs.declared.branch.SinkNode.{SinkNode}
-use Rattle.pipe_branches.specs.declared.branch.Branch.{Branch}
-use Rattle.pipe_branches.specs.Branches.{branches}
-use Rattle.pipe_branches.specs.Texts.{between}
+use Rattle.pipe_driver.specs.declared.branch.SinkAt.{SinkAt}
+use Rattle.pipe_driver.specs.declared.branch.SinkAt.TheVariants as at
+use Rattle.pipe_driver.specs.declared.branch.SinkNode.{SinkNode}
+use Rattle.pipe_driver.specs.declared.branch.Branch.{Branch}
+use Rattle.pipe_driver.specs.Branches.{branches}
+use Rattle.pipe_driver.specs.Texts.{between}
 
 -- operators, and the sink behind them with the number by which it goes
 pub record Leg : Type 0 where

@@ -1,3 +1,11 @@
+-- the branches of a plan
+pub mod Branches
+-- the texts of branches
+pub mod Texts
+-- what a path becomes above, while a plan is cut
+pub mod Climbing
+-- what whoever runs the branches needs of them
+pub mod BranchLaws
 -- what a plan is to whoever cuts and runs it
 pub mod Shape
 -- chains, sources and joins of a plan

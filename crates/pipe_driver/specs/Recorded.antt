@@ -4,8 +4,8 @@ use Rattle.std.specs.Prelude.{◌≡◌, ℕ, ◌+◌, ◌<◌, ◌≤◌, List,
 use Rattle.std.specs.List.{AllByRecursion}
 use Rattle.pipe_events.specs.Stages.{JoinStage, Stage, Stages, Scan, Each, Union, Sort, Joined, flushes}
 use Rattle.pipe_events.specs.Worlds.{Event, Side, OfSort, OfBuild, OfProbe, count, side_below}
-use Rattle.pipe_laws.specs.Journals.{world_after, Stands}
-use Rattle.pipe_laws.specs.Runs.{supply}
+use Rattle.pipe_events.specs.Journals.{world_after, Stands}
+use Rattle.pipe_events.specs.Runs.{supply}
 use Rattle.pipe_driver.specs.Meaning.{Meaning}
 use Rattle.pipe_driver.specs.Legs.{Way}
 use Rattle.pipe_driver.specs.Ways.{begun}

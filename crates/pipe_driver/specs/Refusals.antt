@@ -1,7 +1,7 @@
 -- What a runner of legs tells of a plan, where it refuses to go on.
 use Rattle.std.specs.Prelude.{◌≡◌, ℕ, ◌⊎◌, List, [], ◌∷◌, true}
 use Rattle.pipe_schema.proofs.Weights.{SameBag}
-use Rattle.pipe_branches.specs.declared.branch.SinkAt.{SinkAt}
+use Rattle.pipe_driver.specs.declared.branch.SinkAt.{SinkAt}
 use Rattle.pipe_driver.specs.Meaning.{Meaning, OutOf}
 use Rattle.pipe_driver.specs.Legs.{Leg}
 use Rattle.pipe_driver.specs.State.{World, HasPassed, HasSettled}

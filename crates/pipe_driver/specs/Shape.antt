@@ -5,7 +5,7 @@ use Rattle.pipe_plan.specs.Walk.{walk}
 use Rattle.pipe_plan.specs.Node.{Node}
 use Rattle.pipe_plan.specs.Node as node
 use Rattle.pipe_plan.specs.Under.{node_at}
-use Rattle.pipe_branches.specs.Branches.{is_scan_at, built_side, probed_side}
+use Rattle.pipe_driver.specs.Branches.{is_scan_at, built_side, probed_side}
 
 -- A scan begins a branch, and a union of scans alone does. Filters, projections and functions hand
 -- on each row, other unions the rows of their inputs. A join takes the rows of one side into a

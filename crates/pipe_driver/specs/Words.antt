@@ -1,6 +1,6 @@
 -- What is known of what runs legs: the tables of joins, and the sinks that legs feed.
 use Rattle.std.specs.Prelude.{ℕ, List}
-use Rattle.pipe_branches.specs.declared.branch.SinkAt.{SinkAt}
+use Rattle.pipe_driver.specs.declared.branch.SinkAt.{SinkAt}
 use Rattle.pipe_driver.specs.Meaning.{Meaning}
 use Rattle.pipe_driver.specs.Legs.{Leg}
 use Rattle.pipe_driver.specs.State.{World}

@@ -2,9 +2,9 @@
 use Rattle.std.specs.Prelude.{ℕ, List, [], ◌∷◌}
 use Rattle.pipe_events.specs.Stages.{Stage, Stages, Scan, Each, Union, Sort, Joined, flushes}
 use Rattle.pipe_events.specs.Worlds.{Event, Close, OfSort, OfBuild}
-use Rattle.pipe_laws.specs.Runs.{IsNothing, SourcesTaken, IsEnding}
-use Rattle.pipe_branches.specs.declared.branch.SinkAt.{SinkAt}
-use Rattle.pipe_branches.specs.declared.branch.SinkAt.TheVariants as at
+use Rattle.pipe_events.specs.Runs.{IsNothing, SourcesTaken, IsEnding}
+use Rattle.pipe_driver.specs.declared.branch.SinkAt.{SinkAt}
+use Rattle.pipe_driver.specs.declared.branch.SinkAt.TheVariants as at
 use Rattle.pipe_driver.specs.Boards.{Board, held_at}
 
 -- a leg that begins at a node: all rows that it takes there were taken, source by source, in any

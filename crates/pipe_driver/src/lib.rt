@@ -1,24 +1,42 @@
-//! The branches of a plan leg by leg, and what holds while they run: what is known between two steps, the laws of the
-//! steps, of rows along a leg and of the journal, and the tables of counts and of pipelines that wait.
+//! The branches of a plan: how it is cut into pipelines, the texts of these, and what holds while they run leg by leg:
+//! what is known between two steps, the laws of the steps, of rows along a leg and of the journal, and the tables of
+//! counts and of pipelines that wait.
 //!
 //! The one contract used above: beside the state of a run between two steps the journal tells which sources were taken,
 //! which partitions flushed and which sides closed, just as the counts of the legs that are left say; what each step
 //! writes is allowed where it stands, and a run to its end leaves a complete list.
 #![tactic(auto)]
 
+mod above;
+mod branch;
+mod branch_laws;
 mod chain_laws;
+mod checked;
+mod climbing;
 mod closing;
+mod cutting;
 mod error;
 mod journal_laws;
 mod leg_laws;
+mod naming;
 mod parking;
 mod pipe_line;
+mod plans;
 mod run;
 mod side_laws;
 mod sink_counts;
 mod step_laws;
+mod texts;
+mod turn;
+mod words;
 
+pub use branch::{Branch, SinkAt, SinkNode};
+pub use branch_laws::{
+    every_branch_is_a_chain, every_build_comes_first, every_node_is_on_a_branch,
+    sinks_are_numbered_as_named, some_branch_ends_at_the_root,
+};
 pub use chain_laws::{joins_heed_no_order, rows_come_along_chains};
+pub use checked::{cut, explain};
 pub use closing::{are_closed, newer};
 pub use error::RunError;
 pub use journal_laws::{

@@ -4,8 +4,8 @@ ghost use Rattle.std.specs.Prelude.{◌≡◌, OnOk, IfSome, IfNone};
 ghost use Rattle.std.specs.List.{AllByRecursion};
 ghost use Rattle.pipe_driver.specs.Runs.{node_of, Parks, Unparks, StartsElsewhere};
 
+use crate::branch::SinkAt;
 use crate::pipe_line::{Leg, PipeLine};
-use pipe_branches::SinkAt;
 use std::alloc::AllocError;
 
 /// The node of a sink, 0 for the root's.

@@ -1,6 +1,6 @@
 //! Pipelines: a source, and legs that each end in a sink.
 
-use pipe_branches::SinkAt;
+use crate::branch::SinkAt;
 
 /// The nodes that a leg goes through, the sink behind them with its number, and what runs it.
 #[derive(Drop)]

@@ -1,8 +1,8 @@
 //! What is there while pipelines run.
 
+use crate::branch::SinkAt;
 use crate::pipe_line::PipeLine;
 use crate::sink_counts::SinkCounts;
-use pipe_branches::SinkAt;
 use pipe_frame::DataFrame;
 
 /// What is there while pipelines run.

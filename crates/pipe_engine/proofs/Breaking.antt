@@ -5,7 +5,7 @@ use Rattle.std.specs.List.{AllByRecursion}
 use Rattle.pipe_schema.specs.Rows.{Row}
 use Rattle.pipe_schema.specs.declared.field.Field.{Field}
 use Rattle.pipe_ops.specs.Batches.{Left}
-use Rattle.pipe_words.specs.Flags.{SeatMarks}
+use Rattle.pipe_chain.specs.Flags.{SeatMarks}
 use Rattle.pipe_driver.specs.Runner.{MayRunLeg}
 use Rattle.pipe_driver.specs.Refusals.{Refuses, RefusesLeg, RefusesNode, RefusesSettling, RefusesEnd}
 use Rattle.pipe_driver.specs.declared.error.RunError.{RunError}

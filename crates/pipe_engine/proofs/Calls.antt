@@ -6,13 +6,13 @@ use Rattle.pipe_schema.specs.Rows.{Same}
 use Rattle.pipe_schema.specs.declared.field.Field.{Field}
 use Rattle.pipe_expr.specs.declared.join_words.JoinType.{JoinType}
 use Rattle.pipe_expr.specs.declared.join_words.JoinType.TheVariants as how
-use Rattle.pipe_branches.specs.declared.branch.SinkAt.{SinkAt}
+use Rattle.pipe_driver.specs.declared.branch.SinkAt.{SinkAt}
 use Rattle.pipe_driver.specs.Legs.{sink_node}
 use Rattle.pipe_driver.specs.Meaning.{Meaning}
 use Rattle.pipe_driver.specs.Ways.{one, occurs, IsSound}
 use Rattle.pipe_driver.proofs.Tests.{by_test, eq-true, not-both}
 use Rattle.pipe_driver.specs.State.{World}
-use Rattle.pipe_words.specs.Flags.{SeatMarks}
+use Rattle.pipe_chain.specs.Flags.{SeatMarks}
 use Rattle.pipe_chain.specs.Chain.{AllServe}
 use Rattle.pipe_chain.specs.Counts.{AllWithin, plus}
 use Rattle.pipe_chain.specs.Flow.{Work, Acts}

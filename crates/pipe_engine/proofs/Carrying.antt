@@ -6,7 +6,7 @@ use Rattle.pipe_schema.specs.Rows.{Row}
 use Rattle.pipe_schema.specs.Weights.{total}
 use Rattle.pipe_schema.specs.declared.field.Field.{Field}
 use Rattle.pipe_schema.proofs.Weights.{total-append}
-use Rattle.pipe_words.specs.Flags.{SeatMarks}
+use Rattle.pipe_chain.specs.Flags.{SeatMarks}
 use Rattle.pipe_ops.specs.Batches.{Left}
 use Rattle.pipe_ops.specs.declared.sink.Sink.{Ghosts as SinkWords}
 use Rattle.pipe_run.specs.Rounds.{left_rows, schema_left}

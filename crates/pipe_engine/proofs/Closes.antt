@@ -1,7 +1,7 @@
 -- The flags of all slots are closed, one after another.
 use Rattle.std.proofs.Common.{◌≡◌, ℕ, zero, suc, ◌+◌, ◌<◌, ◌≤◌, ◌==◌, cond, List, [], length, refl, sym, ap, subst, ◌∙◌, arith, inl, inr, ◌⊎◌}
 use Rattle.std.proofs.lemmas.List.{get_or_past}
-use Rattle.pipe_words.specs.Flags.{SeatMarks}
+use Rattle.pipe_chain.specs.Flags.{SeatMarks}
 use Rattle.pipe_driver.proofs.Tests.{by_test, eq-is, eq-not, eq-false}
 use Rattle.pipe_slots.specs.SlotTables.{slot_at, seats_at, CanClose, IsClosedAs}
 use Rattle.pipe_slots.specs.declared.slot.Slot.{Slot}

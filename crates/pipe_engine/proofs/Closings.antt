@@ -6,8 +6,8 @@ use Rattle.pipe_frame.specs.Frame.{Table}
 use Rattle.pipe_schema.proofs.Weights.{SameBag, total-append}
 use Rattle.pipe_ops.specs.declared.sink.FinalizedSink.{FinalizedSink}
 use Rattle.pipe_ops.specs.declared.sink.FinalizedSink.TheVariants.{Finished, Operator, Source}
-use Rattle.pipe_branches.specs.declared.branch.SinkAt.{SinkAt}
-use Rattle.pipe_branches.specs.declared.branch.SinkAt.TheVariants as at
+use Rattle.pipe_driver.specs.declared.branch.SinkAt.{SinkAt}
+use Rattle.pipe_driver.specs.declared.branch.SinkAt.TheVariants as at
 use Rattle.pipe_driver.specs.Legs.{Way}
 use Rattle.pipe_driver.specs.Ways.{way_to, feeds, IsSinkOf, IsSound}
 use Rattle.pipe_driver.proofs.Tests.{all-append}

@@ -1,6 +1,6 @@
 -- A leg is counted at its sink.
 use Rattle.std.proofs.Common.{◌≡◌, ℕ, zero, suc, ◌+◌, ◌<◌, ◌==◌, ◌⊎◌, inl, inr, List, [], ◌∷◌, length, refl, sym, ap, ◌∙◌, arith}
-use Rattle.pipe_branches.specs.declared.branch.SinkAt.{SinkAt}
+use Rattle.pipe_driver.specs.declared.branch.SinkAt.{SinkAt}
 use Rattle.pipe_driver.specs.Ways.{one, feeds, IsSound}
 use Rattle.pipe_driver.proofs.Tests.{by_test, eq-is, eq-true, eq-not}
 use Rattle.pipe_driver.specs.declared.pipe_line.PipeLine.{PipeLine}

@@ -14,9 +14,9 @@ use Rattle.pipe_table.specs.KeysOfRows.{AreTypedKeys, encoded_key}
 use Rattle.pipe_table.specs.Spec.{IsSpec, settings_of, built_schema, built_on, probed_schema, probed_on}
 use Rattle.pipe_table.specs.Table.{TableRows, table_keys}
 use Rattle.pipe_table.specs.declared.spec.JoinSpec.{JoinSpec}
-use Rattle.pipe_words.specs.Flags.{is_marked}
-use Rattle.pipe_words.specs.Sums.{times, one_at}
-use Rattle.pipe_words.proofs.SumLemmas.{total-append as keys-append}
+use Rattle.pipe_chain.specs.Flags.{is_marked}
+use Rattle.pipe_chain.specs.Sums.{times, one_at}
+use Rattle.pipe_chain.proofs.SumLemmas.{total-append as keys-append}
 use Rattle.pipe_driver.proofs.Tests.{by_test, eq-is, or-case, some-left, not-both}
 use Rattle.pipe_chain.specs.Flow.{Acts}
 use Rattle.pipe_chain.specs.Keys.{WithinKeys}

@@ -7,7 +7,7 @@ use Rattle.pipe_frame.specs.Frame.{Table}
 use Rattle.pipe_ops.specs.declared.sink.FinalizedSink.{FinalizedSink}
 use Rattle.pipe_ops.specs.declared.sink.FinalizedSink.TheVariants.{Finished, Operator, Source}
 use Rattle.pipe_source.specs.declared.phys_source.PhysSource.{PhysSource}
-use Rattle.pipe_branches.specs.declared.branch.SinkAt.{SinkAt}
+use Rattle.pipe_driver.specs.declared.branch.SinkAt.{SinkAt}
 use Rattle.pipe_driver.specs.Meaning.{Meaning}
 use Rattle.pipe_driver.specs.State.{World}
 use Rattle.pipe_driver.specs.Runner.{Finalizes}

@@ -9,7 +9,7 @@ use Rattle.pipe_schema.specs.Rows.{Row, Same}
 use Rattle.pipe_schema.specs.Weights.{total}
 use Rattle.pipe_schema.specs.declared.field.Field.{Field}
 use Rattle.pipe_schema.proofs.Weights.{SameBag, SameBag-refl, SameBag-sym, SameBag-trans, SameBag-append, SameBag-from_equal, SameBag-from_rows, Same-from_bag, total-append}
-use Rattle.pipe_branches.specs.declared.branch.SinkAt.{SinkAt}
+use Rattle.pipe_driver.specs.declared.branch.SinkAt.{SinkAt}
 use Rattle.pipe_driver.specs.Meaning.{Meaning, Place, OutOf, Into}
 use Rattle.pipe_driver.specs.Legs.{Leg, sink_node}
 use Rattle.pipe_driver.specs.Ways.{one, occurs, IsSound}
@@ -33,7 +33,7 @@ use Rattle.pipe_source.specs.Supplies.{left_of}
 use Rattle.pipe_source.specs.declared.phys_source.PhysSource.{PhysSource}
 use Rattle.pipe_run.specs.Rounds.{left_rows}
 use Rattle.pipe_passage.specs.Passages.{phys_words, acts_now, GivesSchemas, HasOpened}
-use Rattle.pipe_words.specs.Flags.{SeatMarks}
+use Rattle.pipe_chain.specs.Flags.{SeatMarks}
 use Rattle.pipe_passage.specs.LaneSeats.{sum_of, IsRest, HasSeats, SameActs, AllSameActs}
 use Rattle.pipe_slots.specs.SlotTables.{slot_at, seats_at}
 use Rattle.pipe_passage.specs.declared.passage.Passage.{Passage}

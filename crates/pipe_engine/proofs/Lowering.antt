@@ -2,8 +2,8 @@
 use Rattle.std.proofs.Common.{◌≡◌, ℕ, ◌+◌, ◌<◌, ◌≤◌, ◌==◌, Bool, cond, List, Option, Some, None, refl, ap, subst, ◌∙◌, arith}
 use Rattle.pipe_frame.specs.Frame.{Table}
 use Rattle.pipe_ops.specs.declared.sink.FinalizedSink.TheVariants.{Finished}
-use Rattle.pipe_branches.specs.declared.branch.SinkAt.{SinkAt}
-use Rattle.pipe_branches.specs.declared.branch.SinkAt.TheVariants as at
+use Rattle.pipe_driver.specs.declared.branch.SinkAt.{SinkAt}
+use Rattle.pipe_driver.specs.declared.branch.SinkAt.TheVariants as at
 use Rattle.pipe_driver.specs.Fronts.{newer_of}
 use Rattle.pipe_driver.specs.Lines.{Task}
 use Rattle.pipe_driver.specs.Runner.{Finalizes}

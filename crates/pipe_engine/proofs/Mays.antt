@@ -1,6 +1,6 @@
 -- What the driver knows lets each call of what runs legs be made.
 use Rattle.std.proofs.Common.{◌≡◌, ℕ, ◌+◌, List, [], ◌∷◌, map, ap, sym, subst, ◌∙◌, Option, Some, arith}
-use Rattle.pipe_branches.specs.declared.branch.SinkAt.{SinkAt}
+use Rattle.pipe_driver.specs.declared.branch.SinkAt.{SinkAt}
 use Rattle.pipe_driver.specs.Legs.{sink_node}
 use Rattle.pipe_driver.specs.Ways.{IsSinkOf, IsSound}
 use Rattle.pipe_driver.specs.declared.pipe_line.Leg.{Leg}

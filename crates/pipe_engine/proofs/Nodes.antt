@@ -8,8 +8,8 @@ use Rattle.pipe_schema.specs.Rows.{Row, Same}
 use Rattle.pipe_schema.specs.Weights.{total}
 use Rattle.pipe_schema.specs.declared.field.Field.{Field}
 use Rattle.pipe_schema.proofs.Weights.{SameBag, SameBag-refl, SameBag-sym, SameBag-trans, SameBag-append, SameBag-from_equal, SameBag-from_rows, total-append}
-use Rattle.pipe_branches.specs.declared.branch.SinkAt.{SinkAt}
-use Rattle.pipe_words.specs.Flags.{SeatMarks}
+use Rattle.pipe_driver.specs.declared.branch.SinkAt.{SinkAt}
+use Rattle.pipe_chain.specs.Flags.{SeatMarks}
 use Rattle.pipe_driver.specs.Meaning.{Meaning, Place, OutOf, Into}
 use Rattle.pipe_driver.specs.Legs.{sink_node}
 use Rattle.pipe_driver.specs.Ways.{one, occurs, IsSound}

@@ -1,7 +1,7 @@
 -- Which sinks are open: those that were fed and that legs still feed.
 use Rattle.std.proofs.Common.{◌≡◌, ℕ, zero, suc, ◌+◌, ◌<◌, ◌==◌, Bool, true, false, cond, List, [], ◌∷◌, ◌++◌, length, Option, Some, None, sym, ap, subst, ◌∙◌, inl, inr, arith}
 use Rattle.std.specs.Global.{Vec}
-use Rattle.pipe_branches.specs.declared.branch.SinkAt.{SinkAt}
+use Rattle.pipe_driver.specs.declared.branch.SinkAt.{SinkAt}
 use Rattle.pipe_driver.specs.Legs.{sink_node}
 use Rattle.pipe_driver.specs.Lines.{AreNumbered}
 use Rattle.pipe_driver.specs.Runs.{sink_of}

@@ -12,7 +12,7 @@ use Rattle.pipe_source.specs.declared.phys_source.PhysSource.{PhysSource}
 use Rattle.pipe_run.specs.Rounds.{left_rows, schema_left, IsLeftOf}
 use Rattle.pipe_driver.specs.Runner.{MayRunLeg}
 use Rattle.pipe_driver.proofs.Sums.{alike_from}
-use Rattle.pipe_words.specs.Flags.{SeatMarks}
+use Rattle.pipe_chain.specs.Flags.{SeatMarks}
 use Rattle.pipe_run.specs.Dealt.{nodes_in}
 use Rattle.pipe_run.specs.Stages.{operators_of}
 use Rattle.pipe_run.specs.declared.lane.Lane.{Lane}

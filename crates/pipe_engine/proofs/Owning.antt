@@ -12,7 +12,7 @@ use Rattle.pipe_table.specs.KeysOfRows.{AreTypedKeys}
 use Rattle.pipe_table.specs.Spec.{IsSpec, settings_of, fits_side, built_schema, built_on}
 use Rattle.pipe_table.specs.Table.{TableRows, table_keys}
 use Rattle.pipe_table.specs.declared.spec.JoinSpec.{JoinSpec}
-use Rattle.pipe_words.specs.Flags.{SeatMarks, all_marked, all_won}
+use Rattle.pipe_chain.specs.Flags.{SeatMarks, all_marked, all_won}
 use Rattle.pipe_chain.specs.Keys.{SameKeys}
 use Rattle.pipe_chain.specs.Unmarking.{no_row}
 use Rattle.pipe_chain.proofs.Weighing.{keys-trans, asks-same}

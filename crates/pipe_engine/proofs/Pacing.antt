@@ -9,8 +9,8 @@ use Rattle.pipe_ops.specs.declared.source.Morsel.{Morsel}
 use Rattle.pipe_events.specs.EventValues.{event_value}
 use Rattle.pipe_events.specs.Worlds as worlds
 use Rattle.pipe_events.specs.declared.event.Event.{Event}
-use Rattle.pipe_branches.specs.declared.branch.SinkAt.{SinkAt}
-use Rattle.pipe_branches.specs.declared.branch.SinkAt.TheVariants as at
+use Rattle.pipe_driver.specs.declared.branch.SinkAt.{SinkAt}
+use Rattle.pipe_driver.specs.declared.branch.SinkAt.TheVariants as at
 use Rattle.pipe_driver.specs.Written.{closing}
 use Rattle.pipe_run.specs.declared.note.Note.{Note}
 use Rattle.pipe_run.specs.Notes.{events_of, ending_of, entries_of_parts, notes_from}

@@ -5,8 +5,8 @@ use Rattle.std.specs.Global.{Vec}
 use Rattle.pipe_schema.specs.Rows.{Row}
 use Rattle.pipe_schema.specs.declared.field.Field.{Field}
 use Rattle.pipe_schema.proofs.Weights.{SameBag, SameBag-refl, SameBag-append, SameBag-from_equal, Same-from_bag}
-use Rattle.pipe_branches.specs.declared.branch.SinkAt.{SinkAt}
-use Rattle.pipe_words.specs.Flags.{SeatMarks}
+use Rattle.pipe_driver.specs.declared.branch.SinkAt.{SinkAt}
+use Rattle.pipe_chain.specs.Flags.{SeatMarks}
 use Rattle.pipe_driver.specs.Meaning.{Meaning, OutOf}
 use Rattle.pipe_driver.specs.Legs.{Leg, sink_node}
 use Rattle.pipe_driver.specs.Ways.{one, occurs}

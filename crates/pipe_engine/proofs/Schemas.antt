@@ -9,8 +9,8 @@ use Rattle.pipe_ops.specs.declared.sink.FinalizedSink.TheVariants.{Finished, Ope
 use Rattle.pipe_sort.specs.SortKeys.{Sorting}
 use Rattle.pipe_source.specs.Ordered.{Ordered, held_in}
 use Rattle.pipe_source.specs.declared.phys_source.PhysSource.{PhysSource}
-use Rattle.pipe_branches.specs.declared.branch.SinkAt.{SinkAt}
-use Rattle.pipe_branches.specs.declared.branch.SinkAt.TheVariants as at
+use Rattle.pipe_driver.specs.declared.branch.SinkAt.{SinkAt}
+use Rattle.pipe_driver.specs.declared.branch.SinkAt.TheVariants as at
 use Rattle.pipe_driver.specs.Meaning.{Meaning}
 use Rattle.pipe_driver.specs.Fronts.{newer_of}
 use Rattle.pipe_slots.specs.Sinks.{OrderedBy, SinkSetting}

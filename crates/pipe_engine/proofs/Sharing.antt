@@ -3,7 +3,7 @@ use Rattle.std.proofs.Common.{◌≡◌, ℕ, suc, ◌+◌, ◌<◌, List, [], �
 use Rattle.std.specs.Global.{Vec}
 use Rattle.pipe_schema.proofs.Weights.{SameBag, SameBag-refl}
 use Rattle.pipe_ops.specs.declared.context.PExecutionContext.{PExecutionContext}
-use Rattle.pipe_words.specs.Flags.{SeatMarks}
+use Rattle.pipe_chain.specs.Flags.{SeatMarks}
 use Rattle.pipe_driver.specs.Legs.{sink_node}
 use Rattle.pipe_driver.specs.Meaning.{Meaning, Into}
 use Rattle.pipe_driver.specs.Plans.{at_start}

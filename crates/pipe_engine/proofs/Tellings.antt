@@ -1,7 +1,7 @@
 -- What a refusal of what runs legs says of the plan.
 use Rattle.std.proofs.Common.{◌≡◌, ℕ, ◌+◌, ◌<◌, ◌==◌, cond, List, [], ◌∷◌, ◌++◌, map, refl, sym, ap, subst, ◌∙◌, arith, inl, inr, Option, Some}
 use Rattle.std.specs.Prelude.{Result, Ok, Err, IfErr}
-use Rattle.pipe_branches.specs.declared.branch.SinkAt.{SinkAt}
+use Rattle.pipe_driver.specs.declared.branch.SinkAt.{SinkAt}
 use Rattle.pipe_driver.specs.Legs as plan
 use Rattle.pipe_driver.specs.Legs.{Way}
 use Rattle.pipe_driver.specs.Meaning.{Meaning, meaning_of}

@@ -20,8 +20,8 @@ use Rattle.pipe_chain.proofs.Weighing.{rows-length, total-length}
 use Rattle.pipe_chain.specs.Chain.{works_of}
 use Rattle.pipe_chain.specs.Flow.{Work, Acts, Flows}
 use Rattle.pipe_chain.specs.declared.operator.Operator.{Ghosts as OperatorWords}
-use Rattle.pipe_branches.specs.declared.branch.SinkAt.{SinkAt}
-use Rattle.pipe_branches.specs.declared.branch.SinkAt.TheVariants as at
+use Rattle.pipe_driver.specs.declared.branch.SinkAt.{SinkAt}
+use Rattle.pipe_driver.specs.declared.branch.SinkAt.TheVariants as at
 use Rattle.pipe_driver.specs.Meaning.{Meaning}
 use Rattle.pipe_run.specs.declared.stage.Basin.{Basin}
 use Rattle.pipe_run.specs.declared.stage.Stage.{Stage}

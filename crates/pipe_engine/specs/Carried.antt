@@ -3,7 +3,7 @@ use Rattle.std.specs.Prelude.{◌≡◌, ℕ, List, [], ◌∷◌, ◌++◌, Boo
 use Rattle.std.specs.List.{flat_map}
 use Rattle.pipe_schema.specs.Rows.{Row, Same}
 use Rattle.pipe_schema.specs.declared.field.Field.{Field}
-use Rattle.pipe_words.specs.Flags.{SeatMarks}
+use Rattle.pipe_chain.specs.Flags.{SeatMarks}
 use Rattle.pipe_chain.specs.Counts.{plus, counts_of}
 use Rattle.pipe_chain.specs.Flow.{Acts, Flows, AllGrown}
 use Rattle.pipe_run.specs.Dealt.{works_in, nodes_in, counts_in}

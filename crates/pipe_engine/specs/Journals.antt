@@ -10,7 +10,7 @@ use Rattle.pipe_ops.specs.declared.source.Morsel.{Morsel}
 use Rattle.pipe_run.specs.declared.note.Note.{Note}
 use Rattle.pipe_run.specs.NotedRounds.{Gives, AreNotedBehind}
 use Rattle.pipe_run.specs.Rounds.{left_rows}
-use Rattle.pipe_branches.specs.declared.branch.SinkAt.{SinkAt}
+use Rattle.pipe_driver.specs.declared.branch.SinkAt.{SinkAt}
 use Rattle.pipe_driver.specs.Meaning.{Meaning, meaning_of}
 use Rattle.pipe_driver.specs.State.{World}
 use Rattle.pipe_driver.specs.Runner.{AreBuilt}

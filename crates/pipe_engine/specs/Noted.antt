@@ -6,9 +6,9 @@ use Rattle.pipe_source.specs.Supplies.{left_of}
 use Rattle.pipe_source.specs.declared.phys_source.PhysSource.{PhysSource}
 use Rattle.pipe_events.specs.Stages.{Stages, JoinStage, Joined, flushes, flushes_by}
 use Rattle.pipe_events.specs.Worlds.{Event}
-use Rattle.pipe_laws.specs.Runs.{supply}
+use Rattle.pipe_events.specs.Runs.{supply}
 use Rattle.pipe_run.specs.NotedRounds.{AreSupplied}
-use Rattle.pipe_branches.specs.declared.branch.SinkAt.{SinkAt}
+use Rattle.pipe_driver.specs.declared.branch.SinkAt.{SinkAt}
 use Rattle.pipe_driver.specs.Meaning.{Meaning}
 use Rattle.pipe_driver.specs.Legs.{Way, sink_node}
 use Rattle.pipe_driver.specs.declared.pipe_line.Leg.{Leg}

@@ -2,7 +2,7 @@
 use Rattle.std.specs.Prelude.{◌≡◌, ℕ, ◌+◌, ◌<◌, List, length}
 use Rattle.pipe_schema.specs.Rows.{Row}
 use Rattle.pipe_schema.specs.declared.field.Field.{Field}
-use Rattle.pipe_words.specs.Flags.{SeatMarks}
+use Rattle.pipe_chain.specs.Flags.{SeatMarks}
 use Rattle.pipe_chain.specs.Counts.{plus, Over}
 use Rattle.pipe_chain.specs.Flow.{Acts, AllGrown}
 use Rattle.pipe_chain.specs.Parts.{Parts}

@@ -1,8 +1,7 @@
 //! What runs legs: the tables of joins, the sinks that legs feed, and the leg that runs.
 
 use crate::part::Part;
-use pipe_branches::SinkAt;
-use pipe_driver::{PipeLine, Run};
+use pipe_driver::{PipeLine, Run, SinkAt};
 use pipe_events::Event;
 use pipe_frame::DataFrame;
 use pipe_index::HashesKeys;

@@ -14,8 +14,7 @@ ghost use Rattle.pipe_engine.specs.Wholes.{HasSameRows, IsKeptFrame, IsUnder, ne
 
 use crate::engine::FedSink;
 use crate::leg::combine;
-use pipe_branches::SinkAt;
-use pipe_driver::RunError;
+use pipe_driver::{RunError, SinkAt};
 use pipe_frame::{DataChunk, DataFrame};
 use pipe_index::HashesKeys;
 use pipe_ops::{PExecutionContext, Sink};

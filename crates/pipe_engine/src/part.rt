@@ -1,6 +1,6 @@
 //! What runs a leg.
 
-use pipe_branches::SinkAt;
+use pipe_driver::SinkAt;
 use pipe_index::HashesKeys;
 use pipe_run::{Basin, Stage};
 use pipe_slots::{PhysOperator, PhysSink};

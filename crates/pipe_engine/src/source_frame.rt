@@ -6,7 +6,7 @@ ghost use Rattle.pipe_source.specs.Supplies.{left_of};
 ghost use Rattle.pipe_engine.specs.Engine.{IsFresh};
 ghost use Rattle.pipe_engine.specs.Wholes.{HasFrame, IsFrameIn, IsKeptFrame};
 
-use pipe_branches::SinkAt;
+use pipe_driver::SinkAt;
 use pipe_frame::DataFrame;
 use pipe_ops::{PExecutionContext, Source, SourceResult};
 use pipe_schema::TryClone;

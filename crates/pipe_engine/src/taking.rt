@@ -7,11 +7,11 @@ ghost use Rattle.pipe_slots.specs.declared.slot.Slot.TheVariants as kept;
 ghost use Rattle.pipe_engine.specs.Carried.{IsBack, ReadsNothing};
 ghost use Rattle.pipe_engine.specs.Taken.{IsOwn, IsTaken, IsTakenBehind, IsApart, AreApart};
 
+use pipe_chain::FlagSeat;
 use pipe_index::HashesKeys;
 use pipe_run::Stage;
 use pipe_schema::List;
 use pipe_slots::{PhysOperator, Slot, Slots};
-use pipe_words::FlagSeat;
 use std::alloc::{AllocError, Global};
 use std::collections::VecDeque;
 

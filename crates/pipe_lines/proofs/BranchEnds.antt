@@ -7,15 +7,15 @@ use Rattle.pipe_plan.specs.Node as node
 use Rattle.pipe_plan.specs.Plan.{Plan}
 use Rattle.pipe_plan.specs.Swap.{swaps}
 use Rattle.pipe_plan.specs.Under.{inputs_of, is_under, node_at}
-use Rattle.pipe_branches.specs.declared.branch.SinkAt.{SinkAt}
-use Rattle.pipe_branches.specs.declared.branch.SinkAt.TheVariants as at
-use Rattle.pipe_branches.specs.Branches.{Path, PlacedSink, placed, through, closed_by, sorted_paths, put_operator, put_sink, union_paths, node_paths, paths_of, plan_paths, add_named, named_after, numbered_sinks, numbered_paths, is_scan_at, built_side, probed_side, branches}
-use Rattle.pipe_branches.specs.Climbing.{turn_at}
-use Rattle.pipe_branches.proofs.Chains.{AreWithin}
-use Rattle.pipe_branches.proofs.Covers.{side-member, self-member}
-use Rattle.pipe_branches.proofs.Down.{node-turn, turn-is}
-use Rattle.pipe_branches.proofs.Readers.{there-under, input-under}
-use Rattle.pipe_branches.proofs.Sound.{member, or-true, down-under, under-self, root-there}
+use Rattle.pipe_driver.specs.declared.branch.SinkAt.{SinkAt}
+use Rattle.pipe_driver.specs.declared.branch.SinkAt.TheVariants as at
+use Rattle.pipe_driver.specs.Branches.{Path, PlacedSink, placed, through, closed_by, sorted_paths, put_operator, put_sink, union_paths, node_paths, paths_of, plan_paths, add_named, named_after, numbered_sinks, numbered_paths, is_scan_at, built_side, probed_side, branches}
+use Rattle.pipe_driver.specs.Climbing.{turn_at}
+use Rattle.pipe_driver.proofs.BranchChains.{AreWithin}
+use Rattle.pipe_driver.proofs.Covers.{side-member, self-member}
+use Rattle.pipe_driver.proofs.Down.{node-turn, turn-is}
+use Rattle.pipe_driver.proofs.Readers.{there-under, input-under}
+use Rattle.pipe_driver.proofs.Sound.{member, or-true, down-under, under-self, root-there}
 use Rattle.pipe_driver.proofs.Paths.{IsWithin, last_offset, within}
 use Rattle.pipe_driver.proofs.PlanParts.{there}
 use Rattle.pipe_driver.proofs.Tests.{all-append}

@@ -1,7 +1,7 @@
 -- A pipeline is cut, leg by leg.
 use Rattle.std.proofs.Common.{◌≡◌, ℕ, ◌+◌, ◌-◌, ◌≤◌, ◌<◌, List, [], ◌∷◌, ◌++◌, length, take, drop, Option, refl, ap, sym, subst, ◌∙◌, append_assoc, length-take-le, length-drop, drop-drop, arith}
 use Rattle.std.proofs.lemmas.List.{append-nil}
-use Rattle.pipe_branches.specs.Texts.{between}
+use Rattle.pipe_driver.specs.Texts.{between}
 use Rattle.pipe_driver.specs.declared.pipe_line.Leg.{Leg}
 use Rattle.pipe_engine.specs.declared.part.Part.{Part}
 use Rattle.pipe_run.specs.declared.stage.Stage.{Stage}

@@ -4,9 +4,9 @@ use Rattle.std.specs.List.{flat_map, AllByRecursion}
 use Rattle.pipe_schema.proofs.Weights.{total-append}
 use Rattle.pipe_plan.specs.Faults.{IsWellFormed}
 use Rattle.pipe_plan.specs.Plan.{Plan}
-use Rattle.pipe_branches.specs.Branches.{is_sort}
-use Rattle.pipe_branches.specs.declared.branch.SinkAt.{SinkAt}
-use Rattle.pipe_branches.specs.declared.branch.SinkAt.TheVariants as at
+use Rattle.pipe_driver.specs.Branches.{is_sort}
+use Rattle.pipe_driver.specs.declared.branch.SinkAt.{SinkAt}
+use Rattle.pipe_driver.specs.declared.branch.SinkAt.TheVariants as at
 use Rattle.pipe_driver.specs.Blocks.{is_together, begins_on}
 use Rattle.pipe_driver.specs.Boards.{begins_leg}
 use Rattle.pipe_driver.specs.Fronts.{IsClosed}

@@ -10,8 +10,8 @@ use Rattle.pipe_events.specs.PlanStages.{Setting}
 use Rattle.pipe_events.specs.Stages.{Stage, Scan, Each, Union, Sort, Joined}
 use Rattle.pipe_events.specs.Worlds.{Event, Side, OfSort, OfBuild, OfProbe}
 use Rattle.pipe_events.specs.declared.event.Event as journal
-use Rattle.pipe_branches.specs.declared.branch.SinkAt.{SinkAt}
-use Rattle.pipe_branches.specs.declared.branch.SinkAt.TheVariants as at
+use Rattle.pipe_driver.specs.declared.branch.SinkAt.{SinkAt}
+use Rattle.pipe_driver.specs.declared.branch.SinkAt.TheVariants as at
 use Rattle.pipe_driver.specs.Boards.{Board, board_of}
 use Rattle.pipe_driver.specs.Fronts.{HasRunFront}
 use Rattle.pipe_driver.specs.Legs.{Way, sink_node}

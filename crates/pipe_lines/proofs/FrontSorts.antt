@@ -6,11 +6,11 @@ use Rattle.pipe_plan.specs.Node as node
 use Rattle.pipe_plan.specs.Plan.{Plan}
 use Rattle.pipe_plan.specs.Under.{node_at}
 use Rattle.pipe_plan.specs.Walk.{walk}
-use Rattle.pipe_branches.specs.declared.branch.Branch.{Branch}
-use Rattle.pipe_branches.specs.declared.branch.SinkAt.{SinkAt}
-use Rattle.pipe_branches.specs.declared.branch.SinkAt.TheVariants as at
-use Rattle.pipe_branches.specs.declared.branch.SinkNode.{SinkNode}
-use Rattle.pipe_branches.specs.Branches.{Path, PlacedSink, placed, through, closed_by, put_sink, sorted_paths, is_sort, is_scan_at, add_named, named_after, numbered_sinks, numbered_paths, union_paths, join_paths, node_paths, paths_at, paths_of, plan_paths, built_side, probed_side, branches}
+use Rattle.pipe_driver.specs.declared.branch.Branch.{Branch}
+use Rattle.pipe_driver.specs.declared.branch.SinkAt.{SinkAt}
+use Rattle.pipe_driver.specs.declared.branch.SinkAt.TheVariants as at
+use Rattle.pipe_driver.specs.declared.branch.SinkNode.{SinkNode}
+use Rattle.pipe_driver.specs.Branches.{Path, PlacedSink, placed, through, closed_by, put_sink, sorted_paths, is_sort, is_scan_at, add_named, named_after, numbered_sinks, numbered_paths, union_paths, join_paths, node_paths, paths_at, paths_of, plan_paths, built_side, probed_side, branches}
 use Rattle.pipe_driver.specs.Fronts.{IsClosed}
 use Rattle.pipe_driver.specs.Legs.{Leg, Way, sink_node, legs_from, way_of, ways_of}
 use Rattle.pipe_driver.specs.Ways.{one, legs_to, way_to, feeds}

@@ -9,7 +9,7 @@ use Rattle.pipe_table.specs.declared.spec.JoinSpec.{JoinSpec}
 use Rattle.pipe_probe.specs.Probed.{keeps_probed}
 use Rattle.pipe_slots.specs.Kinds.{kind_of}
 use Rattle.pipe_slots.specs.JoinWords.{takes_join, output_join}
-use Rattle.pipe_branches.specs.declared.branch.SinkAt.{SinkAt}
+use Rattle.pipe_driver.specs.declared.branch.SinkAt.{SinkAt}
 use Rattle.pipe_slots.specs.Sinks.{SinkSetting}
 use Rattle.pipe_engine.specs.Stands.{IsJoinOf}
 use Rattle.pipe_check.specs.Checked.{Checked}

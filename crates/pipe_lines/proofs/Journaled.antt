@@ -17,9 +17,9 @@ use Rattle.pipe_events.specs.Worlds.{start}
 use Rattle.pipe_events.specs.declared.event.Event.{Event}
 use Rattle.pipe_events.proofs.PlanLemmas.{are_stages, stages_have_rows}
 use Rattle.pipe_events.proofs.Unfaulted.{without_fault}
-use Rattle.pipe_laws.specs.Fits.{FramesFit}
-use Rattle.pipe_laws.proofs.Plans.{sorts_sure}
-use Rattle.pipe_branches.proofs.Sound.{root-there, under-self}
+use Rattle.pipe_events.specs.Fits.{FramesFit}
+use Rattle.pipe_events.proofs.Plans.{sorts_sure}
+use Rattle.pipe_driver.proofs.Sound.{root-there, under-self}
 use Rattle.pipe_check.specs.Checked.{Checked}
 use Rattle.pipe_convert.specs.Nodes.{plan_in, rows_in}
 use Rattle.pipe_driver.specs.declared.sink_counts.SinkCounts.{SinkCounts}

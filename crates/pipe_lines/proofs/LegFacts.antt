@@ -3,10 +3,10 @@ use Rattle.std.proofs.Common.{◌≡◌, ℕ, ◌<◌, List, [], ◌∷◌, ◌+
 use Rattle.std.specs.List.{flat_map}
 use Rattle.pipe_plan.specs.Faults.{IsWellFormed}
 use Rattle.pipe_plan.specs.Under.{node_at}
-use Rattle.pipe_branches.specs.declared.branch.SinkAt.{SinkAt}
-use Rattle.pipe_branches.specs.declared.branch.SinkAt.TheVariants as at
-use Rattle.pipe_branches.specs.declared.branch.SinkNode.{SinkNode}
-use Rattle.pipe_branches.specs.Texts.{arrow_word, operator_text, operator_texts, sink_word}
+use Rattle.pipe_driver.specs.declared.branch.SinkAt.{SinkAt}
+use Rattle.pipe_driver.specs.declared.branch.SinkAt.TheVariants as at
+use Rattle.pipe_driver.specs.declared.branch.SinkNode.{SinkNode}
+use Rattle.pipe_driver.specs.Texts.{arrow_word, operator_text, operator_texts, sink_word}
 use Rattle.pipe_driver.specs.Legs.{leg_of, sink_node}
 use Rattle.pipe_driver.specs.Numbers.{place_among, named_sinks}
 use Rattle.pipe_driver.specs.declared.pipe_line.Leg.{Leg}

@@ -4,9 +4,9 @@ use Rattle.std.specs.List.{flat_map, AllByRecursion}
 use Rattle.std.proofs.lemmas.List.{append-nil}
 use Rattle.pipe_plan.specs.Under.{node_at}
 use Rattle.pipe_source.specs.declared.phys_source.PhysSource.{PhysSource}
-use Rattle.pipe_branches.specs.declared.branch.Branch.{Branch}
-use Rattle.pipe_branches.specs.declared.branch.SinkNode.{SinkNode}
-use Rattle.pipe_branches.specs.Texts.{arrow_word, between, node_word, operator_texts, sink_word, sink_texts}
+use Rattle.pipe_driver.specs.declared.branch.Branch.{Branch}
+use Rattle.pipe_driver.specs.declared.branch.SinkNode.{SinkNode}
+use Rattle.pipe_driver.specs.Texts.{arrow_word, between, node_word, operator_texts, sink_word, sink_texts}
 use Rattle.pipe_driver.specs.Legs.{leg_of, legs_from, sink_node, way_of, Way}
 use Rattle.pipe_driver.specs.Ways.{AreLegs}
 use Rattle.pipe_driver.specs.declared.pipe_line.Leg.{Leg}

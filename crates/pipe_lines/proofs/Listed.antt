@@ -11,10 +11,10 @@ use Rattle.pipe_plan.specs.Schemas.{schemas_to}
 use Rattle.pipe_plan.specs.Under.{node_at}
 use Rattle.pipe_events.specs.Stages.{Stages, Scan}
 use Rattle.pipe_events.specs.PlanStages.{Setting, stage_of, stage_at, stages_of}
-use Rattle.pipe_laws.specs.Runs.{supply, supply_of}
+use Rattle.pipe_events.specs.Runs.{supply, supply_of}
 use Rattle.pipe_source.specs.Supplies.{left_of}
 use Rattle.pipe_source.specs.declared.phys_source.PhysSource.{PhysSource}
-use Rattle.pipe_branches.specs.declared.branch.Branch.{Branch}
+use Rattle.pipe_driver.specs.declared.branch.Branch.{Branch}
 use Rattle.pipe_driver.specs.Legs as plan_legs
 use Rattle.pipe_driver.specs.Legs.{Way, sink_node}
 use Rattle.pipe_driver.specs.Shape.{Kind, Begins, Each, Unites, Joins, Sorts, kind_of, kind_at, is_sorting}

@@ -4,10 +4,10 @@ use Rattle.std.specs.List.{AllByRecursion}
 use Rattle.std.proofs.lemmas.List.{append-nil, drop_all}
 use Rattle.pipe_ops.specs.Batches.{Left}
 use Rattle.pipe_plan.specs.Faults.{IsWellFormed}
-use Rattle.pipe_branches.specs.declared.branch.SinkAt.{SinkAt}
-use Rattle.pipe_branches.specs.declared.branch.SinkAt.TheVariants as at
-use Rattle.pipe_branches.specs.declared.branch.SinkNode.{SinkNode}
-use Rattle.pipe_branches.specs.Texts.{between}
+use Rattle.pipe_driver.specs.declared.branch.SinkAt.{SinkAt}
+use Rattle.pipe_driver.specs.declared.branch.SinkAt.TheVariants as at
+use Rattle.pipe_driver.specs.declared.branch.SinkNode.{SinkNode}
+use Rattle.pipe_driver.specs.Texts.{between}
 use Rattle.pipe_driver.specs.Legs.{sink_node}
 use Rattle.pipe_driver.proofs.Tests.{all-append}
 use Rattle.pipe_check.specs.Checked.{Checked}

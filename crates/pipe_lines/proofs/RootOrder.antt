@@ -12,9 +12,9 @@ use Rattle.pipe_source.specs.Endings.{source_rows}
 use Rattle.pipe_source.specs.Supplies.{source_text}
 use Rattle.pipe_source.specs.declared.phys_source.PhysSource.{PhysSource}
 use Rattle.pipe_source.specs.declared.phys_source.PhysSource.TheVariants.{Frame, Union, ReProject}
-use Rattle.pipe_branches.specs.declared.branch.SinkAt.{SinkAt}
-use Rattle.pipe_branches.specs.declared.branch.SinkAt.TheVariants as at
-use Rattle.pipe_branches.specs.Texts.{node_word}
+use Rattle.pipe_driver.specs.declared.branch.SinkAt.{SinkAt}
+use Rattle.pipe_driver.specs.declared.branch.SinkAt.TheVariants as at
+use Rattle.pipe_driver.specs.Texts.{node_word}
 use Rattle.pipe_driver.specs.Shape.{below_sink, is_sorting, kind_at, kind_of}
 use Rattle.pipe_driver.proofs.Tests.{and-both, eq-true}
 use Rattle.pipe_run.specs.declared.stage.Stage.{Stage}

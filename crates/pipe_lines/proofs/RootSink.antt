@@ -1,8 +1,8 @@
 -- The sink of the root takes chunks of the root's schema.
 use Rattle.std.proofs.Common.{◌≡◌, ℕ, List, [], Option, Some, None, refl, ap}
 use Rattle.pipe_schema.specs.declared.field.Field.{Field}
-use Rattle.pipe_branches.specs.declared.branch.SinkAt.{SinkAt}
-use Rattle.pipe_branches.specs.declared.branch.SinkAt.TheVariants as at
+use Rattle.pipe_driver.specs.declared.branch.SinkAt.{SinkAt}
+use Rattle.pipe_driver.specs.declared.branch.SinkAt.TheVariants as at
 use Rattle.pipe_check.specs.Checked.{Checked}
 use Rattle.pipe_convert.specs.Converted.{schema_in}
 use Rattle.pipe_convert.specs.Nodes.{meaning_in}

@@ -10,7 +10,7 @@ use Rattle.pipe_plan.specs.Node.{Node}
 use Rattle.pipe_plan.specs.Node as node
 use Rattle.pipe_plan.specs.PlanRows.{rows_of}
 use Rattle.pipe_plan.specs.Under.{node_at}
-use Rattle.pipe_branches.specs.Texts.{node_word}
+use Rattle.pipe_driver.specs.Texts.{node_word}
 use Rattle.pipe_events.specs.Stages.{Stage, Each, Union, Joined, through}
 use Rattle.pipe_check.specs.Checked.{Checked}
 use Rattle.pipe_convert.specs.Converted.{IsNode, schema_in}
@@ -24,7 +24,7 @@ use Rattle.pipe_slots.specs.PhysWords.{takes_of, output_of, work_of, text_of, ea
 use Rattle.pipe_slots.specs.declared.phys_operator.PhysOperator.{PhysOperator}
 use Rattle.pipe_slots.specs.declared.phys_operator.PhysOperator.TheVariants as op
 use Rattle.pipe_slots.specs.declared.slot.Slot.{Slot}
-use Rattle.pipe_branches.specs.declared.branch.SinkAt.{SinkAt}
+use Rattle.pipe_driver.specs.declared.branch.SinkAt.{SinkAt}
 use Rattle.pipe_slots.specs.Sinks.{SinkSetting}
 use Rattle.pipe_engine.specs.Stands.{Settings, IsRowOf, IsOperatorOf}
 use Rattle.pipe_lines.specs.Made.{Specs, settings_with, IsOperatorAt, IsPlaceAt}

@@ -8,8 +8,8 @@ use Rattle.pipe_plan.specs.Faults.{IsWellFormed}
 use Rattle.pipe_plan.specs.Node as node
 use Rattle.pipe_plan.specs.PlanRows.{rows_of}
 use Rattle.pipe_plan.specs.declared.ir.SortOptions.{SortOptions}
-use Rattle.pipe_branches.specs.declared.branch.SinkAt.TheVariants as at
-use Rattle.pipe_branches.specs.Texts.{build_word_of}
+use Rattle.pipe_driver.specs.declared.branch.SinkAt.TheVariants as at
+use Rattle.pipe_driver.specs.Texts.{build_word_of}
 use Rattle.pipe_events.specs.Worlds.{ends}
 use Rattle.pipe_sort.specs.SortKeys.{Sorting, sort_rows}
 use Rattle.pipe_source.specs.Ordered.{Ordered}

@@ -17,7 +17,7 @@ use Rattle.pipe_convert.specs.Joins.{AreSpecs, IsSpecOf, IsSomeSpecOf, spec_at, 
 use Rattle.pipe_convert.specs.Nodes.{IsUnder, plan_in, nodes_in, meaning_in}
 use Rattle.pipe_convert.specs.Steps.{GoesThrough, stage_in}
 use Rattle.pipe_convert.proofs.JoinNodes.{not_sorting, union_not_sorting, same_at, some_spec, spec_of_some}
-use Rattle.pipe_branches.specs.declared.branch.SinkAt.{SinkAt}
+use Rattle.pipe_driver.specs.declared.branch.SinkAt.{SinkAt}
 use Rattle.pipe_driver.specs.Legs.{sink_node}
 use Rattle.pipe_slots.specs.declared.phys_sink.PhysSink.{PhysSink}
 use Rattle.pipe_convert.specs.Steps.{IsThere}

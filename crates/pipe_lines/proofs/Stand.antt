@@ -10,8 +10,8 @@ use Rattle.pipe_plan.specs.Faults.{IsWellFormed}
 use Rattle.pipe_rows.specs.Partition.{IsPartitionCount}
 use Rattle.pipe_source.specs.Supplies.{left_of}
 use Rattle.pipe_source.specs.declared.phys_source.PhysSource.{PhysSource}
-use Rattle.pipe_branches.specs.Branches.{branches}
-use Rattle.pipe_branches.specs.declared.branch.Branch.{Branch}
+use Rattle.pipe_driver.specs.Branches.{branches}
+use Rattle.pipe_driver.specs.declared.branch.Branch.{Branch}
 use Rattle.pipe_driver.specs.Legs as plan_legs
 use Rattle.pipe_driver.specs.Legs.{Way, sink_node, ways_of}
 use Rattle.pipe_driver.specs.Ways.{one, occurs, starts_from, starts_of, IsWay}

@@ -5,9 +5,9 @@
 -- through 3 into the sink of 5, and from 5 through 4 into the root's sink. The operator at 3 is given
 -- rows of 1, the sink of 5 rows of 3, the operator at 4 rows of 5, and the root's sink rows of 4.
 use Rattle.std.specs.Prelude.{◌≡◌, ℕ, ◌≤◌, List, [], ◌∷◌, Bool, length, drop, Option, Some, None, if◌then◌else◌}
-use Rattle.pipe_branches.specs.declared.branch.SinkAt.{SinkAt}
-use Rattle.pipe_branches.specs.declared.branch.SinkAt.TheVariants as at
-use Rattle.pipe_branches.specs.Texts.{between}
+use Rattle.pipe_driver.specs.declared.branch.SinkAt.{SinkAt}
+use Rattle.pipe_driver.specs.declared.branch.SinkAt.TheVariants as at
+use Rattle.pipe_driver.specs.Texts.{between}
 use Rattle.pipe_convert.specs.Steps.{last_of}
 use Rattle.pipe_driver.specs.declared.pipe_line.Leg.{Leg}
 use Rattle.pipe_engine.specs.Drives.{Line}

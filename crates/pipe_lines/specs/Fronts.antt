@@ -15,7 +15,7 @@ use Rattle.pipe_source.specs.declared.phys_source.PhysSource.{PhysSource}
 use Rattle.pipe_events.specs.EventValues.{event_value}
 use Rattle.pipe_events.specs.PlanStages.{Setting}
 use Rattle.pipe_events.specs.declared.event.Event.{Event}
-use Rattle.pipe_branches.specs.declared.branch.SinkAt.TheVariants as at
+use Rattle.pipe_driver.specs.declared.branch.SinkAt.TheVariants as at
 use Rattle.pipe_driver.specs.Boards.{board_of}
 use Rattle.pipe_driver.specs.Fronts.{IsClosed}
 use Rattle.pipe_driver.specs.Legs.{Way}

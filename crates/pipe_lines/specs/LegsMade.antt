@@ -1,8 +1,8 @@
 -- Legs that are made of what a branch says.
 use Rattle.std.specs.Prelude.{◌≡◌, ℕ, List, ◌++◌, length, map}
 use Rattle.std.specs.List.{flat_map}
-use Rattle.pipe_branches.specs.declared.branch.SinkNode.{SinkNode}
-use Rattle.pipe_branches.specs.Texts.{arrow_word, operator_texts, sink_word, sink_texts}
+use Rattle.pipe_driver.specs.declared.branch.SinkNode.{SinkNode}
+use Rattle.pipe_driver.specs.Texts.{arrow_word, operator_texts, sink_word, sink_texts}
 use Rattle.pipe_driver.specs.Legs.{leg_of, legs_from}
 use Rattle.pipe_driver.specs.declared.pipe_line.Leg.{Leg}
 use Rattle.pipe_driver.specs.Lines.{leg_as}

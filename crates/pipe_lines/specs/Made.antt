@@ -8,9 +8,9 @@ use Rattle.pipe_plan.specs.Node as node
 use Rattle.pipe_plan.specs.Under.{node_at}
 use Rattle.pipe_plan.specs.declared.ir.SortOptions.{SortOptions}
 use Rattle.pipe_sort.specs.SortKeys.{Sorting}
-use Rattle.pipe_branches.specs.declared.branch.SinkAt.{SinkAt}
-use Rattle.pipe_branches.specs.declared.branch.SinkAt.TheVariants as at
-use Rattle.pipe_branches.specs.Texts.{node_word, sink_word}
+use Rattle.pipe_driver.specs.declared.branch.SinkAt.{SinkAt}
+use Rattle.pipe_driver.specs.declared.branch.SinkAt.TheVariants as at
+use Rattle.pipe_driver.specs.Texts.{node_word, sink_word}
 use Rattle.pipe_table.specs.declared.spec.JoinSpec.{JoinSpec}
 use Rattle.pipe_run.specs.declared.stage.Stage.{Stage}
 use Rattle.pipe_slots.specs.PhysWords.{text_of}

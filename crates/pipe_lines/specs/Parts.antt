@@ -1,6 +1,6 @@
 -- What the pipeline of a branch is made of.
 use Rattle.std.specs.Prelude.{◌≡◌, ℕ, ◌<◌, List, [], ◌∷◌, Option}
-use Rattle.pipe_branches.specs.declared.branch.SinkNode.{SinkNode}
+use Rattle.pipe_driver.specs.declared.branch.SinkNode.{SinkNode}
 use Rattle.pipe_check.specs.Checked.{Checked}
 use Rattle.pipe_convert.specs.Nodes.{meaning_in}
 use Rattle.pipe_convert.specs.Steps.{GoesThrough, IsThere}

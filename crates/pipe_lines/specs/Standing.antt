@@ -6,7 +6,7 @@ use Rattle.pipe_ops.specs.declared.context.PExecutionContext.{PExecutionContext}
 use Rattle.pipe_events.specs.PlanStages.{Setting, stages_of}
 use Rattle.pipe_events.specs.Stages.{IsStages}
 use Rattle.pipe_check.specs.Checked.{Checked}
-use Rattle.pipe_branches.specs.declared.branch.SinkAt.TheVariants as at
+use Rattle.pipe_driver.specs.declared.branch.SinkAt.TheVariants as at
 use Rattle.pipe_convert.specs.Converted.{schema_in}
 use Rattle.pipe_convert.specs.Nodes.{plan_in, nodes_in, meaning_in}
 use Rattle.pipe_driver.specs.Meaning.{Meaning}

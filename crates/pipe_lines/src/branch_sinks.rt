@@ -11,9 +11,9 @@ ghost use Rattle.pipe_lines.specs.Parts.{AreSinksMade, IsSinkThere};
 
 use crate::layout::Layout;
 use crate::threaded_sink::ThreadedSink;
-use pipe_branches::{SinkAt, SinkNode};
 use pipe_check::CheckedPlan;
 use pipe_convert::node_count;
+use pipe_driver::{SinkAt, SinkNode};
 use pipe_ops::Sink;
 use pipe_rows::KeyHasher;
 use pipe_slots::PhysSink;

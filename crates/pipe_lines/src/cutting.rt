@@ -6,9 +6,8 @@ ghost use Rattle.pipe_lines.specs.Cuts.{AreLegsCut, EndWithin, IsLegCut, next_of
 
 use crate::pipe_nodes::PipeNodes;
 use crate::threaded_sink::ThreadedSink;
-use pipe_branches::SinkAt;
 use pipe_convert::operators_between;
-use pipe_driver::Leg;
+use pipe_driver::{Leg, SinkAt};
 use pipe_engine::Part;
 use pipe_ops::Sink;
 use pipe_rows::KeyHasher;

@@ -7,9 +7,9 @@ ghost use Rattle.pipe_convert.specs.Sources.{taken_at};
 ghost use Rattle.pipe_lines.specs.Cuts.{place_node};
 ghost use Rattle.pipe_lines.specs.Parts.{node_of_sink};
 
-use pipe_branches::{Branch, SinkAt, SinkNode};
 use pipe_check::CheckedPlan;
 use pipe_convert::source_nodes;
+use pipe_driver::{Branch, SinkAt, SinkNode};
 use std::alloc::{AllocError, Global};
 
 /// The plan's nodes in a pipeline: the scan or the union that is its source, the scans whose rows it has, in order (the

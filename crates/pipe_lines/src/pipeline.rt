@@ -2,7 +2,7 @@
 
 ghost use Rattle.std.specs.Prelude.{◌≡◌, ◌≤◌, map, IfOk};
 ghost use Rattle.std.specs.List.{AllByRecursion};
-ghost use Rattle.pipe_branches.specs.Branches.{branches as branches_of_plan};
+ghost use Rattle.pipe_driver.specs.Branches.{branches as branches_of_plan};
 ghost use Rattle.pipe_convert.specs.Laws.{IsBranch};
 ghost use Rattle.pipe_convert.specs.Nodes.{plan_in};
 ghost use Rattle.pipe_lines.specs.Cuts.{way_in, IsLineFor};
@@ -14,9 +14,9 @@ use crate::branch_sinks::create_sinks;
 use crate::layout::Layout;
 use crate::pipe_line::PipeLine;
 use crate::pipe_nodes::pipe_nodes;
-use pipe_branches::Branch;
 use pipe_check::CheckedPlan;
 use pipe_convert::get_source;
+use pipe_driver::Branch;
 use pipe_engine::PlanLine;
 use pipe_rows::KeyHasher;
 use std::alloc::{AllocError, Global};

@@ -1,7 +1,7 @@
 //! The sinks of places.
 
 ghost use Rattle.std.specs.Prelude.{◌≡◌, ◌<◌, true, IfOk};
-ghost use Rattle.pipe_branches.specs.declared.branch.SinkAt.TheVariants as at;
+ghost use Rattle.pipe_driver.specs.declared.branch.SinkAt.TheVariants as at;
 ghost use Rattle.pipe_convert.specs.Joins.{AreSpecs};
 ghost use Rattle.pipe_lines.specs.Made.{IsSinkAt, IsSortAt, sorts_rows};
 ghost use Rattle.pipe_plan.specs.Node.{node_of};
@@ -10,9 +10,9 @@ ghost use Rattle.pipe_convert.specs.Nodes.{IsUnder, nodes_in, meaning_in};
 ghost use Rattle.pipe_convert.specs.Steps.{IsThere};
 
 use crate::settings::settings_of;
-use pipe_branches::SinkAt;
 use pipe_check::CheckedPlan;
 use pipe_convert::{numbered, sort_sink};
+use pipe_driver::SinkAt;
 use pipe_expr::JoinType;
 use pipe_plan::IR;
 use pipe_probe::CrossJoin;

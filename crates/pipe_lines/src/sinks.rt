@@ -9,9 +9,9 @@ ghost use Rattle.pipe_convert.specs.Nodes.{IsUnder, nodes_in};
 ghost use Rattle.pipe_lines.specs.Made.{AreSinks, AreNodeSinks, IsNodeSink, own_sink};
 
 use crate::sink::get_sink;
-use pipe_branches::SinkAt;
 use pipe_check::CheckedPlan;
 use pipe_convert::{marked_nodes, node_count, numbered};
+use pipe_driver::SinkAt;
 use pipe_plan::IR;
 use pipe_rows::KeyHasher;
 use pipe_slots::PhysSink;

@@ -3,7 +3,7 @@
 ghost use Rattle.std.specs.Prelude.{◌≡◌, Some};
 ghost use Rattle.std.specs.List.{flat_map};
 ghost use Rattle.std.specs.Fmt.{WritesOnOk};
-ghost use Rattle.pipe_branches.specs.Texts.{arrow_word};
+ghost use Rattle.pipe_driver.specs.Texts.{arrow_word};
 ghost use Rattle.pipe_slots.specs.Sinks.{sink_text};
 ghost use Rattle.pipe_slots.specs.PhysWords.{text_of};
 ghost use Rattle.pipe_lines.specs.Lines.{stage_text, part_text, leg_text, line_text, source_or_none};

@@ -16,9 +16,9 @@ use Rattle.pipe_plan.specs.Under.{inputs_of}
 use Rattle.pipe_plan.specs.Schemas.{frame_at, scan_fields, node_schema}
 use Rattle.pipe_plan.specs.PlanRows.{node_rows}
 use Rattle.pipe_plan.specs.Faults.{repeats}
-use Rattle.pipe_laws.specs.Fits.{FitsRow, FitRows}
-use Rattle.pipe_laws.proofs.Rows.{named-row}
-use Rattle.pipe_laws.proofs.Lists.{all-map}
+use Rattle.pipe_events.specs.Fits.{FitsRow, FitRows}
+use Rattle.pipe_events.proofs.Rows.{named-row}
+use Rattle.pipe_events.proofs.Lists.{all-map}
 use Rattle.pipe_rules.specs.Placed.{is_input, IsReady}
 use Rattle.pipe_rules.proofs.Filters.{all-of, all-both, all-always}
 use Rattle.pipe_rules.specs.Needs.{Names, is_needed}

@@ -13,7 +13,7 @@ use Rattle.pipe_expr.specs.declared.join_words.FunctionIR.TheVariants as functio
 use Rattle.pipe_plan.specs.Node.{Node}
 use Rattle.pipe_plan.specs.Node as node
 use Rattle.pipe_plan.specs.Schemas.{join_over, node_schema}
-use Rattle.pipe_laws.proofs.Lists.{all-append}
+use Rattle.pipe_events.proofs.Lists.{all-append}
 use Rattle.pipe_rules.specs.Conjuncts.{conjuncts_of}
 use Rattle.pipe_rules.specs.Names.{with_names}
 use Rattle.pipe_rules.specs.Placing.{Placing, Above, OnInputs, OnLeft, OnRight, reads_only, on_inputs_if, column_under, is_there, is_plain, plain_name, is_replacing, is_passed_on, is_not_in, right_name, on_left_or, on_right_or, on_left, on_right, below_join}

@@ -9,7 +9,7 @@ use Rattle.pipe_schema.specs.declared.field.Field.{Field}
 use Rattle.pipe_plan.specs.Walk.{walk}
 use Rattle.pipe_plan.specs.Node.{Node, node_of}
 use Rattle.pipe_plan.specs.declared.ir.IR.{IR}
-use Rattle.pipe_laws.specs.Fitting.{TablesFit}
+use Rattle.pipe_events.specs.Fitting.{TablesFit}
 use Rattle.pipe_rules.proofs.Readings.{map-long}
 use Rattle.pipe_plan.specs.Node as node
 use Rattle.pipe_plan.specs.Plan.{Plan}
@@ -21,7 +21,7 @@ use Rattle.pipe_check.specs.Checking.{IsFrameFull, AreFull as AreSchemasFull}
 use Rattle.pipe_check.proofs.Full.{node_full}
 use Rattle.pipe_check.proofs.Walks.{member, none-member, itself}
 use Rattle.pipe_check.proofs.WellFormed.{root_there}
-use Rattle.pipe_laws.specs.Fits.{FramesFit}
+use Rattle.pipe_events.specs.Fits.{FramesFit}
 use Rattle.pipe_rules.specs.Low.{is_sort, AreLow}
 use Rattle.pipe_rules.specs.Sorts.{sorting_of}
 use Rattle.pipe_rules.specs.Literals.{AddsNoLiteral}

@@ -19,7 +19,7 @@ use Rattle.pipe_plan.specs.Schemas.{frame_at, scan_fields, node_schema}
 use Rattle.pipe_plan.specs.Faults.{is_empty, is_void, names_nothing, eq_types, on_differ, is_named_untyped, has_no_type, existing_of, expr_columns}
 use Rattle.pipe_plan.specs.declared.ir.SortOptions.{SortOptions}
 use Rattle.pipe_plan.specs.declared.ir.PlanSlice.{PlanSlice}
-use Rattle.pipe_laws.proofs.Lists.{all-filter}
+use Rattle.pipe_events.proofs.Lists.{all-filter}
 use Rattle.pipe_rules.specs.Placed.{is_input}
 use Rattle.pipe_rules.proofs.Filters.{all-of, all-left, all-right, all-always, filter-same, filter-map, filter-append, filter-swap}
 use Rattle.pipe_rules.proofs.Under.{same-name, each-known}

@@ -23,8 +23,8 @@ use Rattle.pipe_check.specs.Checking.{fault_with}
 use Rattle.pipe_check.proofs.Agree.{Agree, agree-members, schema-agree}
 use Rattle.pipe_check.proofs.Walks.{member, none-member, schema-own, schema-below, under-there}
 use Rattle.pipe_check.proofs.WellFormed.{root_there}
-use Rattle.pipe_laws.specs.Fits.{FitRows, FramesFit}
-use Rattle.pipe_laws.proofs.Plans.{rows_fit}
+use Rattle.pipe_events.specs.Fits.{FitRows, FramesFit}
+use Rattle.pipe_events.proofs.Plans.{rows_fit}
 use Rattle.pipe_rules.specs.Conjuncts.{conjuncts_of}
 use Rattle.pipe_rules.specs.Placed.{is_input, placing_at}
 use Rattle.pipe_rules.proofs.Filters.{all-of, all-both}

@@ -14,7 +14,7 @@ use Rattle.pipe_plan.specs.Node.{node_of}
 use Rattle.pipe_plan.specs.declared.ir.IR.{IR}
 use Rattle.pipe_plan.specs.declared.ir.IR.TheVariants as ir
 use Rattle.pipe_plan.specs.declared.ir.JoinOptions.{JoinOptions}
-use Rattle.pipe_laws.proofs.Lists.{all-filter}
+use Rattle.pipe_events.proofs.Lists.{all-filter}
 use Rattle.pipe_rules.proofs.Filters.{all-of, filter-same, filter-constant}
 use Rattle.pipe_rules.proofs.Under.{own-name}
 use Rattle.pipe_rules.specs.Needs.{needed_exprs, columns_read, is_needed}

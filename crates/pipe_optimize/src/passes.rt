@@ -18,7 +18,7 @@ ghost use Rattle.pipe_optimize.specs.Needed.{IsTrimmed};
 use crate::full::frames_full;
 use crate::trimming::trim;
 use pipe_check::CheckedPlan;
-use pipe_laws::frames_fit;
+use pipe_events::frames_fit;
 use pipe_plan::PipeError;
 use pipe_rules::{Rewritten, push_filters};
 use std::alloc::Global;

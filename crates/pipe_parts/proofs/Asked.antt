@@ -18,8 +18,8 @@ use Rattle.pipe_plan.specs.PlanRows.{slice_rows}
 use Rattle.pipe_plan.specs.Faults.{eq_field, inputs_differ}
 use Rattle.pipe_plan.specs.declared.ir.PlanSlice.{PlanSlice}
 use Rattle.pipe_events.specs.PlanStages.{one_row, filtered_row}
-use Rattle.pipe_laws.specs.Fits.{FitRows}
-use Rattle.pipe_laws.proofs.Rows.{same-dtype}
+use Rattle.pipe_events.specs.Fits.{FitRows}
+use Rattle.pipe_events.proofs.Rows.{same-dtype}
 use Rattle.pipe_rules.proofs.Under.{same-name}
 use Rattle.pipe_parts.specs.Wishes.{wishes_below, alone, alike, slice_ways}
 use Rattle.pipe_parts.specs.declared.wish.Wish.{Wish}

@@ -15,7 +15,7 @@ use Rattle.pipe_plan.specs.Faults.{IsWellFormed, is_column}
 use Rattle.pipe_plan.specs.declared.ir.JoinOptions.{JoinOptions}
 use Rattle.pipe_plan.specs.declared.ir.PlanSlice.{PlanSlice}
 use Rattle.pipe_plan.specs.declared.ir.SortOptions.{SortOptions}
-use Rattle.pipe_laws.proofs.Lists.{all-append}
+use Rattle.pipe_events.proofs.Lists.{all-append}
 use Rattle.pipe_parts.specs.Wishes.{alike, alone, beside_whole, by_key, column_below, columns_below, join_ways, key_by, key_ways, keyed_on, name_before, same_names, slice_ways, split_ways, ways, wishes_below}
 use Rattle.pipe_parts.specs.Choices.{Choice, IsIn, choices_for, choices_of, in_pairs, node_choices}
 use Rattle.pipe_parts.specs.declared.wish.Wish.{Wish}

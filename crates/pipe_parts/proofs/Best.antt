@@ -5,7 +5,7 @@ use Rattle.std.specs.List.{AllByRecursion}
 use Rattle.pipe_schema.proofs.Weights.{total-append}
 use Rattle.pipe_plan.specs.Plan.{Plan}
 use Rattle.pipe_plan.specs.Under.{node_at}
-use Rattle.pipe_laws.proofs.Lists.{all-append, all-map, all-flat}
+use Rattle.pipe_events.proofs.Lists.{all-append, all-map, all-flat}
 use Rattle.pipe_rules.proofs.Filters.{all-of}
 use Rattle.pipe_parts.specs.Choices.{Choice, IsIn, before_each, in_pairs}
 use Rattle.pipe_parts.specs.Parts.{frame_in}

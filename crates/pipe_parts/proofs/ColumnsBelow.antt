@@ -17,8 +17,8 @@ use Rattle.pipe_plan.specs.Node.{Node}
 use Rattle.pipe_plan.specs.Node as node
 use Rattle.pipe_plan.specs.Faults.{expr_columns}
 use Rattle.pipe_events.specs.PlanStages.{one_row, filtered_row}
-use Rattle.pipe_laws.specs.Fits.{FitsRow}
-use Rattle.pipe_laws.proofs.Lists.{all-map, all-filter}
+use Rattle.pipe_events.specs.Fits.{FitsRow}
+use Rattle.pipe_events.proofs.Lists.{all-map, all-filter}
 use Rattle.pipe_rules.specs.Placing.{column_of, column_under, is_replacing, old_name}
 use Rattle.pipe_rules.proofs.Filters.{all-always, all-of, all-both, all-right}
 use Rattle.pipe_rules.proofs.Under.{named-under, same-name, each-known}

@@ -19,8 +19,8 @@ use Rattle.pipe_expr.specs.declared.join_words.JoinType.{JoinType}
 use Rattle.pipe_expr.specs.declared.join_words.JoinType.TheVariants as how
 use Rattle.pipe_plan.specs.Node.{Node}
 use Rattle.pipe_plan.specs.Faults.{is_column}
-use Rattle.pipe_laws.specs.Fits.{FitsRow, FitRows}
-use Rattle.pipe_laws.proofs.Lists.{all-append, all-map, all-flat, all-filter}
+use Rattle.pipe_events.specs.Fits.{FitsRow, FitRows}
+use Rattle.pipe_events.proofs.Lists.{all-append, all-map, all-flat, all-filter}
 use Rattle.pipe_rules.proofs.Filters.{all-always, all-of, all-both, all-right}
 use Rattle.pipe_rules.proofs.Under.{named-under, same-name, each-known}
 use Rattle.pipe_rules.proofs.Columns.{of-left}

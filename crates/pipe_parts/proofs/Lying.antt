@@ -5,8 +5,8 @@ use Rattle.pipe_schema.specs.Rows.{Row, Same}
 use Rattle.pipe_schema.specs.declared.field.Field.{Field}
 use Rattle.pipe_schema.proofs.Weights.{SameBag, SameBag-refl, SameBag-sym, SameBag-trans, SameBag-from_equal, SameBag-append, SameBag-flat_map, SameBag-from_rows, Same-from_bag}
 use Rattle.pipe_expr.specs.Projections.{row_named}
-use Rattle.pipe_laws.specs.Fits.{FitsRow, FitRows}
-use Rattle.pipe_laws.proofs.Lists.{all-append, all-flat}
+use Rattle.pipe_events.specs.Fits.{FitsRow, FitRows}
+use Rattle.pipe_events.proofs.Lists.{all-append, all-flat}
 use Rattle.pipe_rules.proofs.Filters.{all-of, all-both}
 use Rattle.pipe_parts.specs.declared.wish.Wish.{Wish}
 use Rattle.pipe_parts.specs.declared.wish.Wish.TheVariants.{Split, Key, Whole}

@@ -15,7 +15,7 @@ use Rattle.pipe_plan.specs.Under.{node_at, inputs_of, is_under}
 use Rattle.pipe_plan.specs.Schemas.{schemas_to, schema_of}
 use Rattle.pipe_plan.specs.Faults.{IsWellFormed}
 use Rattle.pipe_check.proofs.Walks.{member, itself, walk-at, walk-below, schema-below}
-use Rattle.pipe_laws.proofs.Lists.{all-append}
+use Rattle.pipe_events.proofs.Lists.{all-append}
 use Rattle.pipe_rules.specs.Placed.{first_input}
 use Rattle.pipe_rules.proofs.Filters.{all-left, all-right}
 use Rattle.pipe_parts.proofs.Granted.{granted}

@@ -19,8 +19,8 @@ use Rattle.pipe_plan.specs.PlanRows.{node_rows, rows_at, rows_to, rows_of, scan_
 use Rattle.pipe_plan.specs.Faults.{or_else, unknown_in, unknown_scanned, IsWellFormed}
 use Rattle.pipe_check.proofs.Agree.{agree-members, schema-agree}
 use Rattle.pipe_check.proofs.Walks.{member, itself, walk-at, walk-below, schema-own, schema-below}
-use Rattle.pipe_laws.specs.Fits.{FitRows, FramesFit}
-use Rattle.pipe_laws.proofs.Plans.{rows_fit, sorts_sure}
+use Rattle.pipe_events.specs.Fits.{FitRows, FramesFit}
+use Rattle.pipe_events.proofs.Plans.{rows_fit, sorts_sure}
 use Rattle.pipe_rules.specs.Placed.{first_input}
 use Rattle.pipe_rules.proofs.Filters.{all-left, all-right}
 use Rattle.pipe_parts.proofs.Granted.{Granted, granted}

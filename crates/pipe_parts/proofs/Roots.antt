@@ -13,7 +13,7 @@ use Rattle.pipe_plan.specs.Faults.{IsWellFormed}
 use Rattle.pipe_plan.specs.declared.ir.SortOptions.{SortOptions}
 use Rattle.pipe_check.proofs.Walks.{member, itself, schema-below, under-self}
 use Rattle.pipe_check.proofs.WellFormed.{root_there}
-use Rattle.pipe_laws.proofs.Plans.{sorts_sure}
+use Rattle.pipe_events.proofs.Plans.{sorts_sure}
 use Rattle.pipe_parts.proofs.Granted.{Granted, granted}
 use Rattle.pipe_parts.specs.declared.wish.Wish.TheVariants.{Split}
 use Rattle.pipe_parts.specs.Parts.{below_sort, parts_root, gather_nodes}

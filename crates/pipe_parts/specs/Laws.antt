@@ -11,7 +11,7 @@ use Rattle.pipe_plan.specs.Schemas.{schema_of}
 use Rattle.pipe_plan.specs.PlanRows.{rows_of}
 use Rattle.pipe_plan.specs.Faults.{IsWellFormed}
 use Rattle.pipe_plan.specs.declared.ir.SortOptions.{SortOptions}
-use Rattle.pipe_laws.specs.Fits.{FramesFit}
+use Rattle.pipe_events.specs.Fits.{FramesFit}
 use Rattle.pipe_parts.specs.declared.wish.Wish.{Wish}
 use Rattle.pipe_parts.specs.declared.wish.Wish.TheVariants.{Split, Key, Whole}
 use Rattle.pipe_parts.specs.Choices.{Choice, IsIn, choices_of}

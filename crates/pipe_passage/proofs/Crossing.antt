@@ -5,7 +5,7 @@ use denote.Param.Send.{IsSend, IsSync, plain_send, struct_send, recorded_send, r
 use denote.Struct.Declared.{shape as fields_shape}
 use Rattle.pipe_expr.specs.contracts.physical.PhysicalExpr as physical
 use Rattle.pipe_frame.proofs.data_frame.DataFrame.TheSendSync as frame
-use Rattle.pipe_function.proofs.function.FunctionOperator.TheSendSync as function
+use Rattle.pipe_source.proofs.function.FunctionOperator.TheSendSync as function
 use Rattle.pipe_index.specs.declared.hashes_keys.HashesKeys.{Ghosts}
 use Rattle.pipe_ops.proofs.filter.FilterOperator.TheSendSync as filter
 use Rattle.pipe_ops.proofs.hstack.HstackOperator.TheSendSync as hstack

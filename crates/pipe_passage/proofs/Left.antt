@@ -7,7 +7,7 @@ use Rattle.pipe_schema.specs.Rows.{Row}
 use Rattle.pipe_schema.specs.declared.field.Field.{Field}
 use Rattle.pipe_ops.specs.declared.sink.Sink.{Ghosts as SinkWords}
 use Rattle.pipe_table.specs.declared.spec.JoinSpec.{JoinSpec}
-use Rattle.pipe_words.specs.Flags.{SeatMarks, IsSeatOf}
+use Rattle.pipe_chain.specs.Flags.{SeatMarks, IsSeatOf}
 use Rattle.pipe_chain.specs.Chain.{works_of, IsChain, AllServe, EachSame}
 use Rattle.pipe_chain.specs.Counts.{AllWithin, plus}
 use Rattle.pipe_chain.specs.Flow.{Work, Acts, both_acts, added}

@@ -3,7 +3,7 @@ use Rattle.std.proofs.Common.{◌≡◌, ℕ, zero, suc, ◌+◌, ◌<◌, ◌�
 use Rattle.std.specs.List.{All, AllByRecursion, flat_map}
 use Rattle.pipe_schema.specs.declared.field.Field.{Field}
 use Rattle.pipe_ops.specs.declared.sink.Sink.{Ghosts as SinkWords}
-use Rattle.pipe_words.specs.Flags.{SeatMarks}
+use Rattle.pipe_chain.specs.Flags.{SeatMarks}
 use Rattle.pipe_chain.specs.Chain.{works_of, acts_of as acts_list, IsChain, AllServe}
 use Rattle.pipe_chain.specs.Counts.{AllWithin, plus}
 use Rattle.pipe_chain.specs.Flow.{Work, Acts, added}

@@ -5,7 +5,7 @@ use Rattle.std.proofs.lemmas.List.{get_or_append_left}
 use Rattle.std.proofs.Math.Seq.{get_or-append_seam}
 use Rattle.pipe_schema.specs.declared.field.Field.{Field}
 use Rattle.pipe_table.specs.declared.spec.JoinSpec.{JoinSpec}
-use Rattle.pipe_words.specs.Flags.{SeatMarks, IsSeatOf}
+use Rattle.pipe_chain.specs.Flags.{SeatMarks, IsSeatOf}
 use Rattle.pipe_chain.specs.Flow.{no_acts}
 use Rattle.pipe_outer.specs.Marking.{seat_acts}
 use Rattle.pipe_outer.specs.MarkProbe.{IsSeatAt}

@@ -15,9 +15,9 @@ use Rattle.std.specs.Mem.Slots.Ownership.{bytes_of, slots_lent}
 use Rattle.core.specs.contracts.slots.Slots as slots
 use Rattle.core.specs.contracts.slots.Lease as lease
 use Rattle.atomic_table.specs.contracts.owned.Closed as closed
-use Rattle.pipe_words.specs.contracts.flags.Flags as flags
-use Rattle.pipe_words.specs.contracts.flags.Flags.TheInside as flags_inside
-use Rattle.pipe_words.proofs.match_flags.MatchFlags.TheSendSync as running
+use Rattle.pipe_chain.specs.contracts.flags.Flags as flags
+use Rattle.pipe_chain.specs.contracts.flags.Flags.TheInside as flags_inside
+use Rattle.pipe_chain.proofs.match_flags.MatchFlags.TheSendSync as running
 use Rattle.pipe_outer.specs.contracts.marks.Marks as marks
 use Rattle.pipe_outer.specs.contracts.full_table.FullTable as full
 use Rattle.pipe_outer.specs.contracts.full_table.FullTable.TheInside as full_inside
@@ -63,8 +63,8 @@ use Rattle.pipe_probe.specs.contracts.cross_probe.CrossJoinProbe as cross
 use Rattle.pipe_probe.specs.contracts.join_output.JoinOutput as output
 use Rattle.pipe_probe.specs.contracts.join_output.JoinOutput.TheInside as output_inside
 use Rattle.pipe_probe.specs.contracts.probe.GenericJoinProbe as probe
-use Rattle.pipe_words.proofs.flag_seat.FlagSeat.TheSendSync as flag_seat
-use Rattle.pipe_words.specs.contracts.flag_seat.FlagSeat as FlagSeat
+use Rattle.pipe_chain.proofs.flag_seat.FlagSeat.TheSendSync as flag_seat
+use Rattle.pipe_chain.specs.contracts.flag_seat.FlagSeat as FlagSeat
 use Rattle.pipe_outer.proofs.full_begun.FullBegun.TheSendSync as full_begun
 use Rattle.pipe_outer.specs.contracts.full_begun.FullBegun as FullBegun
 use Rattle.pipe_outer.proofs.given.Given.TheSendSync as given

@@ -5,7 +5,7 @@ use Rattle.pipe_schema.specs.Rows.{Row}
 use Rattle.pipe_schema.specs.declared.field.Field.{Field}
 use Rattle.pipe_ops.specs.declared.sink.Sink.{Ghosts as SinkWords}
 use Rattle.pipe_table.specs.declared.spec.JoinSpec.{JoinSpec}
-use Rattle.pipe_words.specs.Flags.{SeatMarks}
+use Rattle.pipe_chain.specs.Flags.{SeatMarks}
 use Rattle.pipe_chain.specs.Chain.{AllServe}
 use Rattle.pipe_chain.specs.Counts.{AllWithin}
 use Rattle.pipe_chain.specs.declared.operator.Operator.{Ghosts as OperatorWords}

@@ -7,8 +7,8 @@ use Rattle.pipe_schema.proofs.Weights.{SameBag, total-map}
 use Rattle.pipe_schema.specs.declared.field.Field.{Field}
 use Rattle.pipe_ops.specs.declared.sink.Sink.{Ghosts as SinkWords}
 use Rattle.pipe_table.specs.Table.{TableRows, table_keys}
-use Rattle.pipe_words.specs.Flags.{SeatMarks, is_marked, all_won, winners}
-use Rattle.pipe_words.specs.Sums.{SameItems, one_at}
+use Rattle.pipe_chain.specs.Flags.{SeatMarks, is_marked, all_won, winners}
+use Rattle.pipe_chain.specs.Sums.{SameItems, one_at}
 use Rattle.pipe_chain.specs.Chain.{AllServe}
 use Rattle.pipe_chain.specs.Flow.{Acts, added}
 use Rattle.pipe_chain.specs.Keys.{SameKeys}

@@ -5,7 +5,7 @@ use Rattle.std.proofs.lemmas.List.Concat.{flat_map-append}
 use Rattle.std.proofs.lemmas.List.{map-append}
 use Rattle.pipe_schema.specs.Weights.{total}
 use Rattle.pipe_schema.proofs.Weights.{total-append}
-use Rattle.pipe_words.specs.Flags.{SeatMarks, marked_by, won_by, all_marked, all_won}
+use Rattle.pipe_chain.specs.Flags.{SeatMarks, marked_by, won_by, all_marked, all_won}
 use Rattle.pipe_chain.specs.Flow.{Acts, no_acts, both_acts, added}
 use Rattle.pipe_chain.specs.Keys.{SameKeys}
 use Rattle.pipe_chain.proofs.Weighing.{keys-weigh, keys-by, keys-refl, keys-sym, keys-trans}

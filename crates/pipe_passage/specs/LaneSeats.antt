@@ -2,7 +2,7 @@
 use Rattle.std.specs.Prelude.{◌≡◌, ℕ, ◌+◌, ◌<◌, ◌≤◌, List, [], ◌∷◌, ◌++◌, All, Bool, true, false, Option, Some, None, length, map}
 use Rattle.pipe_schema.specs.declared.field.Field.{Field}
 use Rattle.pipe_ops.specs.declared.sink.Sink.{Ghosts as SinkWords}
-use Rattle.pipe_words.specs.Flags.{SeatMarks, IsSeatOf, all_marked, all_won}
+use Rattle.pipe_chain.specs.Flags.{SeatMarks, IsSeatOf, all_marked, all_won}
 use Rattle.pipe_chain.specs.Flow.{Acts}
 use Rattle.pipe_chain.specs.Keys.{SameKeys}
 use Rattle.pipe_outer.specs.Marking.{won_key, seat_acts}

@@ -1,6 +1,6 @@
 -- The probe of a join for a lane.
 use Rattle.std.specs.Prelude.{◌≡◌, List, Option}
-use Rattle.pipe_words.specs.Flags.{SeatMarks}
+use Rattle.pipe_chain.specs.Flags.{SeatMarks}
 use Rattle.pipe_outer.specs.Marking.{seat_acts}
 use Rattle.pipe_slots.specs.CallBackWords.{kind_in, spec_in, seated_in, acts_by, idle_in}
 use Rattle.pipe_slots.specs.Places.{Place}

@@ -3,8 +3,8 @@ use Rattle.std.specs.Prelude.{◌≡◌, ℕ, ◌<◌, List, [], ◌∷◌, All,
 use Rattle.pipe_schema.specs.declared.field.Field.{Field}
 use Rattle.pipe_ops.specs.declared.sink.Sink.{Ghosts as SinkWords}
 use Rattle.pipe_table.specs.Table.{TableRows, table_keys}
-use Rattle.pipe_words.specs.Flags.{SeatMarks, is_marked, winners}
-use Rattle.pipe_words.specs.Sums.{times}
+use Rattle.pipe_chain.specs.Flags.{SeatMarks, is_marked, winners}
+use Rattle.pipe_chain.specs.Sums.{times}
 use Rattle.pipe_chain.specs.Chain.{AllServe}
 use Rattle.pipe_chain.specs.Flow.{Acts}
 use Rattle.pipe_chain.specs.Keys.{SameKeys}

@@ -8,13 +8,13 @@ ghost use Rattle.pipe_passage.specs.Passages.{IsPassing, HasLeft};
 ghost use Rattle.pipe_passage.specs.LaneSeats.{seats_in, front_seats, LaneOff, LanesOff, StageLeft};
 
 use crate::passage::Passage;
+use pipe_chain::FlagSeat;
 use pipe_index::HashesKeys;
 use pipe_ops::Sink;
 use pipe_rows::KeyHasher;
 use pipe_run::Lane;
 use pipe_schema::List;
 use pipe_slots::{PhysOperator, Slot};
-use pipe_words::FlagSeat;
 use std::alloc::AllocError;
 use std::collections::VecDeque;
 

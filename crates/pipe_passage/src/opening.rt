@@ -11,14 +11,13 @@ ghost use Rattle.pipe_passage.specs.LaneSeats.{IsPlanned, ArePlanned, IsRest, Al
 ghost use Rattle.pipe_passage.specs.LaneSeats.{has_flags, OperatorOpened, StageOpened, StagesOpened, LaneOpened, LanesOpened};
 
 use crate::passage::Passage;
-use pipe_chain::Operator;
+use pipe_chain::{FlagSeat, Operator};
 use pipe_index::HashesKeys;
 use pipe_ops::Sink;
 use pipe_rows::KeyHasher;
 use pipe_run::{Basin, Lane, Stage};
 use pipe_schema::List;
 use pipe_slots::{CallBack, PhysOperator, PlaceHolder, Slot};
-use pipe_words::FlagSeat;
 use std::alloc::{AllocError, Global};
 use std::collections::VecDeque;
 use std::mem::replace;

@@ -1,10 +1,10 @@
 //! A leg that runs.
 
+use pipe_chain::FlagSeat;
 use pipe_index::HashesKeys;
 use pipe_run::Lane;
 use pipe_schema::List;
 use pipe_slots::{PhysOperator, Slot};
-use pipe_words::FlagSeat;
 use std::collections::VecDeque;
 
 /// A leg that runs: its lanes, with what each stage that it hasn't left reads, and the seats there that no lane holds.

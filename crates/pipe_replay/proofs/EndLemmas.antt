@@ -11,8 +11,8 @@ use Rattle.pipe_events.specs.PlanStages.{stages_of, IsSound}
 use Rattle.pipe_events.proofs.PlanLemmas.{every_of_a_plan}
 use Rattle.pipe_events.proofs.Deciding.{lists_decided, completeness_decided}
 use Rattle.pipe_events.proofs.Unfaulted.{without_fault}
-use Rattle.pipe_laws.specs.Fits.{FramesFit}
-use Rattle.pipe_laws.proofs.Plans.{sorts_sure}
+use Rattle.pipe_events.specs.Fits.{FramesFit}
+use Rattle.pipe_events.proofs.Plans.{sorts_sure}
 use Rattle.pipe_replay.specs.KeptWorld.{setting_by}
 use Rattle.pipe_replay.specs.Replayed.{IsPlayed}
 use Rattle.pipe_replay.specs.Ends.{HasTheRows}

@@ -11,7 +11,7 @@ use Rattle.pipe_frame.specs.Frame.{columns_from, cell_of_row}
 use Rattle.pipe_schema.specs.declared.any_value.AnyValue.TheVariants as cell
 use Rattle.pipe_schema.specs.declared.field.Field.{Field}
 use Rattle.pipe_expr.proofs.NamedColumns as named
-use Rattle.pipe_laws.proofs.FitLemmas.{fields-from}
+use Rattle.pipe_events.proofs.FitLemmas.{fields-from}
 
 some-field : (schema : List Field) → IsSchema schema → 0 < length schema
 some-field [] h = cc

@@ -12,8 +12,7 @@ ghost use Rattle.pipe_replay.specs.Replayed.{replayed, IsPlayed};
 
 use crate::world::World;
 use pipe_check::CheckedPlan;
-use pipe_events::Event;
-use pipe_laws::frames_fit;
+use pipe_events::{Event, frames_fit};
 use pipe_rows::KeyHasher;
 use std::alloc::{AllocError, Global};
 

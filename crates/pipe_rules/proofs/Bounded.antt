@@ -15,7 +15,7 @@ use Rattle.pipe_plan.specs.Schemas.{node_schema}
 use Rattle.pipe_plan.specs.PlanRows.{node_rows, rows_of}
 use Rattle.pipe_plan.specs.Faults.{IsWellFormed}
 use Rattle.pipe_check.proofs.Walks.{member, itself, under-self, under-trans, under-input}
-use Rattle.pipe_laws.proofs.Lists.{all-filter}
+use Rattle.pipe_events.proofs.Lists.{all-filter}
 use Rattle.pipe_rules.specs.Conjuncts.{passes_each, filter_each}
 use Rattle.pipe_rules.specs.FilterLaws.{IsKnown}
 use Rattle.pipe_rules.specs.Placing.{Placing, Above, OnInputs, OnLeft, OnRight}

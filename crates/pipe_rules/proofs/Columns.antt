@@ -10,7 +10,7 @@ use Rattle.pipe_expr.specs.Values.{value_of, named_cell}
 use Rattle.pipe_expr.specs.Projections.{fields_named, row_named, expr_cell, select_fields, select_row, expr_named, stacked_field, stacked_cell, replaced_field, replaced_cell, renamed, renamed_field}
 use Rattle.pipe_expr.specs.Joins.{Join, is_kept, suffixed, suffixed_name, kept_cells}
 use Rattle.pipe_expr.specs.declared.join_words.RenamePair.{RenamePair}
-use Rattle.pipe_laws.specs.Fits.{FitsRow}
+use Rattle.pipe_events.specs.Fits.{FitsRow}
 use Rattle.pipe_rules.specs.Placing.{column_of, column_under, is_there, is_plain, name_or, plain_name, is_replacing, old_name, right_name}
 use Rattle.pipe_rules.proofs.Under.{cell_under, own-name, same-name, other-name, once-first, once-rest, in-rest}
 

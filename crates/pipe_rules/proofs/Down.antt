@@ -27,9 +27,9 @@ use Rattle.pipe_plan.specs.PlanRows.{node_rows, sort_keys, slice_rows}
 use Rattle.pipe_plan.specs.Faults.{eq_field}
 use Rattle.pipe_plan.specs.declared.ir.PlanSlice.{PlanSlice}
 use Rattle.pipe_plan.specs.declared.ir.SortOptions.{SortOptions}
-use Rattle.pipe_laws.specs.Fits.{FitsRow, FitRows}
-use Rattle.pipe_laws.proofs.Lists.{all-map, all-filter}
-use Rattle.pipe_laws.proofs.Rows.{same-dtype}
+use Rattle.pipe_events.specs.Fits.{FitsRow, FitRows}
+use Rattle.pipe_events.proofs.Lists.{all-map, all-filter}
+use Rattle.pipe_events.proofs.Rows.{same-dtype}
 use Rattle.pipe_rules.specs.Names.{with_names}
 use Rattle.pipe_rules.specs.Placing.{Placing, Above, OnInputs, OnLeft, OnRight, reads_only, on_inputs_if, is_plain, plain_name, is_replacing, is_passed_on, old_name, is_not_in, right_name, on_left_or, on_right_or, below_join, below_slice}
 use Rattle.pipe_rules.specs.Placed.{filtered_all, filtered_at, placing_at, rows_placed, IsReady}

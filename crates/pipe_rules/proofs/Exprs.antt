@@ -14,7 +14,7 @@ use Rattle.pipe_plan.specs.Faults.{expr_columns}
 use Rattle.pipe_rules.proofs.Filters.{all-left, all-right}
 use Rattle.pipe_rules.proofs.Under.{cell_under, same-name}
 use Rattle.pipe_rules.proofs.Columns.{named-expr}
-use Rattle.pipe_laws.proofs.Lists.{all-append}
+use Rattle.pipe_events.proofs.Lists.{all-append}
 use Rattle.pipe_rules.specs.Needs.{Names, needed_exprs, columns_read}
 
 -- ---- expressions by their names

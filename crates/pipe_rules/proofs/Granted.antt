@@ -16,8 +16,8 @@ use Rattle.pipe_check.proofs.Agree.{Agree, agree-members, schema-agree, fault-ag
 use Rattle.pipe_check.proofs.Walks.{member, none-member, itself, walk-at, walk-below, schema-own, schema-below, under-input, under-there}
 use Rattle.pipe_check.proofs.WellFormed.{root_there}
 use Rattle.pipe_plan.specs.PlanRows.{node_rows, rows_at, rows_to, rows_of}
-use Rattle.pipe_laws.specs.Fits.{FramesFit}
-use Rattle.pipe_laws.proofs.Plans.{rows_fit}
+use Rattle.pipe_events.specs.Fits.{FramesFit}
+use Rattle.pipe_events.proofs.Plans.{rows_fit}
 use Rattle.pipe_rules.specs.Placed.{IsReady}
 use Rattle.pipe_rules.proofs.Renumber.{own-inputs, rows-renumbered}
 

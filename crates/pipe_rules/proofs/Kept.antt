@@ -10,8 +10,8 @@ use Rattle.pipe_expr.specs.Formula.{Formula}
 use Rattle.pipe_expr.specs.Types.{columns_in, type_of, type_of_column}
 use Rattle.pipe_expr.specs.Values.{value_of, named_cell}
 use Rattle.pipe_expr.specs.Projections.{field_named, fields_named, row_named, known_type}
-use Rattle.pipe_laws.specs.Fits.{FitsRow, FitRows}
-use Rattle.pipe_laws.proofs.Lists.{all-filter}
+use Rattle.pipe_events.specs.Fits.{FitsRow, FitRows}
+use Rattle.pipe_events.proofs.Lists.{all-filter}
 use Rattle.pipe_rules.proofs.Filters.{all-of, all-both}
 use Rattle.pipe_rules.proofs.Renamed.{value-same, type-same}
 use Rattle.pipe_rules.proofs.Under.{cell_under, named-under, own-name, same-name, other-name, once-first, once-rest, each-known}

@@ -20,8 +20,8 @@ use Rattle.pipe_plan.specs.Under.{inputs_of}
 use Rattle.pipe_plan.specs.Schemas.{node_schema, join_over}
 use Rattle.pipe_plan.specs.PlanRows.{node_rows}
 use Rattle.pipe_plan.specs.declared.ir.PlanSlice.{PlanSlice}
-use Rattle.pipe_laws.specs.Fits.{FitsRow, FitRows}
-use Rattle.pipe_laws.proofs.Lists.{all-filter}
+use Rattle.pipe_events.specs.Fits.{FitsRow, FitRows}
+use Rattle.pipe_events.proofs.Lists.{all-filter}
 use Rattle.pipe_rules.specs.Conjuncts.{passes_each, filter_each}
 use Rattle.pipe_rules.specs.Placing.{Placing, Above, OnInputs, OnLeft, OnRight, reads_only, on_inputs_if, is_plain, is_passed_on, is_not_in, on_left_or, on_right_or, below_join, below_slice, on_right, right_name, plain_name}
 use Rattle.pipe_rules.specs.Names.{with_names}

@@ -15,8 +15,8 @@ use Rattle.pipe_expr.specs.Values.{named_cell}
 use Rattle.pipe_expr.specs.Projections.{passes, filter_rows, fields_named, row_named, known_type, select_fields, select_row, expr_named, new_exprs, hstack_fields, hstack_row, renamed, renamed_field, function_fields, function_rows, unpivoted_row, on_type}
 use Rattle.pipe_expr.specs.declared.join_words.RenamePair.{RenamePair}
 use Rattle.pipe_expr.specs.declared.join_words.FunctionIR.TheVariants as function
-use Rattle.pipe_laws.specs.Fits.{FitsRow, FitRows}
-use Rattle.pipe_laws.proofs.Lists.{all-filter}
+use Rattle.pipe_events.specs.Fits.{FitsRow, FitRows}
+use Rattle.pipe_events.proofs.Lists.{all-filter}
 use Rattle.pipe_rules.specs.Placing.{is_replacing, old_name}
 use Rattle.pipe_rules.proofs.Filters.{all-of, all-always, filter-map}
 use Rattle.pipe_rules.proofs.Under.{cell_under, named-under, own-name, same-name, each-known}

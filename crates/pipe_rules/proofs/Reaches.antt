@@ -24,7 +24,7 @@ use Rattle.pipe_plan.specs.Faults.{IsWellFormed}
 use Rattle.pipe_plan.specs.declared.ir.JoinOptions.{JoinOptions}
 use Rattle.pipe_plan.specs.declared.ir.IR.{IR}
 use Rattle.pipe_plan.specs.declared.ir.IR.TheVariants as ir
-use Rattle.pipe_laws.proofs.Lists.{all-append, all-filter}
+use Rattle.pipe_events.proofs.Lists.{all-append, all-filter}
 use Rattle.pipe_rules.proofs.Filters.{all-of, all-left, all-right, filter-map, filter-append, filter-constant}
 use Rattle.pipe_rules.specs.Placing.{Placing, Above, OnInputs, OnLeft, OnRight, placing, reads_only, is_not_in, right_name, on_left_or, on_right_or, on_right, below_join}
 use Rattle.pipe_rules.specs.Names.{with_names}

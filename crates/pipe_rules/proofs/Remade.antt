@@ -13,12 +13,12 @@ use Rattle.pipe_plan.specs.Under.{node_at, inputs_of, is_under}
 use Rattle.pipe_plan.specs.Schemas.{node_schema, schema_of}
 use Rattle.pipe_plan.specs.PlanRows.{node_rows, rows_of}
 use Rattle.pipe_plan.specs.Faults.{IsWellFormed}
-use Rattle.pipe_laws.specs.Fits.{FramesFit}
+use Rattle.pipe_events.specs.Fits.{FramesFit}
 use Rattle.pipe_rules.specs.Conjuncts.{conjuncts_of, all_conjuncts, passes_one, passes_each, filter_each}
 use Rattle.std.proofs.lemmas.Bool.{cases_lt}
 use Rattle.pipe_rules.proofs.Filters.{filter-swap, filter-same, all-always, all-of, all-left, all-right}
 use Rattle.pipe_rules.proofs.Conjoined.{each-passes, all-append as both-append, conjuncts-filter}
-use Rattle.pipe_laws.proofs.Lists.{all-append}
+use Rattle.pipe_events.proofs.Lists.{all-append}
 use Rattle.pipe_rules.specs.FilterLaws.{IsKnown}
 use Rattle.pipe_check.proofs.Walks.{member, itself, different, under-self}
 use Rattle.pipe_plan.specs.Faults.{repeats}

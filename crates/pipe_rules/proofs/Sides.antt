@@ -15,14 +15,14 @@ use Rattle.pipe_expr.specs.Projections.{field_named, fields_named, row_named}
 use Rattle.pipe_expr.specs.Joins.{Join, makes_pairs, key_cell, key_of, keys_match, matches, matched_by, has_right_match, lacks_right_match, has_left_match, lacks_left_match, column_names, is_kept, suffixed_name, suffixed, pair_fields, kept_cells, null_of, pair, pad_left, partner_cell, left_padding, pad_right, pairs_of, pairs, matched_left, unmatched_left, unmatched_right, padded_left, padded_right, rows_by, join_rows, join_fields}
 use Rattle.pipe_expr.specs.declared.join_words.JoinType.{JoinType}
 use Rattle.pipe_expr.specs.declared.join_words.JoinType.TheVariants as how
-use Rattle.pipe_laws.specs.Fits.{FitsRow, FitRows}
-use Rattle.pipe_laws.proofs.Lists.{all-filter}
+use Rattle.pipe_events.specs.Fits.{FitsRow, FitRows}
+use Rattle.pipe_events.proofs.Lists.{all-filter}
 use Rattle.pipe_rules.specs.Placing.{right_name}
 use Rattle.pipe_rules.proofs.Filters.{all-of, all-always, filter-map, all-left, all-right}
 use Rattle.pipe_rules.proofs.Under.{cell_under, named-under, own-name, same-name, in-rest}
 use Rattle.pipe_rules.proofs.Columns.{shown, in-more, right-in, of-right}
 use Rattle.pipe_rules.proofs.ColumnTypes.{left-type, past-left-type, right-type}
-use Rattle.pipe_laws.proofs.Rows.{named-row}
+use Rattle.pipe_events.proofs.Rows.{named-row}
 use Rattle.pipe_rules.specs.Needs.{Names, keys_read, is_shown, right_need, left_need}
 use Rattle.pipe_rules.specs.Narrowed.{kept_names, narrow_fields, narrow_row}
 use Rattle.pipe_rules.specs.NeedLaws.{IsWanted, HasSameType, AreSameAt}

@@ -6,8 +6,8 @@ use Rattle.std.specs.List.{AllByRecursion}
 use Rattle.pipe_schema.specs.Rows.{Row, eq_row, times, Same}
 use Rattle.pipe_schema.specs.declared.field.Field.{Field}
 use Rattle.pipe_rows.specs.SortOrder.{SortBy, row_cmp, insert_row, sorted}
-use Rattle.pipe_laws.specs.Fits.{FitRows}
-use Rattle.pipe_laws.proofs.Orders.{sorts-alike}
+use Rattle.pipe_events.specs.Fits.{FitRows}
+use Rattle.pipe_events.proofs.Orders.{sorts-alike}
 use Rattle.pipe_rules.proofs.Filters.{filter-constant}
 
 module _ (keys : List SortBy) (p : Row → Bool) where

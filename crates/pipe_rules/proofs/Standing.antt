@@ -17,7 +17,7 @@ use Rattle.pipe_plan.specs.Faults.{or_else, eq_types, repeats, is_void, IsWellFo
 use Rattle.pipe_check.specs.Checking.{fault_with}
 use Rattle.pipe_check.proofs.Agree.{Agree, agree-members, fault-agree}
 use Rattle.pipe_check.proofs.Walks.{member}
-use Rattle.pipe_laws.specs.Fits.{FramesFit}
+use Rattle.pipe_events.specs.Fits.{FramesFit}
 use Rattle.pipe_rules.specs.Conjuncts.{conjuncts_of, all_conjuncts}
 use Rattle.pipe_rules.specs.Parted.{Parts, parted}
 use Rattle.pipe_rules.proofs.Filters.{all-of}

@@ -15,9 +15,9 @@ use Rattle.pipe_plan.specs.Schemas.{node_schema, schema_of}
 use Rattle.pipe_plan.specs.PlanRows.{rows_of}
 use Rattle.pipe_plan.specs.Faults.{eq_types, is_mistyped, IsWellFormed}
 use Rattle.pipe_check.proofs.Walks.{member, itself, under-there}
-use Rattle.pipe_laws.specs.Fits.{FramesFit}
-use Rattle.pipe_laws.proofs.Lists.{all-append}
-use Rattle.pipe_laws.proofs.Rows.{same-dtype}
+use Rattle.pipe_events.specs.Fits.{FramesFit}
+use Rattle.pipe_events.proofs.Lists.{all-append}
+use Rattle.pipe_events.proofs.Rows.{same-dtype}
 use Rattle.pipe_rules.specs.Conjuncts.{conjuncts_of, all_conjuncts}
 use Rattle.pipe_rules.specs.Placed.{is_input}
 use Rattle.pipe_rules.specs.FilterLaws.{IsPredicate}

@@ -23,8 +23,8 @@ use Rattle.pipe_plan.specs.Node as node
 use Rattle.pipe_plan.specs.declared.ir.PlanSlice.{PlanSlice}
 use Rattle.pipe_plan.specs.Under.{inputs_of}
 use Rattle.pipe_plan.specs.Schemas.{node_schema, join_over}
-use Rattle.pipe_laws.proofs.Lists.{all-append, all-map, all-flat}
-use Rattle.pipe_laws.proofs.Rows.{same-dtype}
+use Rattle.pipe_events.proofs.Lists.{all-append, all-map, all-flat}
+use Rattle.pipe_events.proofs.Rows.{same-dtype}
 use Rattle.pipe_rules.specs.Conjuncts.{conjuncts_of, all_conjuncts}
 use Rattle.pipe_rules.specs.Names.{with_names}
 use Rattle.pipe_rules.specs.Placing.{Placing, Above, OnInputs, OnLeft, OnRight, placing, reads_only, on_inputs_if, is_plain, plain_name, is_passed_on, old_name, below_function, is_not_in, right_name, on_left_or, on_right_or, on_right, below_join, below_slice}

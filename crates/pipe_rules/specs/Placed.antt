@@ -13,7 +13,7 @@ use Rattle.pipe_plan.specs.Under.{inputs_of}
 use Rattle.pipe_plan.specs.Schemas.{node_schema}
 use Rattle.pipe_plan.specs.PlanRows.{node_rows}
 use Rattle.pipe_plan.specs.Faults.{repeats, unknown_in, is_mistyped}
-use Rattle.pipe_laws.specs.Fits.{FitRows}
+use Rattle.pipe_events.specs.Fits.{FitRows}
 use Rattle.pipe_rules.specs.Placing.{Placing, Above, OnInputs, OnLeft, OnRight, placing}
 
 -- the rows of one input filtered, and those of all others as they are

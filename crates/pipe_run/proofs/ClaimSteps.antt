@@ -9,8 +9,8 @@ use Rattle.pipe_schema.specs.declared.field.Field.{Field}
 use Rattle.pipe_chain.specs.declared.operator.Operator.{Ghosts as OperatorWords}
 use Rattle.pipe_ops.specs.declared.sink.Sink.{Ghosts as SinkWords}
 use Rattle.pipe_ops.specs.declared.source.Morsel.{Morsel}
-use Rattle.pipe_words.specs.Claims.{SeatClaims}
-use Rattle.pipe_words.specs.Sums.{total}
+use Rattle.pipe_chain.specs.Claims.{SeatClaims}
+use Rattle.pipe_chain.specs.Sums.{total}
 use Rattle.pipe_run.specs.declared.entry.Entry.{Entry}
 use Rattle.pipe_run.specs.declared.stage.Refusal.{Refusal}
 use Rattle.pipe_run.specs.declared.stage.Refusal.TheVariants.{Memory}

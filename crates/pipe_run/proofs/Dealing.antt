@@ -7,8 +7,8 @@ use Rattle.pipe_schema.specs.Rows.{Row, Same, Within}
 use Rattle.pipe_schema.specs.Weights.{total as rows_total}
 use Rattle.pipe_schema.proofs.Weights.{total-flat_map, Same-from_bag}
 use Rattle.pipe_ops.specs.declared.source.Morsel.{Morsel}
-use Rattle.pipe_words.specs.Sums.{total, SameItems}
-use Rattle.pipe_words.proofs.SumLemmas.{total-append}
+use Rattle.pipe_chain.specs.Sums.{total, SameItems}
+use Rattle.pipe_chain.proofs.SumLemmas.{total-append}
 use Rattle.pipe_schema.specs.declared.field.Field.{Field}
 use Rattle.pipe_run.specs.Claimed.{rows_at, past, Lot, chunks_lot, parts_lot, entries_for_part, rows_of_lot}
 use Rattle.pipe_run.specs.Dealt.{in_all, rows_of_all}

@@ -6,8 +6,8 @@ use Rattle.pipe_schema.specs.Rows.{Row}
 use Rattle.pipe_schema.specs.declared.field.Field.{Field}
 use Rattle.pipe_ops.specs.Batches.{Left, cut, batch, after_batch, pick}
 use Rattle.pipe_ops.specs.declared.source.Morsel.{Morsel}
-use Rattle.pipe_words.specs.Sums.{total}
-use Rattle.pipe_words.proofs.SumLemmas.{total-append}
+use Rattle.pipe_chain.specs.Sums.{total}
+use Rattle.pipe_chain.proofs.SumLemmas.{total-append}
 use Rattle.pipe_events.specs.Worlds.{Event}
 use Rattle.pipe_run.specs.declared.entry.Entry.{Entry}
 use Rattle.pipe_run.specs.Claimed.{entries_at, entries_for_part}

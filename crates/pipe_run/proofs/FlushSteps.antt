@@ -8,7 +8,7 @@ use Rattle.std.specs.declared.vec.Vec.{Vec}
 use Rattle.std.specs.declared.alloc.Global.{Global}
 use Rattle.pipe_schema.specs.declared.field.Field.{Field}
 use Rattle.pipe_ops.specs.declared.sink.Sink.{Ghosts as SinkWords}
-use Rattle.pipe_words.specs.Claims.{SeatClaims, fresh_claimant}
+use Rattle.pipe_chain.specs.Claims.{SeatClaims, fresh_claimant}
 use Rattle.pipe_chain.specs.declared.operator.Operator.{Ghosts as OperatorWords}
 use Rattle.pipe_run.specs.declared.entry.Entry.{Entry}
 use Rattle.pipe_run.specs.declared.lane.Lane.{Lane}

@@ -3,11 +3,11 @@ use Rattle.std.proofs.Common.{◌≡◌, ℕ, zero, suc, ◌+◌, ◌<◌, ◌�
 use Rattle.std.specs.List.{AllByRecursion, flat_map, range_with_len}
 use Rattle.std.proofs.lemmas.List.Concat.{flat_map-append}
 use Rattle.pipe_ops.specs.declared.source.Morsel.{Morsel}
-use Rattle.pipe_words.specs.Sums.{total}
-use Rattle.pipe_words.proofs.SumLemmas.{total-append}
+use Rattle.pipe_chain.specs.Sums.{total}
+use Rattle.pipe_chain.proofs.SumLemmas.{total-append}
 use Rattle.pipe_events.specs.Worlds as worlds
 use Rattle.pipe_events.specs.Worlds.{Event}
-use Rattle.pipe_laws.specs.Rounds.{Chunk, positions_in, positions, takes}
+use Rattle.pipe_events.specs.Rounds.{Chunk, positions_in, positions, takes}
 use Rattle.pipe_run.specs.declared.entry.Entry.{Entry}
 use Rattle.pipe_run.specs.Claimed.{entries_at}
 use Rattle.pipe_run.specs.Dealt.{in_all}

@@ -4,15 +4,15 @@ use Rattle.std.specs.Prelude.{ltb}
 use Rattle.std.specs.List.{AllByRecursion, flat_map, range_with_len}
 use Rattle.std.proofs.lemmas.Bool.{cases_lt}
 use Rattle.std.proofs.lemmas.Bool.Decides.{Decides-ltb}
-use Rattle.pipe_words.specs.Sums.{one_at, times, total}
-use Rattle.pipe_words.proofs.SumLemmas.{total-append}
-use Rattle.pipe_words.proofs.OnceLemmas.{one_draw, no_draw}
+use Rattle.pipe_chain.specs.Sums.{one_at, times, total}
+use Rattle.pipe_chain.proofs.SumLemmas.{total-append}
+use Rattle.pipe_chain.proofs.OnceLemmas.{one_draw, no_draw}
 use Rattle.pipe_events.specs.Stages.{Stages}
 use Rattle.pipe_events.specs.Worlds as worlds
 use Rattle.pipe_events.specs.Worlds.{count}
-use Rattle.pipe_laws.specs.Rounds.{Flushed, part_in, flushing, IsPart}
-use Rattle.pipe_laws.specs.Runs.{AreAllParts}
-use Rattle.pipe_laws.proofs.Members.{either}
+use Rattle.pipe_events.specs.Rounds.{Flushed, part_in, flushing, IsPart}
+use Rattle.pipe_events.specs.Runs.{AreAllParts}
+use Rattle.pipe_events.proofs.Members.{either}
 use Rattle.pipe_run.specs.Claimed.{entries_for_part}
 use Rattle.pipe_run.specs.Dealt.{in_all}
 use Rattle.pipe_run.specs.Notes.{notes_of, notes_from, events_of, entries_of_parts}

@@ -8,9 +8,9 @@ use Rattle.pipe_schema.specs.Rows.{Row}
 use Rattle.pipe_schema.specs.declared.field.Field.{Field}
 use Rattle.pipe_ops.specs.declared.sink.Sink.{Ghosts as SinkWords}
 use Rattle.pipe_ops.specs.declared.source.Morsel.{Morsel}
-use Rattle.pipe_words.specs.Sums.{SameItems, total as numbers_total}
-use Rattle.pipe_words.specs.Claims.{SeatClaims, fresh_claimant, all_drawn}
-use Rattle.pipe_words.proofs.SumLemmas.{total-append as numbers-append}
+use Rattle.pipe_chain.specs.Sums.{SameItems, total as numbers_total}
+use Rattle.pipe_chain.specs.Claims.{SeatClaims, fresh_claimant, all_drawn}
+use Rattle.pipe_chain.proofs.SumLemmas.{total-append as numbers-append}
 use Rattle.pipe_chain.specs.Flow.{Work, Acts, added}
 use Rattle.pipe_chain.specs.Chain.{AllServe}
 use Rattle.pipe_chain.specs.Counts.{Went}

@@ -4,7 +4,7 @@ use Rattle.std.specs.List.{All}
 use Rattle.std.proofs.lemmas.List.Concat.{flat_map-append}
 use Rattle.std.proofs.lemmas.List.Elements.{All-append}
 use Rattle.atomic_table.specs.Seated.{TableId}
-use Rattle.pipe_words.specs.Claims.{SeatClaims, IsClaimantOf, drawn_by, all_drawn}
+use Rattle.pipe_chain.specs.Claims.{SeatClaims, IsClaimantOf, drawn_by, all_drawn}
 use Rattle.pipe_run.specs.declared.lane.Lane.{Lane}
 use Rattle.pipe_run.specs.Claimed.{IsSeated}
 

@@ -5,14 +5,14 @@ use Rattle.std.proofs.lemmas.Bool.{cases_lt}
 use Rattle.pipe_schema.specs.Rows.{Row}
 use Rattle.pipe_ops.specs.Batches.{Left, cut, batch, after_batch, passed, pick}
 use Rattle.pipe_ops.specs.declared.source.Morsel.{Morsel}
-use Rattle.pipe_words.specs.Sums.{one_at, times, total}
-use Rattle.pipe_words.proofs.SumLemmas.{total-append}
-use Rattle.pipe_words.proofs.OnceLemmas.{one_draw, no_draw}
+use Rattle.pipe_chain.specs.Sums.{one_at, times, total}
+use Rattle.pipe_chain.proofs.SumLemmas.{total-append}
+use Rattle.pipe_chain.proofs.OnceLemmas.{one_draw, no_draw}
 use Rattle.pipe_events.specs.Stages.{Stages}
 use Rattle.pipe_events.specs.Worlds.{Event, count}
-use Rattle.pipe_laws.specs.Rounds.{Chunk, positions_in, positions, takes}
-use Rattle.pipe_laws.specs.Runs.{supply, IsChunkOf, AreAllOf, SourcesTaken}
-use Rattle.pipe_laws.proofs.Members.{either, count_append, count_head}
+use Rattle.pipe_events.specs.Rounds.{Chunk, positions_in, positions, takes}
+use Rattle.pipe_events.specs.Runs.{supply, IsChunkOf, AreAllOf, SourcesTaken}
+use Rattle.pipe_events.proofs.Members.{either, count_append, count_head}
 use Rattle.pipe_run.specs.declared.note.Note.{Note}
 use Rattle.pipe_run.specs.Notes.{notes_from, events_of}
 use Rattle.pipe_run.specs.NotedRounds.{rows_left, Gives, AreNotedInTurn, AreSupplied}

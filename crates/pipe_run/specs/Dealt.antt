@@ -5,7 +5,7 @@ use Rattle.pipe_schema.specs.Rows.{Row}
 use Rattle.pipe_schema.specs.declared.field.Field.{Field}
 use Rattle.pipe_ops.specs.declared.sink.Sink.{Ghosts as SinkWords}
 use Rattle.pipe_ops.specs.declared.source.Morsel.{Morsel}
-use Rattle.pipe_words.specs.Sums.{SameItems}
+use Rattle.pipe_chain.specs.Sums.{SameItems}
 use Rattle.pipe_chain.specs.Flow.{Work, Acts, added}
 use Rattle.pipe_chain.specs.Counts.{AllWithin, plus, Went}
 use Rattle.pipe_chain.specs.declared.operator.Operator.{Ghosts as OperatorWords}

@@ -4,7 +4,7 @@ use Rattle.pipe_ops.specs.Batches.{Left}
 use Rattle.pipe_ops.specs.declared.source.Morsel.{Morsel}
 use Rattle.pipe_events.specs.Stages.{Stages}
 use Rattle.pipe_events.specs.Worlds.{Close, OfProbe}
-use Rattle.pipe_laws.specs.Runs.{SourcesTaken, IsFlushed}
+use Rattle.pipe_events.specs.Runs.{SourcesTaken, IsFlushed}
 use Rattle.pipe_run.specs.Claimed.{entries_at}
 use Rattle.pipe_run.specs.declared.entry.Entry.{Entry}
 use Rattle.pipe_run.specs.declared.note.Note.{Note}

@@ -5,7 +5,7 @@ use Rattle.pipe_schema.specs.Rows.{Row}
 use Rattle.pipe_ops.specs.Batches.{Left, batch, after_batch}
 use Rattle.pipe_ops.specs.declared.source.Morsel.{Morsel}
 use Rattle.pipe_events.specs.Stages.{Stages}
-use Rattle.pipe_laws.specs.Runs.{supply}
+use Rattle.pipe_events.specs.Runs.{supply}
 use Rattle.pipe_run.specs.Claimed.{entries_at}
 use Rattle.pipe_run.specs.declared.entry.Entry.{Entry}
 use Rattle.pipe_run.specs.declared.note.Note.{Note}

@@ -1,7 +1,7 @@
 -- What lanes noted in a round, in one list; and the events of it.
 use Rattle.std.specs.Prelude.{◌≡◌, ℕ, suc, List, [], ◌∷◌, ◌++◌, map, slice_index_or, cond, ltb, ◌==◌}
 use Rattle.std.specs.List.{flat_map, range_with_len}
-use Rattle.pipe_words.specs.Sums.{SameItems}
+use Rattle.pipe_chain.specs.Sums.{SameItems}
 use Rattle.pipe_events.specs.Worlds as worlds
 use Rattle.pipe_events.specs.Worlds.{Event}
 use Rattle.pipe_run.specs.declared.entry.Entry.{Entry}

@@ -1,7 +1,7 @@
 -- Lanes with a seat and without.
 use Rattle.std.specs.Prelude.{◌≡◌, Some, None}
 use Rattle.atomic_table.specs.Seated.{TableId}
-use Rattle.pipe_words.specs.Claims.{SeatClaims, fresh_claimant}
+use Rattle.pipe_chain.specs.Claims.{SeatClaims, fresh_claimant}
 use Rattle.pipe_run.specs.declared.lane.Lane.{Lane}
 
 -- a seat that drew nothing

@@ -14,10 +14,9 @@ use crate::draining::drain;
 use crate::entry::Entry;
 use crate::lane::Lane;
 use crate::stage::{Basin, Refusal, Stage};
-use pipe_chain::{FlushParts, Operator};
+use pipe_chain::{Claims, FlushParts, Operator};
 use pipe_ops::{PExecutionContext, Sink};
 use pipe_schema::Gate;
-use pipe_words::Claims;
 use std::alloc::{AllocError, Global};
 
 /// Takes the first stage off a lane.

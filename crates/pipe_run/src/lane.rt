@@ -6,10 +6,9 @@ ghost use Rattle.pipe_run.specs.Lanes.{IsFit, Ran, IsCalm};
 use crate::entry::Entry;
 use crate::pushing::push_shared;
 use crate::stage::{Basin, Refusal, Stage};
-use pipe_chain::Operator;
+use pipe_chain::{ClaimSeat, Operator};
 use pipe_frame::DataChunk;
 use pipe_ops::{PExecutionContext, Sink};
-use pipe_words::ClaimSeat;
 use std::alloc::Global;
 use std::collections::VecDeque;
 

@@ -2,12 +2,12 @@
 
 ghost use Rattle.std.specs.Prelude.{◌≡◌, ◌+◌, ◌<◌, ◌≤◌, ◌++◌, All, length, map, vec_len, vec_capacity};
 ghost use Rattle.std.specs.List.{flat_map};
-ghost use Rattle.pipe_words.specs.Claims.{IsClaimantOf, all_drawn};
+ghost use Rattle.pipe_chain.specs.Claims.{IsClaimantOf, all_drawn};
 ghost use Rattle.pipe_run.specs.Claimed.{IsSeated, drawn_in};
 ghost use Rattle.pipe_run.specs.Seats.{IsFreshOf, seated, unseated};
 
 use crate::lane::Lane;
-use pipe_words::{ClaimSeat, Claims};
+use pipe_chain::{ClaimSeat, Claims};
 
 /// Gives each lane a seat.
 pub(crate) fn seat_all<O, K>(claims: &Claims, lanes: &mut [Lane<O, K>], seats: &mut Vec<ClaimSeat>)

@@ -4,8 +4,8 @@ use Rattle.std.specs.List.{flat_map}
 use Rattle.pipe_frame.specs.Frame.{Table}
 use Rattle.pipe_schema.specs.Rows.{Row, Same}
 use Rattle.pipe_schema.specs.declared.field.Field.{Field}
-use Rattle.pipe_function.specs.Laws.{starts_none, owes_none}
-use Rattle.pipe_function.specs.Operators.{pieces_of}
+use Rattle.pipe_source.specs.Laws.{starts_none, owes_none}
+use Rattle.pipe_source.specs.Operators.{pieces_of}
 use Rattle.pipe_ops.specs.Laws.{same-equal, never_due, pass_owes}
 use Rattle.pipe_chain.specs.Keys.{SameKeys}
 use Rattle.pipe_chain.specs.PlainLaws.{no_asks}

@@ -8,9 +8,9 @@ use Rattle.pipe_schema.specs.declared.field.Field.{Field}
 use Rattle.pipe_expr.specs.Formula.{NamedFormula, named_formula_of}
 use Rattle.pipe_expr.specs.Physical.{Physical}
 use Rattle.pipe_expr.specs.Projections.{fields_named, select_fields, hstack_fields, function_fields, function_rows}
-use Rattle.pipe_function.specs.Applied.{Applies}
-use Rattle.pipe_function.specs.Operators.{pieces_of, AnswersFor}
-use Rattle.pipe_function.specs.Turns.{owed_of, Fits}
+use Rattle.pipe_source.specs.Applied.{Applies}
+use Rattle.pipe_source.specs.Operators.{pieces_of, AnswersFor}
+use Rattle.pipe_source.specs.Turns.{owed_of, Fits}
 use Rattle.pipe_ops.specs.Each.{IsPredicate, filtered_row, named_row, passed_row}
 use Rattle.pipe_ops.specs.Exprs.{exprs_in, CanProject, CanStack, projected_row, stacked_row}
 use Rattle.pipe_ops.specs.Pieces.{all_of, IsWhole}

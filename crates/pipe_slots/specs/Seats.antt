@@ -1,6 +1,6 @@
 -- The seat of an operator at the flags of its join.
 use Rattle.std.specs.Prelude.{◌≡◌, Option, Some, None}
-use Rattle.pipe_words.specs.Flags.{SeatMarks}
+use Rattle.pipe_chain.specs.Flags.{SeatMarks}
 use Rattle.pipe_slots.specs.CallBackWords.{seat_in}
 use Rattle.pipe_slots.specs.declared.call_back.CallBack.{CallBack}
 use Rattle.pipe_slots.specs.declared.call_back.CallBack.TheVariants as probe

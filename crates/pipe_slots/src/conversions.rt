@@ -4,11 +4,11 @@ use crate::call_back::CallBack;
 use crate::phys_operator::PhysOperator;
 use crate::place_holder::PlaceHolder;
 use pipe_expr::PhysicalExpr;
-use pipe_function::FunctionOperator;
 use pipe_index::HashesKeys;
 use pipe_ops::{
     FilterOperator, HstackOperator, Pass, ProjectionOperator, SimpleProjectionOperator,
 };
+use pipe_source::FunctionOperator;
 
 impl<H: HashesKeys> From<FilterOperator<PhysicalExpr>> for PhysOperator<H> {
     fn from(operator: FilterOperator<PhysicalExpr>) -> PhysOperator<H> {

@@ -10,13 +10,13 @@ use crate::slot::Slot;
 use pipe_chain::{FlushParts, Operator};
 use pipe_expr::PhysicalExpr;
 use pipe_frame::DataChunk;
-use pipe_function::FunctionOperator;
 use pipe_index::HashesKeys;
 use pipe_ops::{
     FilterOperator, HstackOperator, Operator as RowOperator, OperatorResult, PExecutionContext,
     Pass, ProjectionOperator, SimpleProjectionOperator,
 };
 use pipe_rows::KeyHasher;
+use pipe_source::FunctionOperator;
 use std::alloc::{AllocError, Global};
 
 /// An operator of a plan (polars-pipe's `PhysOperator`): that of a filter, of a projection by names or by expressions,

@@ -6,8 +6,8 @@ ghost use Rattle.pipe_slots.specs.Seats.{seat_of, probe_with, with_seat, IsFreeP
 
 use crate::call_back::CallBack;
 use crate::phys_operator::PhysOperator;
+use pipe_chain::FlagSeat;
 use pipe_index::HashesKeys;
-use pipe_words::FlagSeat;
 
 impl<H: HashesKeys> CallBack<H> {
     /// Takes a seat at the flags of the join's table.

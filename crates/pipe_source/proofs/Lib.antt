@@ -6,3 +6,10 @@ pub mod OrderLemmas
 pub mod EndingLemmas
 pub mod RunLemmas
 pub mod RunsLemmas
+pub mod Flat
+pub mod Ranges
+pub mod UnpivotColumns
+pub mod RenamedColumns
+pub mod Turned
+pub mod ColumnsAt
+pub mod PartRows

@@ -2,7 +2,7 @@
 use Rattle.std.proofs.Common.{◌≡◌, ℕ, ◌<◌, List, [], ◌∷◌, ◌++◌, Option, Some, subst, sym, arith}
 use Rattle.std.specs.Prelude.{All, option_to_list, IfSome}
 use Rattle.std.proofs.lemmas.List.Elements.{All-nil, All-push, All-pop}
-use Rattle.pipe_words.specs.Flags.{SeatMarks, IsSeatOf}
+use Rattle.pipe_chain.specs.Flags.{SeatMarks, IsSeatOf}
 use Rattle.pipe_outer.specs.Flush.{flush_start}
 use Rattle.pipe_outer.specs.MarkProbe.{IsSeatAt, IsDue, IsDueOrNone}
 use Rattle.pipe_outer.specs.Unmet.{FullRows, AreFresh, AreSeatsOf, EndsMarking, IsClosed}

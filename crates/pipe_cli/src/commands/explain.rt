@@ -2,7 +2,7 @@
 
 ghost use Rattle.std.specs.Prelude.{◌≡◌, ◌++◌, IfOk, IfErr, OnOk};
 ghost use Rattle.std.specs.List.{flat_map};
-ghost use Rattle.pipe_branches.specs.Texts.{texts as texts_of_plan};
+ghost use Rattle.pipe_driver.specs.Texts.{texts as texts_of_plan};
 ghost use Rattle.pipe_job.specs.JobSpelling.{task_of};
 ghost use Rattle.pipe_plan.specs.Plan.{plan_of};
 ghost use Rattle.pipe_cli.specs.Answers.{text_of};
@@ -14,8 +14,8 @@ ghost use Rattle.pipe_cli.specs.Status.{OneOf, status_of};
 use crate::answer::Answer;
 use crate::jobs::{checked, job_in};
 use crate::status::Refusal;
-use pipe_branches::explain as texts_of;
 use pipe_check::CheckedPlan;
+use pipe_driver::explain as texts_of;
 use pipe_job::Job;
 use pipe_schema::Text;
 use std::alloc::{AllocError, Global};

@@ -1,7 +1,7 @@
 //! The pipelines of a plan, as they are explained, and whether a run takes their sources in that order.
 
-use pipe_branches::{cut, explain};
 use pipe_check::{CheckedPlan, check_plan};
+use pipe_driver::{cut, explain};
 use pipe_events::Event;
 use pipe_exec::RunAnswer;
 use pipe_plan::{Arena, IR};

@@ -1,9 +1,9 @@
 //! Claims, drawn by two threads.
 
 ghost use Rattle.std.specs.Prelude.{◌≡◌, ◌+◌, ◌≤◌, length};
-ghost use Rattle.pipe_words.specs.Claims.{claim_limit};
+ghost use Rattle.pipe_chain.specs.Claims.{claim_limit};
 
-use pipe_words::{ClaimSeat, Claims};
+use pipe_chain::{ClaimSeat, Claims};
 use std::alloc::{AllocError, Global};
 use std::thread::{Threads, join};
 

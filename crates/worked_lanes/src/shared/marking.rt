@@ -2,7 +2,7 @@
 
 ghost use Rattle.std.specs.Prelude.{◌≡◌, ◌≤◌};
 
-use pipe_words::{FlagSeat, Marked, MatchFlags};
+use pipe_chain::{FlagSeat, Marked, MatchFlags};
 use std::alloc::{AllocError, Global};
 use std::thread::{Threads, join};
 

@@ -1,8 +1,8 @@
 //! The answer to a plan: its branches, each as its text and as its numbers.
 
 use crate::written::{is_shown, push_line};
-use pipe_branches::{Branch, SinkAt, SinkNode, cut, explain};
 use pipe_check::{CheckedPlan, check_plan};
+use pipe_driver::{Branch, SinkAt, SinkNode, cut, explain};
 use pipe_plan::Arena;
 use std::alloc::{AllocError, Global};
 use worked_texts::job_of;

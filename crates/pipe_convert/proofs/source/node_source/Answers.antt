@@ -1,6 +1,6 @@
 use Rattle.std.proofs.Common.{◌≡◌, ap, sym, ◌∙◌, arith}
-use Rattle.pipe_branches.specs.Branches.{is_scan}
-use Rattle.pipe_branches.specs.Texts.{node_word}
+use Rattle.pipe_driver.specs.Branches.{is_scan}
+use Rattle.pipe_driver.specs.Texts.{node_word}
 use Rattle.pipe_driver.specs.Shape.{Begins, kind_at, kind_of}
 use Rattle.pipe_plan.specs.Node.{node_of}
 use Rattle.pipe_convert.specs.Nodes.{nodes_in}

@@ -1,5 +1,5 @@
 use Rattle.std.proofs.Common.{ap, refl, ◌∙◌}
-use Rattle.pipe_branches.specs.Branches.{is_scan}
+use Rattle.pipe_driver.specs.Branches.{is_scan}
 use Rattle.pipe_convert.proofs.source.source_at.Goals as goal
 
 pub node_frame-requires-clause-scan : goal.node_frame-requires-clause-scan

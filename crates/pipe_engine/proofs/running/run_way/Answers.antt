@@ -1,7 +1,7 @@
 use Rattle.std.proofs.Common.{◌≡◌, subst, sym, ap, arith, refl, ◌∙◌}
 use Rattle.pipe_source.specs.declared.phys_source.PhysSource.{PhysSource}
 use Rattle.pipe_ops.specs.declared.context.PExecutionContext.{PExecutionContext}
-use Rattle.pipe_branches.specs.declared.branch.SinkAt.{SinkAt}
+use Rattle.pipe_driver.specs.declared.branch.SinkAt.{SinkAt}
 use Rattle.pipe_driver.specs.Tables.{number_at}
 use Rattle.pipe_driver.specs.declared.sink_counts.SinkCounts.{SinkCounts}
 use Rattle.pipe_engine.specs.Drives.{AnswersAt, IsRootNext}

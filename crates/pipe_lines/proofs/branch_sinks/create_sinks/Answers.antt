@@ -1,8 +1,8 @@
 use Rattle.std.proofs.Common.{◌≡◌, ◌+◌, List, [], drop, get_or, sym, subst, arith}
 use Rattle.std.proofs.lemmas.List.{drop_more, drop_all}
 use Rattle.std.specs.List.{AllByRecursion}
-use Rattle.pipe_branches.specs.declared.branch.SinkAt.TheVariants as at
-use Rattle.pipe_branches.specs.declared.branch.SinkNode.{SinkNode}
+use Rattle.pipe_driver.specs.declared.branch.SinkAt.TheVariants as at
+use Rattle.pipe_driver.specs.declared.branch.SinkNode.{SinkNode}
 use Rattle.pipe_lines.specs.Made.{IsSinkSplit}
 use Rattle.pipe_lines.specs.Parts.{IsSinkThere}
 use Rattle.pipe_lines.proofs.PartFacts.{SinksBehind, sinks_first, sinks_next, sinks_done}

@@ -1,7 +1,7 @@
 use Rattle.std.proofs.Common.{◌≡◌, ◌+◌, List, [], ◌∷◌, ◌++◌, ℕ, drop, get_or, map, ap, sym, subst, ◌∙◌, arith}
 use Rattle.std.proofs.lemmas.List.{drop_more, drop_all, map_push}
 use Rattle.std.specs.List.{AllByRecursion}
-use Rattle.pipe_branches.specs.declared.branch.Branch.{Branch}
+use Rattle.pipe_driver.specs.declared.branch.Branch.{Branch}
 use Rattle.pipe_engine.specs.Drives.{Line}
 use Rattle.pipe_convert.specs.Laws.{IsBranch}
 use Rattle.pipe_convert.proofs.BranchStarts.{all_branches}

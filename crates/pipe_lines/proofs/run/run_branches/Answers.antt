@@ -5,7 +5,7 @@ use Rattle.pipe_frame.specs.Frame.{Table}
 use Rattle.pipe_convert.specs.Nodes.{plan_in}
 use Rattle.pipe_plan.specs.Plan.{plan_of}
 use Rattle.pipe_plan.specs.declared.arena.Arena.{Arena}
-use Rattle.pipe_laws.specs.Fitting.{TablesFit}
+use Rattle.pipe_events.specs.Fitting.{TablesFit}
 use Rattle.pipe_driver.specs.Within.{EndsWith}
 use Rattle.pipe_engine.proofs.Asked.{asked-memory}
 use Rattle.pipe_engine.proofs.Entry.{if_ok}

@@ -1,6 +1,6 @@
 use Rattle.std.proofs.Common.{[], refl, ap, sym, subst, ◌∙◌}
 use Rattle.std.specs.Prelude.{IfOk}
-use Rattle.pipe_branches.specs.declared.branch.SinkAt.{SinkAt}
+use Rattle.pipe_driver.specs.declared.branch.SinkAt.{SinkAt}
 use Rattle.pipe_convert.specs.Converted.{schema_in}
 use Rattle.pipe_slots.specs.declared.phys_sink.PhysSink.TheVariants.{Ordered as OfRoot, Sort as OfSort}
 use Rattle.pipe_convert.proofs.JoinNodes.{under_sort}

@@ -1,5 +1,5 @@
 use Rattle.std.proofs.Common.{List, Option, [], ◌∷◌, ◌++◌, refl, ap, sym, ◌∙◌}
-use Rattle.pipe_words.specs.Flags.{SeatMarks}
+use Rattle.pipe_chain.specs.Flags.{SeatMarks}
 use Rattle.pipe_passage.specs.LaneSeats.{seats_in, first_seats}
 use Rattle.pipe_passage.proofs.leaving.leave_lane.Goals as goal
 

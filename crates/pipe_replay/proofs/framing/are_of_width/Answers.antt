@@ -2,7 +2,7 @@ use Rattle.std.proofs.Common.{◌≡◌, length, subst, arith}
 use Rattle.std.specs.Prelude.{All}
 use Rattle.std.proofs.lemmas.List.{take_all}
 use Rattle.pipe_schema.specs.Rows.{Row}
-use Rattle.pipe_laws.proofs.FitLemmas.{one-more}
+use Rattle.pipe_events.proofs.FitLemmas.{one-more}
 use Rattle.pipe_replay.proofs.framing.are_of_width.Goals as goal
 
 pub loop-row-preserved : goal.loop-row-preserved

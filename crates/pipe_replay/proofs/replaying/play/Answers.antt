@@ -2,7 +2,7 @@ use Rattle.std.proofs.Common.{map, subst}
 use Rattle.pipe_plan.specs.Plan.{plan_of}
 use Rattle.pipe_plan.specs.declared.arena.Arena.{Arena}
 use Rattle.pipe_events.specs.EventValues.{event_value}
-use Rattle.pipe_laws.specs.Fitting.{TablesFit}
+use Rattle.pipe_events.specs.Fitting.{TablesFit}
 use Rattle.pipe_replay.specs.KeptWorld.{world_in}
 use Rattle.pipe_replay.proofs.EndLemmas.{has-the-rows}
 use Rattle.pipe_replay.proofs.Parts.{some-parts}

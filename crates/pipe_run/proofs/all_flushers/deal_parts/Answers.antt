@@ -2,7 +2,7 @@ use Rattle.std.proofs.Common.{ℕ, ◌<◌, length, arith, refl, sym, subst, Lis
 use Rattle.std.specs.List.{All}
 use Rattle.std.proofs.lemmas.List.Elements.{All-replicate}
 use Rattle.pipe_schema.specs.declared.field.Field.{Field}
-use Rattle.pipe_words.specs.Claims.{SeatClaims, fresh_claimant}
+use Rattle.pipe_chain.specs.Claims.{SeatClaims, fresh_claimant}
 use Rattle.pipe_run.specs.declared.lane.Lane.{Lane}
 use Rattle.pipe_run.specs.Claimed.{drawn_in, parts_lot, IsAtEnd, Took}
 use Rattle.pipe_run.specs.Flushes.{flushed_in, IsFlushFit}

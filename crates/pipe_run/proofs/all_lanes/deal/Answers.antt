@@ -1,6 +1,6 @@
 use Rattle.std.proofs.Common.{length, arith, refl, sym, subst, List, All}
 use Rattle.std.proofs.lemmas.List.Elements.{All-replicate}
-use Rattle.pipe_words.specs.Claims.{SeatClaims, fresh_claimant}
+use Rattle.pipe_chain.specs.Claims.{SeatClaims, fresh_claimant}
 use Rattle.pipe_run.specs.Claimed.{schema_in, chunks_lot}
 use Rattle.pipe_run.specs.Seats.{IsFreshOf}
 use Rattle.pipe_run.proofs.RoundSteps.{deal-drawn, fits-seated, fits-unseated, all-seated, fresh-seated, calm-seated}

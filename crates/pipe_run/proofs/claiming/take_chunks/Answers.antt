@@ -1,5 +1,5 @@
 use Rattle.std.proofs.Common.{◌++◌, ◌∷◌, [], ◌∙◌, Option, length, ap, sym, subst, arith}
-use Rattle.pipe_words.specs.Claims.{SeatClaims}
+use Rattle.pipe_chain.specs.Claims.{SeatClaims}
 use Rattle.pipe_run.specs.declared.lane.Lane.{Lane}
 use Rattle.pipe_run.specs.Claimed.{schema_in, drawn_at, drawn_in, entries_for, chunks_lot, IsSeatOf}
 use Rattle.pipe_run.proofs.ClaimSteps.{took-fresh, took-past, took-worked, took-stopped, fit-stopped, fit-next, lane-next, past-drawn, fit-under, schema-there, calm-by, few-more, rows-past, entries-past, rows-there, entries-there}

@@ -1,5 +1,5 @@
 use Rattle.std.proofs.Common.{◌<◌, ◌++◌, ◌∷◌, [], ◌∙◌, Option, length, ap, sym, subst, arith}
-use Rattle.pipe_words.specs.Claims.{SeatClaims}
+use Rattle.pipe_chain.specs.Claims.{SeatClaims}
 use Rattle.pipe_run.specs.declared.lane.Lane.{Lane}
 use Rattle.pipe_run.specs.Claimed.{drawn_at, drawn_in, parts_lot, entries_for_part, IsSeatOf}
 use Rattle.pipe_run.specs.Flushes.{flushed_by}

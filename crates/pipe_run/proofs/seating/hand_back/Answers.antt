@@ -1,5 +1,5 @@
 use Rattle.std.proofs.Common.{Option, ◌++◌, ap, sym, subst, ◌∙◌}
-use Rattle.pipe_words.specs.Claims.{SeatClaims, all_drawn}
+use Rattle.pipe_chain.specs.Claims.{SeatClaims, all_drawn}
 use Rattle.pipe_run.specs.Claimed.{IsSeatOf, drawn_at}
 use Rattle.pipe_run.proofs.SeatSteps.{own_pushed, drawn_pushed}
 use Rattle.pipe_run.proofs.seating.hand_back.Goals as goal

@@ -1,7 +1,0 @@
-use Rattle.std.proofs.Common.{◌≡◌, ◌++◌, map, take}
-use Rattle.pipe_schema.specs.Cell.{string_cell}
-use Rattle.pipe_function.specs.Unpivots.{name_cell}
-use Rattle.pipe_function.proofs.repeated.push_names.Given as goal
-
-abbrev pub invariant-loop-name : goal.invariant-loop-name
-invariant-loop-name l = map string_cell l.column ≡ map string_cell l.initial.column ++ map name_cell (take l.name-index l.names)

@@ -1,7 +1,0 @@
-use Rattle.std.proofs.Common.{◌≡◌, map}
-use Rattle.pipe_schema.specs.Cell.{string_cell}
-use Rattle.pipe_function.specs.Lent.{cells_between}
-use Rattle.pipe_function.proofs.row_by_row.flattened_texts.Given as goal
-
-abbrev pub invariant-loop-i : goal.invariant-loop-i
-invariant-loop-i l = map string_cell l.made ≡ cells_between l.columns l.from l.i

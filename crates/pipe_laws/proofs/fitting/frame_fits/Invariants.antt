@@ -1,7 +1,0 @@
-use Rattle.std.proofs.Common.{take}
-use Rattle.std.specs.Prelude.{All}
-use Rattle.pipe_laws.specs.Fitting.{ColumnFits}
-use Rattle.pipe_laws.proofs.fitting.frame_fits.Given as goal
-
-abbrev pub invariant-loop-column : goal.invariant-loop-column
-invariant-loop-column l = All ColumnFits (take l.column-index l.columns)

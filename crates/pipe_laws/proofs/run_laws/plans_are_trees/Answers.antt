@@ -1,5 +1,0 @@
-use Rattle.pipe_laws.proofs.Trees.{plans_trees}
-use Rattle.pipe_laws.proofs.run_laws.plans_are_trees.Goals as goal
-
-pub returns : goal.returns
-returns c = plans_trees

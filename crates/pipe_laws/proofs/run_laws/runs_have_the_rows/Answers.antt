@@ -1,5 +1,0 @@
-use Rattle.pipe_laws.proofs.Whole.{runs_rows}
-use Rattle.pipe_laws.proofs.run_laws.runs_have_the_rows.Goals as goal
-
-pub returns : goal.returns
-returns c = runs_rows

@@ -1,5 +1,0 @@
-use Rattle.pipe_laws.proofs.Journals.{empty_journals}
-use Rattle.pipe_laws.proofs.schedule_laws.empty_journals_stand.Goals as goal
-
-pub returns : goal.returns
-returns c = empty_journals

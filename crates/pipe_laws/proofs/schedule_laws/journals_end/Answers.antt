@@ -1,5 +1,0 @@
-use Rattle.pipe_laws.proofs.Journals.{journals_end}
-use Rattle.pipe_laws.proofs.schedule_laws.journals_end.Goals as goal
-
-pub returns : goal.returns
-returns c = journals_end

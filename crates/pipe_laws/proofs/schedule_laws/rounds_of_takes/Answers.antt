@@ -1,5 +1,0 @@
-use Rattle.pipe_laws.proofs.Rounds.{rounds_of_takes}
-use Rattle.pipe_laws.proofs.schedule_laws.rounds_of_takes.Goals as goal
-
-pub returns : goal.returns
-returns c = rounds_of_takes

@@ -1,5 +1,0 @@
-use Rattle.pipe_laws.proofs.Sources.{taken_sources}
-use Rattle.pipe_laws.proofs.schedule_laws.taken_sources_are_spent.Goals as goal
-
-pub returns : goal.returns
-returns c = taken_sources

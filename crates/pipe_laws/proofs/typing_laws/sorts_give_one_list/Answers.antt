@@ -1,5 +1,0 @@
-use Rattle.pipe_laws.proofs.Plans.{sorts_sure}
-use Rattle.pipe_laws.proofs.typing_laws.sorts_give_one_list.Goals as goal
-
-pub returns : goal.returns
-returns c = sorts_sure

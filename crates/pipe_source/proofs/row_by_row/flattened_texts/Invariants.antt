@@ -1,0 +1,7 @@
+use Rattle.std.proofs.Common.{◌≡◌, map}
+use Rattle.pipe_schema.specs.Cell.{string_cell}
+use Rattle.pipe_source.specs.Lent.{cells_between}
+use Rattle.pipe_source.proofs.row_by_row.flattened_texts.Given as goal
+
+abbrev pub invariant-loop-i : goal.invariant-loop-i
+invariant-loop-i l = map string_cell l.made ≡ cells_between l.columns l.from l.i

@@ -1,4 +1,0 @@
-pub mod SumLemmas
-pub mod FlagSteps
-pub mod ClaimSteps
-pub mod OnceLemmas
