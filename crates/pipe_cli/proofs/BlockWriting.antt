@@ -23,7 +23,7 @@ use Rattle.pipe_stream.proofs.DeskLemmas.{appends_both, appends_none, longer, pa
 use Rattle.pipe_stream.proofs.OrderLemmas.{blocks_are_all, texts_are_lines}
 use Rattle.pipe_cli.specs.Commands.RunCommand.{run}
 use Rattle.pipe_cli.specs.Commands.StreamCommand.{IsBlockLines, stream}
-use Rattle.pipe_cli.specs.Contract.{Answered, Because, Causes, EndsBy, EndsWith, Fails, IsTold, NoInput, Nothing, OfInput, Short, Sound, Told, Unread}
+use Rattle.pipe_cli.specs.Contract.{Answered, Because, Causes, EndsBy, CommandEndsWith, CommandFails, IsTold, NoInput, Nothing, OfInput, Short, Sound, Told, Unread}
 use Rattle.pipe_cli.specs.Jobs.{IsSoundJob, IsWithinJob, job_kind}
 use Rattle.pipe_cli.specs.Outcome.{WroteFrontOn, WroteFrontTold, WroteOn, WroteTold}
 use Rattle.pipe_cli.specs.Refused.{OfReading}
@@ -177,7 +177,7 @@ caused refusal.Memory bytes out h = inl refl
 pub unread_job : (r : Refusal) (bytes : List ℕ) (out : OutputSeen) → Unread job_kind r bytes → EndsBlocks r out out bytes
 unread_job r bytes out u = caused r bytes out (unread_told stream r bytes u)
 
-ends_as : (job : Task) (e : PipeError) → EndsWith run job e → EndsWith stream job e
+ends_as : (job : Task) (e : PipeError) → CommandEndsWith run job e → CommandEndsWith stream job e
 ends_as job error.BadConfig h = h
 ends_as job (error.BadNode n) h = h
 ends_as job (error.UnknownColumn n name) h = h

@@ -25,7 +25,7 @@ use Rattle.pipe_plan.specs.declared.error.PipeError.TheVariants as error
 use Rattle.pipe_plan.specs.Schemas.{schema_of}
 use Rattle.pipe_cli.specs.Commands.RunCommand.{run}
 use Rattle.pipe_cli.specs.Commands.StreamCommand.{stream}
-use Rattle.pipe_cli.specs.Contract.{Answered, Because, Causes, EndsBy, EndsWith, Fails, IsKind, IsLawful, Unread}
+use Rattle.pipe_cli.specs.Contract.{Answered, Because, Causes, EndsBy, CommandEndsWith, CommandFails, IsKind, IsLawful, Unread}
 use Rattle.pipe_cli.specs.Jobs.{IsLookedAt, IsRefusedJob, IsRefusedWith, IsRowLines, IsSoundJob, IsWithinJob, ReadsJobOf, ReadsOtherJob, job_kind, jobs_of, looks_at, looks_at_those}
 use Rattle.pipe_cli.specs.Refused.{Tells}
 use Rattle.pipe_cli.specs.Status.{OneOf, status_of}
@@ -211,7 +211,7 @@ those_lawful H A = record {
 
 -- ---- jobs that are run
 
-run_ends : (job : Task) (e : PipeError) → runs.Fails job.plan job.root job.config e → EndsWith run job e
+run_ends : (job : Task) (e : PipeError) → runs.RunFails job.plan job.root job.config e → CommandEndsWith run job e
 run_ends job error.BadConfig f = f.ends
 run_ends job (error.BadNode n) f = f.ends
 run_ends job (error.UnknownColumn n name) f = f.ends
@@ -223,7 +223,7 @@ run_ends job (error.TooMany n) f = f.ends
 run_ends job error.Stopped f = f.ends
 run_ends job error.Memory f = f.ends
 
-run_fails : (job : Task) (e : PipeError) → runs.Fails job.plan job.root job.config e → Fails run job e
+run_fails : (job : Task) (e : PipeError) → runs.RunFails job.plan job.root job.config e → CommandFails run job e
 run_fails job e f = record { sound = f.sound; ends = run_ends job e f }
 
 -- an error of a run is told of the job

@@ -30,7 +30,7 @@ use Rattle.serde_json.specs.Data.{depth}
 use Rattle.serde_json.specs.Read.{max_depth}
 use Rattle.pipe_cli.specs.Commands.OptimizeCommand.{optimize}
 use Rattle.pipe_cli.specs.Commands.RunCommand.{run}
-use Rattle.pipe_cli.specs.Contract.{Answered, Because, Causes, EndsWith, Fails, IsLawful, Unread}
+use Rattle.pipe_cli.specs.Contract.{Answered, Because, Causes, CommandEndsWith, CommandFails, IsLawful, Unread}
 use Rattle.pipe_cli.specs.Jobs.{IsLookedAt, IsRowLines, IsSoundJob, job_kind}
 use Rattle.pipe_cli.specs.Optimized.{HaveSameLines, IsBetter, IsBetterPlan, IsOptimized, most_under, nodes_under, with_nodes}
 use Rattle.pipe_cli.specs.OptimizedRuns.{OptimizedTextRuns, OptimizedTextGivesTheRows}
@@ -69,7 +69,7 @@ large_optimize (refusal.Fault line) job e s (inr m) t = absurd (let seven : 6 �
 large_optimize (refusal.TooMany line) job e s (inl m) t = absurd (let ten : 7 ≡ 10 = t.0 ∙ ap fault_status m in omega (arith, ten))
 large_optimize (refusal.TooMany line) job e s (inr m) t = record {
   error = e;
-  ends = inr (record { sound = s; ends = subst (EndsWith optimize job) (sym m.0) (refl, m.1) });
+  ends = inr (record { sound = s; ends = subst (CommandEndsWith optimize job) (sym m.0) (refl, m.1) });
   status_is = t.0;
   line_is = t.1;
 }

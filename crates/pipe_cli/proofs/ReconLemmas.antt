@@ -18,7 +18,7 @@ use Rattle.pipe_recon.specs.ReconSpelling.{Spells}
 use Rattle.pipe_recon.specs.declared.recon_job.ReconJob.{ReconJob}
 use Rattle.pipe_recon.proofs.OneReconJob.{one_recon_job}
 use Rattle.pipe_cli.specs.Commands.ReconcileCommand.{reconcile}
-use Rattle.pipe_cli.specs.Contract.{Answered, Because, Causes, EndsWith, Fails, IsKind, IsLawful, Unread}
+use Rattle.pipe_cli.specs.Contract.{Answered, Because, Causes, CommandEndsWith, CommandFails, IsKind, IsLawful, Unread}
 use Rattle.pipe_cli.specs.Recons.{IsRefusedRecon, IsSoundRecon, IsWithinRecon, recon_kind, recon_of}
 use Rattle.pipe_cli.specs.Refused.{Tells}
 use Rattle.pipe_cli.specs.Status.{OneOf, status_of}
@@ -91,7 +91,7 @@ refused_unstopped job e h same = let six : 8 ≡ 6 = sym (ap fault_status same) 
 
 -- ---- runs
 
-recon_ends : (job : ReconJob) (e : PipeError) → ends.Fails job.left job.right job.spec job.config e → EndsWith reconcile job e
+recon_ends : (job : ReconJob) (e : PipeError) → ends.ReconciliationFails job.left job.right job.spec job.config e → CommandEndsWith reconcile job e
 recon_ends job error.BadConfig f = f.ends
 recon_ends job (error.BadNode n) f = f.ends
 recon_ends job (error.UnknownColumn n name) f = f.ends
@@ -103,7 +103,7 @@ recon_ends job (error.TooMany n) f = f.ends
 recon_ends job error.Stopped f = f.ends
 recon_ends job error.Memory f = f.ends
 
-recon_fails : (job : ReconJob) (e : PipeError) → ends.Fails job.left job.right job.spec job.config e → Fails reconcile job e
+recon_fails : (job : ReconJob) (e : PipeError) → ends.ReconciliationFails job.left job.right job.spec job.config e → CommandFails reconcile job e
 recon_fails job e f = record { sound = f.sound; ends = recon_ends job e f }
 
 -- an error is told of the reconciliation

@@ -6,7 +6,7 @@ use Rattle.pipe_stream.specs.Outside.{InputSeen, OutputSeen, ReadFails, WriteFai
 use Rattle.pipe_plan.specs.declared.error.PipeError.{PipeError}
 use Rattle.pipe_plan.specs.declared.error.PipeError.TheVariants as error
 use Rattle.pipe_cli.specs.Commands.{Request, contract_of, request, source_of}
-use Rattle.pipe_cli.specs.Contract.{Answered, Contract, EndsBy, Fails, Good, IsLawful, NoInput, Nothing, OfInput, RefusedAs, Short, ShortGood, Sound, Told, TooWide, Wide}
+use Rattle.pipe_cli.specs.Contract.{Answered, Contract, EndsBy, CommandFails, Good, IsLawful, NoInput, Nothing, OfInput, RefusedAs, Short, ShortGood, Sound, Told, TooWide, Wide}
 use Rattle.pipe_cli.specs.Outcome.{IfInput, InputOf, IsInput, IsRead, IsTooLong, Long, MayEnd, Noted, NotedFault, OfOutput, OfWords, OutputOf, ReadingOf, Wrote, WroteFront, WroteFrontOn, WroteFrontTold, WroteOn, WroteTold, asks_run, if_asked, is_asked, is_run, of_words, told_to}
 use Rattle.pipe_cli.specs.Refused.{OfReading}
 use Rattle.pipe_cli.specs.Sources.{IsLongOn, IsTooMany, IsWhole, ReadOn, Source, Nowhere, Standard, Named, WasRead, bytes_at, limit}
@@ -60,7 +60,7 @@ one_status c law m n line bytes t r =
     t.told.status_is ∙ ap fault_status (one_end c law r.input t.told.error r.error ends r.refused) ∙ sym r.status_is
 
 -- how a sound input fails: not by an error of status 6, and by one of status 7 where a node has too many rows
-no_fault : (c : Contract) (i : c.kind.Input) (e : PipeError) → Fails c i e → 6 ≡ fault_status e → ⊥
+no_fault : (c : Contract) (i : c.kind.Input) (e : PipeError) → CommandFails c i e → 6 ≡ fault_status e → ⊥
 no_fault c i error.BadConfig f s = f.ends
 no_fault c i (error.BadNode n) f s = f.ends
 no_fault c i (error.UnknownColumn n name) f s = f.ends
@@ -72,7 +72,7 @@ no_fault c i (error.TooMany n) f s = omega (arith, s)
 no_fault c i error.Stopped f s = omega (arith, s)
 no_fault c i error.Memory f s = omega (arith, s)
 
-wide_end : (c : Contract) (bytes : List ℕ) (i : c.kind.Input) (e : PipeError) → c.kind.Reads bytes i → Fails c i e → 7 ≡ fault_status e → Wide c bytes
+wide_end : (c : Contract) (bytes : List ℕ) (i : c.kind.Input) (e : PipeError) → c.kind.Reads bytes i → CommandFails c i e → 7 ≡ fault_status e → Wide c bytes
 wide_end c bytes i error.BadConfig read f s = absurd f.ends
 wide_end c bytes i (error.BadNode n) read f s = absurd f.ends
 wide_end c bytes i (error.UnknownColumn n name) read f s = absurd f.ends

@@ -9,7 +9,7 @@ use Rattle.pipe_selftest.specs.Ends.{Ends, IsJoin, IsWithin}
 use Rattle.pipe_selftest.specs.Joins.{config, full_root, inner_root, left_root, plan_from}
 use Rattle.pipe_selftest.specs.Lines.{selftest_lines}
 use Rattle.pipe_cli.specs.Commands.SelfTestCommand.{selftest}
-use Rattle.pipe_cli.specs.Contract.{Answered, Causes, EndsWith, IsKind, IsLawful, IsTold}
+use Rattle.pipe_cli.specs.Contract.{Answered, Causes, CommandEndsWith, IsKind, IsLawful, IsTold}
 use Rattle.pipe_cli.specs.NoInputs.{no_inputs, writes}
 use Rattle.pipe_cli.specs.Refused.{Tells}
 use Rattle.pipe_cli.specs.Status.{OneOf, status_of}
@@ -53,7 +53,7 @@ no_fault (error.TooMany n) start rows h s = omega (arith, s)
 no_fault error.Stopped start rows h s = omega (arith, s)
 no_fault error.Memory start rows h s = omega (arith, s)
 
-test_ends : (e : PipeError) (start rows : ℕ) → Ends (plan_from start rows) e → EndsWith (selftest start rows) tt e
+test_ends : (e : PipeError) (start rows : ℕ) → Ends (plan_from start rows) e → CommandEndsWith (selftest start rows) tt e
 test_ends error.BadConfig start rows h = h.ends
 test_ends (error.BadNode n) start rows h = h.ends
 test_ends (error.UnknownColumn n name) start rows h = h.ends

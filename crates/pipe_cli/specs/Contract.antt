@@ -86,25 +86,25 @@ NoInput contract bytes = contract.kind.ReadsNone bytes
 -- ---- the error by which an input ends
 
 -- what an error says of a sound one: a node of too many rows, a stop, or no memory
-abbrev pub EndsWith : (contract : Contract) → contract.kind.Input → PipeError → Type 0
-EndsWith contract input error.BadConfig = ⊥
-EndsWith contract input (error.BadNode n) = ⊥
-EndsWith contract input (error.UnknownColumn n name) = ⊥
-EndsWith contract input (error.DuplicateName n name) = ⊥
-EndsWith contract input (error.TypeMismatch n) = ⊥
-EndsWith contract input (error.BadJoin n) = ⊥
-EndsWith contract input (error.BadSort n) = ⊥
-EndsWith contract input (error.TooMany n) = contract.HasMany input n
-EndsWith contract input error.Stopped = Unit {0}
-EndsWith contract input error.Memory = Unit {0}
+abbrev pub CommandEndsWith : (contract : Contract) → contract.kind.Input → PipeError → Type 0
+CommandEndsWith contract input error.BadConfig = ⊥
+CommandEndsWith contract input (error.BadNode n) = ⊥
+CommandEndsWith contract input (error.UnknownColumn n name) = ⊥
+CommandEndsWith contract input (error.DuplicateName n name) = ⊥
+CommandEndsWith contract input (error.TypeMismatch n) = ⊥
+CommandEndsWith contract input (error.BadJoin n) = ⊥
+CommandEndsWith contract input (error.BadSort n) = ⊥
+CommandEndsWith contract input (error.TooMany n) = contract.HasMany input n
+CommandEndsWith contract input error.Stopped = Unit {0}
+CommandEndsWith contract input error.Memory = Unit {0}
 
-pub record Fails (contract : Contract) (input : contract.kind.Input) (e : PipeError) : Type 0 where
+pub record CommandFails (contract : Contract) (input : contract.kind.Input) (e : PipeError) : Type 0 where
   pub sound : contract.IsSound input
-  pub ends : EndsWith contract input e
+  pub ends : CommandEndsWith contract input e
 
 -- it is refused, or it is sound and fails
 abbrev pub EndsBy : (contract : Contract) → contract.kind.Input → PipeError → Type 0
-EndsBy contract input e = contract.IsRefused input e ⊎ Fails contract input e
+EndsBy contract input e = contract.IsRefused input e ⊎ CommandFails contract input e
 
 -- an input ends by an error of this status and this line
 pub record IsTold (contract : Contract) (status : ℕ) (line : List ℕ) (input : contract.kind.Input) : Type 0 where

@@ -5,7 +5,7 @@ use Rattle.pipe_driver.specs.Texts.{texts}
 use Rattle.pipe_driver.specs.Within.{AllWithin}
 use Rattle.pipe_cli.specs.FaultLine.{fault_line, fault_status}
 use Rattle.pipe_schema.specs.Rows.{SameLines}
-use Rattle.pipe_exec.specs.Sound.{IsRefused, IsSound}
+use Rattle.pipe_exec.specs.Sound.{IsRefusedRun, IsSoundRun}
 use Rattle.pipe_plan.specs.Node.{Sort}
 use Rattle.pipe_plan.specs.PlanRows.{rows_of}
 use Rattle.pipe_plan.specs.Schemas.{schema_of}
@@ -25,11 +25,11 @@ job_kind = record { Input = Task; Reads = ReadsJob; ReadsNothing = ReadsNothing;
 
 -- a job whose numbers are good and whose plan is well-formed
 abbrev pub IsSoundJob : Task → Type 0
-IsSoundJob job = IsSound job.plan job.root job.config
+IsSoundJob job = IsSoundRun job.plan job.root job.config
 
 -- the error by which a job is refused
 abbrev pub IsRefusedJob : Task → PipeError → Type 0
-IsRefusedJob job e = IsRefused job.plan job.root job.config e
+IsRefusedJob job e = IsRefusedRun job.plan job.root job.config e
 
 -- no node under its root has more rows than its limit
 abbrev pub IsWithinJob : Task → Type 0
@@ -60,8 +60,8 @@ branch_lines job = flat_map ended (texts job.plan job.root)
 abbrev pub looks_at : (Task → List ℕ → Type 0) → Contract
 looks_at IsAnswer = record {
   kind = job_kind;
-  IsSound = IsSoundJob;
-  IsRefused = IsRefusedJob;
+  IsSoundRun = IsSoundJob;
+  IsRefusedRun = IsRefusedJob;
   HasMany = λ job n. ⊥;
   IsWithin = λ job. Unit {0};
   IsAnswer = IsAnswer;
@@ -95,8 +95,8 @@ jobs_of Holds = record {
 abbrev pub looks_at_those : (Task → Type 0) → (Task → List ℕ → Type 0) → Contract
 looks_at_those Holds IsAnswer = record {
   kind = jobs_of Holds;
-  IsSound = IsSoundJob;
-  IsRefused = IsRefusedJob;
+  IsSoundRun = IsSoundJob;
+  IsRefusedRun = IsRefusedJob;
   HasMany = λ job n. ⊥;
   IsWithin = λ job. Unit {0};
   IsAnswer = IsAnswer;

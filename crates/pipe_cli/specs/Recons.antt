@@ -2,7 +2,7 @@
 use Rattle.std.specs.Prelude.{ℕ, List}
 use Rattle.pipe_job.specs.Reading.{ReadsNothing}
 use Rattle.pipe_plan.specs.declared.error.PipeError.{PipeError}
-use Rattle.pipe_recon.specs.Ends.{IsRefused, IsSound}
+use Rattle.pipe_recon.specs.Ends.{IsRefusedReconciliation, IsSoundReconciliation}
 use Rattle.pipe_recon.specs.FullJoin.{IsWithin}
 use Rattle.pipe_recon.specs.Reconciliation.{reconciliation}
 use Rattle.pipe_recon.specs.declared.recon.Recon.{Recon}
@@ -16,11 +16,11 @@ recon_kind = record { Input = ReconJob; Reads = ReadsReconJob; ReadsNothing = Re
 
 -- its numbers and its key are good
 abbrev pub IsSoundRecon : ReconJob → Type 0
-IsSoundRecon job = IsSound job.left job.right job.spec job.config
+IsSoundRecon job = IsSoundReconciliation job.left job.right job.spec job.config
 
 -- the error by which it is refused
 abbrev pub IsRefusedRecon : ReconJob → PipeError → Type 0
-IsRefusedRecon job e = IsRefused job.left job.right job.spec job.config e
+IsRefusedRecon job e = IsRefusedReconciliation job.left job.right job.spec job.config e
 
 -- neither of its tables has more rows than its limit, nor has their full join
 abbrev pub IsWithinRecon : ReconJob → Type 0

@@ -6,7 +6,7 @@ use Rattle.pipe_schema.specs.Weights.{total}
 use Rattle.pipe_schema.proofs.Weights.{total-append}
 use Rattle.pipe_driver.specs.Legs.{Way}
 use Rattle.pipe_driver.specs.Meaning.{Meaning, Place, OutOf, rows_where, comes, from, due}
-use Rattle.pipe_driver.specs.Ways.{one, occurs, brought, own_brings, IsSound}
+use Rattle.pipe_driver.specs.Ways.{one, occurs, brought, own_brings, IsSoundMeaning}
 use Rattle.pipe_driver.proofs.Tests.{by_test, eq-is, eq-true, eq-false, some-left}
 use Rattle.pipe_driver.proofs.Totals.{comes_add, comes_same}
 use Rattle.pipe_driver.specs.State.{World, Counts, IsOpen, IsLeft, AreAlike, kept, pending, gained_brings}
@@ -70,7 +70,7 @@ none_out f each p n (op ∷ ops) sink rows ne off =
     ∙ none_out f each p op ops sink (flat_map (each op) rows) apart (omega arith)
 
 -- nothing of a join comes out of a node whose chain is longer than its own
-none_below : (f : Row → ℕ) (m : Meaning) (p i : ℕ) (rows : List Row) → IsSound m → length (m.above i) < length (m.above p) → total f (from m (OutOf p) i rows) ≡ 0
+none_below : (f : Row → ℕ) (m : Meaning) (p i : ℕ) (rows : List Row) → IsSoundMeaning m → length (m.above i) < length (m.above p) → total f (from m (OutOf p) i rows) ≡ 0
 none_below f m p i rows sound shorter =
     let are = alike_from m i (m.above i) (m.above_sink i) sound refl refl in
     none_out f m.each p i (m.above i) (m.above_sink i) rows (λ e. (let same = ap (λ k. length (m.above k)) e in absurd (omega arith))) (off_chain m (m.above_sink i) (m.above i) p are (omega arith))
@@ -91,7 +91,7 @@ shorter_or (suc a) zero = inr (omega arith)
 shorter_or (suc a) (suc b) = elim (shorter_or a b) [ inl l ↦ inl (omega arith) | inr l ↦ inr (omega arith) ]
 
 -- by how much shorter a chain is than all chains of joins together
-own_by : (m : Meaning) (w : World) (c : Counts) (due_at : ℕ → ℕ) (now : List ℕ) (but : ℕ → Bool) (live todo : List Way) → IsSound m → IsLeft m w c due_at now but live todo
+own_by : (m : Meaning) (w : World) (c : Counts) (due_at : ℕ → ℕ) (now : List ℕ) (but : ℕ → Bool) (live todo : List Way) → IsSoundMeaning m → IsLeft m w c due_at now but live todo
     → ((j : ℕ) → 0 < c.probers j → m.is_join j ≡ true → IsWithin m w (OutOf (m.probed j)) → GaveOwn m w j) → ((j : ℕ) → m.is_join j ≡ false → GaveOwn m w j)
     → (k j : ℕ) → total (chain_length m) m.joins < chain_length m j + k → 0 < occurs j m.joins → 0 < c.probers j → GaveOwn m w j
 own_by m w c due_at now but live todo sound left joins others zero j less on some = absurd (let a = among_all (chain_length m) m.joins j on in omega arith)

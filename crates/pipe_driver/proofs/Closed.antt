@@ -6,7 +6,7 @@ use Rattle.pipe_schema.specs.Weights.{total}
 use Rattle.pipe_schema.proofs.Weights.{total-append}
 use Rattle.pipe_driver.specs.Meaning.{Meaning, Place, Into, from, due}
 use Rattle.pipe_driver.specs.Legs.{Leg, Way}
-use Rattle.pipe_driver.specs.Ways.{one, way_to, feeds, way_through, passes, starts, way_starts, begun, way_brings, brought, own_brings, IsSound}
+use Rattle.pipe_driver.specs.Ways.{one, way_to, feeds, way_through, passes, starts, way_starts, begun, way_brings, brought, own_brings, IsSoundMeaning}
 use Rattle.pipe_driver.proofs.Tests.{by_test, eq-is, eq-true, eq-false, eq-not, all-append, all-map}
 use Rattle.pipe_driver.specs.State.{World, Counts, IsOpen, pending, gained_brings, Slot, IsBuilt, IsLeft, IsParked, IsBetween, IsReady, IsFed, HasClosed, TakesOut, BeginsElsewhere, nothing, none_due, is_sink}
 use Rattle.pipe_driver.proofs.Sums.{split4, brought_append}
@@ -149,7 +149,7 @@ moved m s q parked later out = record {
 }
 
 -- the way that waited for a sort can go on
-pub resumes : (m : Meaning) (old new : World) (c : Counts) (s : ℕ) (q : Way) (parked later todo : List Way) → IsSound m → m.is_sort s ≡ true → IsFed m old c s parked todo → c.sinks s ≡ 0
+pub resumes : (m : Meaning) (old new : World) (c : Counts) (s : ℕ) (q : Way) (parked later todo : List Way) → IsSoundMeaning m → m.is_sort s ≡ true → IsFed m old c s parked todo → c.sinks s ≡ 0
     → HasClosed s old new → TakesOut s q parked later → IsReady m new c q later todo
 resumes m old new c s q parked later todo sound sort is none has out =
     let P : Way → Type 0 = IsParked m c.sinks (is_sink s) todo in

@@ -6,7 +6,7 @@ use Rattle.pipe_schema.specs.Weights.{total}
 use Rattle.pipe_schema.proofs.Weights.{SameBag, total-append}
 use Rattle.pipe_driver.specs.Meaning.{Meaning, Place, OutOf, Into, from, due}
 use Rattle.pipe_driver.specs.Legs.{Way}
-use Rattle.pipe_driver.specs.Ways.{one, occurs, feeds, passes, brought, own_brings, AreLegs, IsWay, IsSound}
+use Rattle.pipe_driver.specs.Ways.{one, occurs, feeds, passes, brought, own_brings, AreLegs, IsWay, IsSoundMeaning}
 use Rattle.pipe_driver.proofs.Tests.{by_test, eq-is, eq-true, eq-false, eq-not, some-left, all-map}
 use Rattle.pipe_driver.proofs.Totals.{comes_add, comes_none, comes_same}
 use Rattle.pipe_driver.specs.State.{World, Counts, IsOpen, pending, gained_brings, spread, Slot, Waits, spent, spent_at, IsBuilt, IsParked, IsFed, IsPassing, AreAlike, HasSettled, IsLowered, is_sink}
@@ -72,7 +72,7 @@ stays m w c probers op now s parked todo is low some =
 -- ---- the last leg that goes through a node
 
 -- no join that some leg still goes through has the node on its chain, where no leg goes through that
-none_behind : (m : Meaning) (c : Counts) (j : ℕ) (now : List ℕ) (s : ℕ) (parked todo : List Way) (but : ℕ → Bool) → IsSound m → AreAlike m s now → AllByRecursion (IsParked m c.sinks but todo) parked → AllByRecursion (IsWay m) todo
+none_behind : (m : Meaning) (c : Counts) (j : ℕ) (now : List ℕ) (s : ℕ) (parked todo : List Way) (but : ℕ → Bool) → IsSoundMeaning m → AreAlike m s now → AllByRecursion (IsParked m c.sinks but todo) parked → AllByRecursion (IsWay m) todo
     → occurs j now + (passes j parked + passes j todo) ≡ 0 → (i : ℕ) → 0 < occurs i now + (passes i parked + passes i todo) → occurs j (m.above i) ≡ 0
 none_behind m c j now s parked todo but sound alike waiting ways none i some =
     elim (some-left (occurs i now)) [
@@ -84,7 +84,7 @@ none_behind m c j now s parked todo but sound alike waiting ways none i some =
     ]
 
 -- what came out of the probe side of a join is all that has to come out of it, once no leg goes through the join
-pub seen_all : (m : Meaning) (w : World) (c : Counts) (j : ℕ) (now : List ℕ) (s : ℕ) (parked todo : List Way) → IsSound m → IsPassing m w c (j ∷ now) s parked todo → m.is_join j ≡ true → c.probers j ≡ 1 → SameBag (w.there (OutOf (m.probed j))) (m.rows (m.probed j))
+pub seen_all : (m : Meaning) (w : World) (c : Counts) (j : ℕ) (now : List ℕ) (s : ℕ) (parked todo : List Way) → IsSoundMeaning m → IsPassing m w c (j ∷ now) s parked todo → m.is_join j ≡ true → c.probers j ≡ 1 → SameBag (w.there (OutOf (m.probed j))) (m.rows (m.probed j))
 seen_all m w c j now s parked todo sound is join last = record {
   sums = λ f. (
       let x = OutOf (m.probed j) in
@@ -118,7 +118,7 @@ others_still : (op k : ℕ) (old new : World) → new.slot ≡ (spent_at op old)
 others_still op k old new is ne = ap (λ q. q k) is ∙ ap (λ b. cond b (spent (old.slot k)) (old.slot k)) (eq-false k op ne)
 
 -- the node is closed: what a join has of its own went along its chain
-pub closes_last : (m : Meaning) (old new : World) (c : Counts) (probers : ℕ → ℕ) (op : ℕ) (now : List ℕ) (s : ℕ) (parked todo : List Way) → IsSound m → IsPassing m old c (op ∷ now) s parked todo → IsLowered op c.probers probers → probers op ≡ 0
+pub closes_last : (m : Meaning) (old new : World) (c : Counts) (probers : ℕ → ℕ) (op : ℕ) (now : List ℕ) (s : ℕ) (parked todo : List Way) → IsSoundMeaning m → IsPassing m old c (op ∷ now) s parked todo → IsLowered op c.probers probers → probers op ≡ 0
     → HasSettled m op old new → IsPassing m new (record { sinks = c.sinks; probers = probers }) now s parked todo
 closes_last m old new c probers op now s parked todo sound is low none has =
     let flush = has.passed in
@@ -180,7 +180,7 @@ closes_last m old new c probers op now s parked todo sound is low none has =
 
 -- ---- the sink
 
-pub counted : (m : Meaning) (w : World) (c : Counts) (sinks : ℕ → ℕ) (s : ℕ) (parked todo : List Way) → IsSound m → IsPassing m w c [] s parked todo → IsLowered s c.sinks sinks
+pub counted : (m : Meaning) (w : World) (c : Counts) (sinks : ℕ → ℕ) (s : ℕ) (parked todo : List Way) → IsSoundMeaning m → IsPassing m w c [] s parked todo → IsLowered s c.sinks sinks
     → IsFed m w (record { sinks = sinks; probers = c.probers }) s parked todo
 counted m w c sinks s parked todo sound is low =
     let counts : (k : ℕ) → sinks k ≡ feeds k parked + feeds k todo = λ k. by_test (sinks k ≡ feeds k parked + feeds k todo) (k == s)

@@ -4,7 +4,7 @@ use Rattle.std.specs.List.{AllByRecursion}
 use Rattle.pipe_schema.proofs.Weights.{total-append}
 use Rattle.pipe_driver.specs.Meaning.{Meaning}
 use Rattle.pipe_driver.specs.Legs.{Leg, Way}
-use Rattle.pipe_driver.specs.Ways.{one, occurs, legs_to, feeds, legs_through, passes, starts, way_starts, begun, AreLegs, IsWay, IsSound}
+use Rattle.pipe_driver.specs.Ways.{one, occurs, legs_to, feeds, legs_through, passes, starts, way_starts, begun, AreLegs, IsWay, IsSoundMeaning}
 use Rattle.pipe_driver.proofs.Tests.{by_test, eq-is, eq-true, some-left, all-map}
 use Rattle.pipe_driver.specs.State.{IsParked, HasTail, IsTail, TakesOut}
 use Rattle.pipe_driver.proofs.Sums.{no_more, within_ways}
@@ -52,17 +52,17 @@ pub none_begins : (m : Meaning) (x : ℕ) (ps : List Way) → AllByRecursion (Ha
 none_begins m x ps are none = no_more (begun x ps) (λ some. (let l = begun_feeds m x ps are some in omega (arith, l, none)))
 
 -- nor does any go through what is below it
-pub none_below : (m : Meaning) (y op : ℕ) (ps : List Way) → IsSound m → AllByRecursion (HasLegs m) ps → 0 < occurs op (m.above y) → passes op ps ≡ 0 → passes y ps ≡ 0
+pub none_below : (m : Meaning) (y op : ℕ) (ps : List Way) → IsSoundMeaning m → AllByRecursion (HasLegs m) ps → 0 < occurs op (m.above y) → passes op ps ≡ 0 → passes y ps ≡ 0
 none_below m y op ps sound are on none = no_more (passes y ps) (λ some. (let w = within_ways m y op ps sound are some in let few = w.few in omega (arith, few, on, none)))
 
-pub none_passes : (m : Meaning) (y : ℕ) (ps : List Way) → IsSound m → AllByRecursion (HasLegs m) ps → feeds (m.above_sink y) ps ≡ 0 → passes y ps ≡ 0
+pub none_passes : (m : Meaning) (y : ℕ) (ps : List Way) → IsSoundMeaning m → AllByRecursion (HasLegs m) ps → feeds (m.above_sink y) ps ≡ 0 → passes y ps ≡ 0
 none_passes m y ps sound are none = no_more (passes y ps) (λ some. (let w = within_ways m y y ps sound are some in let fed = w.sink in omega (arith, fed, none)))
 
 -- what begins at a node, or goes through it, feeds a sink
 pub some_begun_feeds : (m : Meaning) (x : ℕ) (ps : List Way) → AllByRecursion (HasLegs m) ps → 0 < begun x ps → 0 < feeds (m.above_sink x) ps
 some_begun_feeds m x ps are some = begun_feeds m x ps are some
 
-pub some_pass_feeds : (m : Meaning) (y : ℕ) (ps : List Way) → IsSound m → AllByRecursion (HasLegs m) ps → 0 < passes y ps → 0 < feeds (m.above_sink y) ps
+pub some_pass_feeds : (m : Meaning) (y : ℕ) (ps : List Way) → IsSoundMeaning m → AllByRecursion (HasLegs m) ps → 0 < passes y ps → 0 < feeds (m.above_sink y) ps
 some_pass_feeds m y ps sound are some = (within_ways m y y ps sound are some).sink
 
 -- ---- the legs of a state

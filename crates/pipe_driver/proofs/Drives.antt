@@ -13,7 +13,7 @@ use Rattle.pipe_driver.specs.declared.branch.SinkAt.TheVariants as at
 use Rattle.pipe_driver.specs.Meaning.{Meaning}
 use Rattle.pipe_driver.specs.Legs as plan
 use Rattle.pipe_driver.specs.Legs.{Way, sink_node}
-use Rattle.pipe_driver.specs.Ways.{one, legs_to, way_to, feeds, MayGoOn, IsSound}
+use Rattle.pipe_driver.specs.Ways.{one, legs_to, way_to, feeds, MayGoOn, IsSoundMeaning}
 use Rattle.pipe_driver.proofs.Tests.{by_test, eq-is, eq-true, eq-not, all-append}
 use Rattle.pipe_driver.specs.declared.pipe_line.Leg.{Leg}
 use Rattle.pipe_driver.specs.declared.pipe_line.PipeLine.{PipeLine}
@@ -113,7 +113,7 @@ parks_tail o n legs old new parks = record {
 }
 
 -- only behind a sort something waits
-tail_at : {S P : Type 0} (m : Meaning) (a : SinkAt) (legs : List (Leg P)) (old new : List (PipeLine S P)) → IsSound m → MayGoOn m (sink_node m.ordered a) (map (leg_as m.ordered) legs) → Parks (node_of a) legs old new → HasTail (sink_node m.ordered a) (map (leg_as m.ordered) legs) (ways_as m.ordered old) (ways_as m.ordered new)
+tail_at : {S P : Type 0} (m : Meaning) (a : SinkAt) (legs : List (Leg P)) (old new : List (PipeLine S P)) → IsSoundMeaning m → MayGoOn m (sink_node m.ordered a) (map (leg_as m.ordered) legs) → Parks (node_of a) legs old new → HasTail (sink_node m.ordered a) (map (leg_as m.ordered) legs) (ways_as m.ordered old) (ways_as m.ordered new)
 tail_at m (at.Sort n) legs old new sound on parks = parks_tail m.ordered n legs old new parks
 tail_at m (at.Build n) legs old new sound on parks = parks_tail m.ordered n legs old new parks
 tail_at m at.Ordered [] old new sound on parks = record { tails = ways_as m.ordered parks.tails; is = ap (ways_as m.ordered) parks.is ∙ ways_append m.ordered old parks.tails; tail = ap (ways_as m.ordered) parks.rest }
@@ -128,13 +128,13 @@ rest_legs r k n (leg ∷ legs) tails is are =
     subst Q (sym is.3) (subst N (sym is.1) (subst T (sym is.2) are), tt)
 
 -- only behind a sort something waits, and it begins there
-begin_at : {R S P : Type 0} (r : RunnerWords R S P) (k : Task) (a : SinkAt) (legs : List (Leg P)) → IsSound k.m → MayGoOn k.m (sink_of k a) (map (leg_as k.m.ordered) legs) → AreLegsOf r k (sink_of k a) legs → AreLegsOf r k (node_of a) legs
+begin_at : {R S P : Type 0} (r : RunnerWords R S P) (k : Task) (a : SinkAt) (legs : List (Leg P)) → IsSoundMeaning k.m → MayGoOn k.m (sink_of k a) (map (leg_as k.m.ordered) legs) → AreLegsOf r k (sink_of k a) legs → AreLegsOf r k (node_of a) legs
 begin_at r k (at.Sort n) legs sound on are = are
 begin_at r k (at.Build n) legs sound on are = are
 begin_at r k at.Ordered [] sound on are = tt
 begin_at r k at.Ordered (leg ∷ legs) sound on are = absurd (let l = sound.low_sort k.m.ordered on in omega arith)
 
-parks_legs : {R S P : Type 0} (r : RunnerWords R S P) (k : Task) (a : SinkAt) (legs : List (Leg P)) (old new : List (PipeLine S P)) → IsSound k.m → MayGoOn k.m (sink_of k a) (map (leg_as k.m.ordered) legs) → Parks (node_of a) legs old new
+parks_legs : {R S P : Type 0} (r : RunnerWords R S P) (k : Task) (a : SinkAt) (legs : List (Leg P)) (old new : List (PipeLine S P)) → IsSoundMeaning k.m → MayGoOn k.m (sink_of k a) (map (leg_as k.m.ordered) legs) → Parks (node_of a) legs old new
     → AllByRecursion (HasLegs r k) old → AreLegsOf r k (sink_of k a) legs → AllByRecursion (HasLegs r k) new
 parks_legs r k a legs old new sound on parks olds are =
     let Q : List (PipeLine _ _) → Type 0 = AllByRecursion (HasLegs r k) in
@@ -168,7 +168,7 @@ no_source r k start None h e = h
 no_source {S = S} r k start (Some x) h e = let f : Some x ≡ None = e in cc
 
 pub has_led : {R S P : Type 0} (r : RunnerWords R S P) (k : Task) (p : PipeLine S P) (old : Run R S P) (runner : R) (parked : Vec (PipeLine S P)) (todo : List (PipeLine S P)) (source : S) (leg : Leg P) (legs : List (Leg P))
-    → IsSound k.m → Ready r k old p todo → p.source ≡ Some source → p.legs.items ≡ leg ∷ legs → RunsLeg (r.brings source) (r.stands leg.part) (r.fits old.runner) (r.fits runner) (r.before runner)
+    → IsSoundMeaning k.m → Ready r k old p todo → p.source ≡ Some source → p.legs.items ≡ leg ∷ legs → RunsLeg (r.brings source) (r.stands leg.part) (r.fits old.runner) (r.fits runner) (r.before runner)
     → Parks (node_of leg.at) legs old.parked.items parked.items → HasLed r k p old (run_with runner parked old.counts old.probers) todo (record { operators = leg.operators; at = leg.at; count = leg.count })
 has_led r k p old runner parked todo source leg legs sound ready is_source first runs parks =
     let m = k.m in
@@ -262,7 +262,7 @@ left_behind r k old runner probers op left now at todo is low some leaves =
     }
 
 pub settled_behind : {R S P : Type 0} (r : RunnerWords R S P) (k : Task) (old : Run R S P) (runner : R) (probers : SinkCounts) (op left : ℕ) (now : List ℕ) (at : SinkAt) (todo : List (PipeLine S P))
-    → IsSound k.m → Passes r k old (op ∷ now) at todo → Lowered op left old.probers.left.items probers.left.items → left ≡ 0 → Settles op (r.fits old.runner) (r.fits runner) (r.before old.runner) (r.before runner) → Passes r k (run_with runner old.parked old.counts probers) now at todo
+    → IsSoundMeaning k.m → Passes r k old (op ∷ now) at todo → Lowered op left old.probers.left.items probers.left.items → left ≡ 0 → Settles op (r.fits old.runner) (r.fits runner) (r.before old.runner) (r.before runner) → Passes r k (run_with runner old.parked old.counts probers) now at todo
 settled_behind r k old runner probers op left now at todo sound is low none settles =
     let s = sink_of k at in
     let l = is_lowered op left old.probers.left.items probers.left.items low in

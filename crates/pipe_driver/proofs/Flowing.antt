@@ -9,7 +9,7 @@ use Rattle.pipe_chain.specs.Keys.{SameKeys}
 use Rattle.pipe_chain.specs.Flow.{Work, Acts, made, Flows}
 use Rattle.pipe_chain.proofs.Weighing.{keys-trans, asks-same}
 use Rattle.pipe_driver.specs.Meaning.{Meaning, Place, OutOf, Into, is_out, is_into, rows_where, comes, from}
-use Rattle.pipe_driver.specs.Ways.{one, occurs, IsSound}
+use Rattle.pipe_driver.specs.Ways.{one, occurs, IsSoundMeaning}
 use Rattle.pipe_driver.proofs.Tests.{by_test, eq-is, eq-true, eq-false, eq-not, some-left}
 use Rattle.pipe_driver.proofs.Totals.{comes_add, comes_none, comes_same}
 use Rattle.pipe_driver.specs.State.{AreAlike, spread}
@@ -80,7 +80,7 @@ spread_total : (f : Row → ℕ) (m : Meaning) (x : Place) (more : ℕ → List 
 spread_total f m x more = total-flat_map (λ j. from m x j (more j)) f m.joins
 
 -- what a node gives for keys is spread besides
-spread_more : (f : Row → ℕ) (m : Meaning) (x : Place) (s op : ℕ) (ops : List ℕ) (w : Work) (ws : List Work) (a : Acts) (acts : List Acts) → IsSound m → AreAlike m s (op ∷ ops) → MakesOf m op w
+spread_more : (f : Row → ℕ) (m : Meaning) (x : Place) (s op : ℕ) (ops : List ℕ) (w : Work) (ws : List Work) (a : Acts) (acts : List Acts) → IsSoundMeaning m → AreAlike m s (op ∷ ops) → MakesOf m op w
     → total f (spread m x (more_of (op ∷ ops) (w ∷ ws) (a ∷ acts))) ≡ total f (from m x op (flat_map w.gains a.won)) + total f (spread m x (more_of ops ws acts))
 spread_more f m x s op ops w ws a acts sound are makes =
     let rows = flat_map w.gains a.won in
@@ -110,7 +110,7 @@ spread_none f m x (j ∷ js) =
     let r = spread_none f m x js in omega arith
 
 -- what came is what rows of the node bring along the chain, and what was given for keys
-along : (f : Row → ℕ) (m : Meaning) (x : Place) (n s : ℕ) (ops : List ℕ) (ws : List Work) (acts : List Acts) (rows out : List Row) → IsSound m → AreAlike m s ops → AllMakeOf m ops ws → Flows ws acts rows out
+along : (f : Row → ℕ) (m : Meaning) (x : Place) (n s : ℕ) (ops : List ℕ) (ws : List Work) (acts : List Acts) (rows out : List Row) → IsSoundMeaning m → AreAlike m s ops → AllMakeOf m ops ws → Flows ws acts rows out
     → total f (came x n ops ws acts s rows) ≡ total f (comes m.each x n ops s rows) + total f (spread m x (more_of ops ws acts))
 along f m x n s [] [] acts rows out sound are makes flows = let z = spread_none f m x m.joins in omega arith
 along f m x n s [] (w ∷ ws) acts rows out sound are makes flows = absurd makes
@@ -228,7 +228,7 @@ came_many n s t (op ∷ ops) (w ∷ ws) (a ∷ acts) rows out m makes flows =
 
 -- ---- all of it
 
-pub arrived : (m : Meaning) (n s : ℕ) (ops : List ℕ) (ws : List Work) (acts : List Acts) (rows out : List Row) → IsSound m → m.above n ≡ ops → m.above_sink n ≡ s → AreAlike m s ops → AllMakeOf m ops ws → Flows ws acts rows out
+pub arrived : (m : Meaning) (n s : ℕ) (ops : List ℕ) (ws : List Work) (acts : List Acts) (rows out : List Row) → IsSoundMeaning m → m.above n ≡ ops → m.above_sink n ≡ s → AreAlike m s ops → AllMakeOf m ops ws → Flows ws acts rows out
     → Arrived m n s ops ws acts rows out
 arrived m n s ops ws acts rows out sound above above_sink are makes flows =
     let more = more_of ops ws acts in

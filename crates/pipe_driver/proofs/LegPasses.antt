@@ -6,7 +6,7 @@ use Rattle.pipe_schema.specs.Weights.{total}
 use Rattle.pipe_schema.proofs.Weights.{total-append}
 use Rattle.pipe_driver.specs.Meaning.{Meaning, Place, comes, from, due}
 use Rattle.pipe_driver.specs.Legs.{Leg, Way}
-use Rattle.pipe_driver.specs.Ways.{occurs, legs_to, way_to, feeds, legs_through, way_through, passes, starts, way_starts, begun, leg_brings, legs_bring, way_brings, brought, own_brings, AreLegs, MayGoOn, IsSound}
+use Rattle.pipe_driver.specs.Ways.{occurs, legs_to, way_to, feeds, legs_through, way_through, passes, starts, way_starts, begun, leg_brings, legs_bring, way_brings, brought, own_brings, AreLegs, MayGoOn, IsSoundMeaning}
 use Rattle.pipe_driver.proofs.Tests.{eq-not, all-append, all-map}
 use Rattle.pipe_driver.specs.State.{World, Counts, pending, gained_brings, spread, Slot, IsBuilt, IsParked, IsReady, IsPassing, HasPassed, HasTail, IsTail, nothing, is_sink}
 use Rattle.pipe_driver.proofs.Sums.{split4, brought_append, pending_more, alike_from}
@@ -69,7 +69,7 @@ goes_on m s [] some on = absurd (some refl)
 goes_on m s (leg ∷ legs) some on = on
 
 -- the joins of a ready way's first leg are built
-pub leg_tables : (m : Meaning) (w : World) (c : Counts) (p : Way) (leg : Leg) (legs : List Leg) (parked todo : List Way) → IsSound m → IsReady m w c p parked todo → p.legs ≡ leg ∷ legs
+pub leg_tables : (m : Meaning) (w : World) (c : Counts) (p : Way) (leg : Leg) (legs : List Leg) (parked todo : List Way) → IsSoundMeaning m → IsReady m w c p parked todo → p.legs ≡ leg ∷ legs
     → (j : ℕ) → 0 < occurs j leg.operators → m.is_join j ≡ true → IsBuilt m j (w.slot j)
 leg_tables m w c p leg legs parked todo sound ready first j some join = settled m w c p parked todo sound ready j join (let e = ap (legs_through j) first in omega arith)
 
@@ -79,7 +79,7 @@ leg_there m w c p leg legs parked todo ready first = let Q : List Leg → Type 0
 
 -- the rows of a ready way's first leg went along its chain
 pub passed : (m : Meaning) (old new : World) (c : Counts) (p : Way) (leg : Leg) (legs : List Leg) (parked later todo : List Way)
-    → IsSound m → IsReady m old c p parked todo → p.legs ≡ leg ∷ legs → HasPassed m p.start (m.rows p.start) old new → HasTail leg.sink legs parked later → IsPassing m new c leg.operators leg.sink later todo
+    → IsSoundMeaning m → IsReady m old c p parked todo → p.legs ≡ leg ∷ legs → HasPassed m p.start (m.rows p.start) old new → HasTail leg.sink legs parked later → IsPassing m new c leg.operators leg.sink later todo
 passed m old new c p leg legs parked later todo sound ready first has tail =
     let s = leg.sink in
     let l = later_is m s legs parked later tail in

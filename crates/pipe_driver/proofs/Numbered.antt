@@ -10,7 +10,7 @@ use Rattle.pipe_driver.specs.BranchLaws.{sinks_of, all_sinks, first_named, AreNu
 use Rattle.pipe_driver.proofs.BranchNumbers.{numbered-as-named}
 use Rattle.pipe_driver.specs.Meaning.{Meaning, meaning_of}
 use Rattle.pipe_driver.specs.Legs.{sink_node, legs_from, way_of}
-use Rattle.pipe_driver.specs.Ways.{IsSinkOf, AreLegs, IsWay, IsSound}
+use Rattle.pipe_driver.specs.Ways.{IsSinkOf, AreLegs, IsWay, IsSoundMeaning}
 use Rattle.pipe_driver.specs.Numbers.{place_among, named_sinks, HasNumber, SinksAreToldApart, SinksHaveNumbers}
 use Rattle.pipe_driver.proofs.Tests.{by_test, eq-is, eq-true, eq-false, all-append}
 use Rattle.pipe_driver.proofs.Runnable.{are_chains}
@@ -43,7 +43,7 @@ Goes m a = IsSinkOf m (sink_node m.ordered a) a
 abbrev GoesAt : Meaning → SinkNode → Type 0
 GoesAt m sink = Goes m sink.at
 
-same_test : (m : Meaning) → IsSound m → (a b : SinkAt) → Goes m a → Goes m b → eq_sink a b ≡ (sink_node m.ordered a == sink_node m.ordered b)
+same_test : (m : Meaning) → IsSoundMeaning m → (a b : SinkAt) → Goes m a → Goes m b → eq_sink a b ≡ (sink_node m.ordered a == sink_node m.ordered b)
 same_test m sound at.Ordered at.Ordered ha hb = sym (eq-true m.ordered m.ordered refl)
 same_test m sound at.Ordered (at.Sort k) ha hb = sym (eq-false m.ordered k (λ e. (let l = sound.low_sort k hb.1 in omega arith)))
 same_test m sound at.Ordered (at.Build k) ha hb = sym (eq-false m.ordered k (λ e. (let l = sound.low_join k hb.1 in omega arith)))
@@ -54,7 +54,7 @@ same_test m sound (at.Build n) at.Ordered ha hb = sym (eq-false n m.ordered (λ 
 same_test m sound (at.Build n) (at.Sort k) ha hb = sym (eq-false n k (λ e. sound.apart n (ap m.is_sort e ∙ hb.1) ha.1))
 same_test m sound (at.Build n) (at.Build k) ha hb = refl
 
-number_same : (m : Meaning) → IsSound m → (ats : List SinkAt) (a : SinkAt) → AllByRecursion (Goes m) ats → Goes m a → number_of ats a ≡ place_among m.ordered ats (sink_node m.ordered a)
+number_same : (m : Meaning) → IsSoundMeaning m → (ats : List SinkAt) (a : SinkAt) → AllByRecursion (Goes m) ats → Goes m a → number_of ats a ≡ place_among m.ordered ats (sink_node m.ordered a)
 number_same m sound [] a all ha = refl
 number_same m sound (b ∷ ats) a all ha =
     ap (λ c. cond c 0 (suc (number_of ats a))) (same_test m sound a b ha all.0)
@@ -70,7 +70,7 @@ named_all : (P : SinkAt → Type 0) (named : List SinkAt) (sinks : List SinkNode
 named_all P named [] all h = all
 named_all P named (s ∷ sinks) all h = named_all P (add_named named s.at) sinks (added_all P named s.at all h.0) h.1
 
-numbered_all : (m : Meaning) → IsSound m → (named : List SinkAt) (sinks : List SinkNode) → AllByRecursion (Goes m) named → AllByRecursion (GoesAt m) sinks → AreNumberedBy named sinks → AllByRecursion (HasNumber m.ordered named) sinks
+numbered_all : (m : Meaning) → IsSoundMeaning m → (named : List SinkAt) (sinks : List SinkNode) → AllByRecursion (Goes m) named → AllByRecursion (GoesAt m) sinks → AreNumberedBy named sinks → AllByRecursion (HasNumber m.ordered named) sinks
 numbered_all m sound named [] all h numbers = tt
 numbered_all m sound named (s ∷ sinks) all h numbers =
     (record { is = numbers.0 ∙ number_same m sound named s.at all h.0; there = numbers.1 }, numbered_all m sound named sinks all h.1 numbers.2)

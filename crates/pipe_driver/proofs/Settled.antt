@@ -3,7 +3,7 @@ use Rattle.std.proofs.Common.{◌≡◌, ℕ, zero, suc, ◌<◌, List, [], ◌�
 use Rattle.std.specs.List.{AllByRecursion}
 use Rattle.pipe_driver.specs.Meaning.{Meaning}
 use Rattle.pipe_driver.specs.Legs.{Way}
-use Rattle.pipe_driver.specs.Ways.{way_to, feeds, way_through, IsSound}
+use Rattle.pipe_driver.specs.Ways.{way_to, feeds, way_through, IsSoundMeaning}
 use Rattle.pipe_driver.specs.State.{World, Counts, IsBuilt, IsParked, IsReady, nothing}
 use Rattle.pipe_driver.proofs.Sums.{no_more, IsAbove, above}
 
@@ -28,7 +28,7 @@ settled_below m sinks parked todo j are counts (suc b) s lt side =
     counts s side ∙ none_parked m sinks todo parked s are (λ t up. (let l = up.up in settled_below m sinks parked todo j are counts b t (omega arith) (up.sides j side)))
 
 -- each join that a ready way goes through is built
-pub settled : (m : Meaning) (w : World) (c : Counts) (p : Way) (parked todo : List Way) → IsSound m → IsReady m w c p parked todo
+pub settled : (m : Meaning) (w : World) (c : Counts) (p : Way) (parked todo : List Way) → IsSoundMeaning m → IsReady m w c p parked todo
     → (j : ℕ) → m.is_join j ≡ true → 0 < way_through j p → IsBuilt m j (w.slot j)
 settled m w c p parked todo sound is j join passed =
     let counts : (s : ℕ) → m.side j s ≡ true → c.sinks s ≡ feeds s parked = λ s side. (

@@ -14,7 +14,7 @@ use Rattle.pipe_driver.proofs.Trails.{Trail, closed_by}
 use Rattle.pipe_driver.proofs.Trees.{IsTree, IsInput, AreInputs, AreApart, under_inputs}
 use Rattle.pipe_driver.specs.Blocks.{is_together, begins_on, SidesStandTogether}
 use Rattle.pipe_driver.proofs.Firsts.{starts_in, firsts_by, firsts_are, root_starts}
-use Rattle.pipe_driver.proofs.Together.{Passes, Fails, none_together, together_then_none, none_then_together, all_together, together_mapped}
+use Rattle.pipe_driver.proofs.Together.{Passes, FailsTest, none_together, together_then_none, none_then_together, all_together, together_mapped}
 
 -- a source below a node
 pub record IsSourceIn (t : Tree) (n k : ℕ) : Type 0 where
@@ -97,7 +97,7 @@ module _ (t : Tree) (good : IsTree t) (firsts : ℕ → List ℕ) (are : AreFirs
         ]))
         (λ e. e)
 
-    off_side : (i : ℕ) (ks : List ℕ) → ((k : ℕ) → t.under i k ≡ true → t.under built k ≡ true → ⊥) → AllByRecursion (IsSourceIn t i) ks → AllByRecursion (Fails test) ks
+    off_side : (i : ℕ) (ks : List ℕ) → ((k : ℕ) → t.under i k ≡ true → t.under built k ≡ true → ⊥) → AllByRecursion (IsSourceIn t i) ks → AllByRecursion (FailsTest test) ks
     off_side i [] apart h = tt
     off_side i (k ∷ ks) apart h = (off_one k h.0.begins (apart k h.0.under), off_side i ks apart h.1)
 
@@ -105,10 +105,10 @@ module _ (t : Tree) (good : IsTree t) (firsts : ℕ → List ℕ) (are : AreFirs
     below_join : (i k : ℕ) → t.under t.root i ≡ true → t.under i j ≡ true → t.under built k ≡ true → t.under i k ≡ true
     below_join i k v u h = good.trans i j k v u (inputs.0.within k h)
 
-    union_none : (i : ℕ) (is : List ℕ) → t.under t.root i ≡ true → t.under i j ≡ true → ((k : ℕ) → t.under i k ≡ true → list_any (λ o. t.under o k) is ≡ true → ⊥) → AllByRecursion (λ o. t.under t.root o ≡ true) is → AllByRecursion (Fails test) (flat_map firsts is)
+    union_none : (i : ℕ) (is : List ℕ) → t.under t.root i ≡ true → t.under i j ≡ true → ((k : ℕ) → t.under i k ≡ true → list_any (λ o. t.under o k) is ≡ true → ⊥) → AllByRecursion (λ o. t.under t.root o ≡ true) is → AllByRecursion (FailsTest test) (flat_map firsts is)
     union_none i [] v u apart roots = tt
     union_none i (o ∷ is) v u apart roots =
-        all-append (Fails test) (firsts o) (flat_map firsts is)
+        all-append (FailsTest test) (firsts o) (flat_map firsts is)
         (off_side o (firsts o) (λ k a b. apart k (below_join i k v u b) (or-first (t.under o k) (list_any (λ x. t.under x k) is) a)) (sources_of o roots.0))
         (union_none i is v u (λ k a b. apart k a (or-right (t.under o k) (list_any (λ x. t.under x k) is) b)) roots.1)
 
@@ -161,7 +161,7 @@ module _ (t : Tree) (good : IsTree t) (firsts : ℕ → List ℕ) (are : AreFirs
 
 -- ---- of a plan
 
-all_off : (t : Tree) (j : ℕ) (ks : List ℕ) → is_join_at t j ≡ false → AllByRecursion (Fails (side_at t j)) ks
+all_off : (t : Tree) (j : ℕ) (ks : List ℕ) → is_join_at t j ≡ false → AllByRecursion (FailsTest (side_at t j)) ks
 all_off t j [] e = tt
 all_off t j (k ∷ ks) e = (ap (λ b. cond b ((k == j) || is_built_under t.under (t.kind j) k) false) e, all_off t j ks e)
 

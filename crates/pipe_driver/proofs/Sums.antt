@@ -6,7 +6,7 @@ use Rattle.pipe_schema.specs.Weights.{total}
 use Rattle.pipe_schema.proofs.Weights.{SameBag, total-append}
 use Rattle.pipe_driver.specs.Meaning.{Meaning, Place, OutOf, Into, rows_where, comes, from}
 use Rattle.pipe_driver.specs.Legs.{Leg, Way}
-use Rattle.pipe_driver.specs.Ways.{one, occurs, legs_to, feeds, legs_through, way_through, passes, leg_brings, legs_bring, way_brings, brought, AreLegs, IsSound}
+use Rattle.pipe_driver.specs.Ways.{one, occurs, legs_to, feeds, legs_through, way_through, passes, leg_brings, legs_bring, way_brings, brought, AreLegs, IsSoundMeaning}
 use Rattle.pipe_driver.proofs.Tests.{by_test, eq-is, eq-true, eq-not, some-left, flat-total}
 use Rattle.pipe_driver.proofs.Totals.{comes_add, comes_none, comes_same}
 use Rattle.pipe_driver.specs.State.{kept, pending, AreAlike}
@@ -51,7 +51,7 @@ from_into_none f m s i rows ne = into_none f m.each s i (m.above i) (m.above_sin
 
 -- ---- nothing comes out of the probe side of a join that nothing goes through
 
-pub out_none : (f : Row → ℕ) (m : Meaning) (j n : ℕ) (ops : List ℕ) (sink : ℕ) (rows : List Row) → IsSound m → m.is_join j ≡ true → m.above n ≡ ops → occurs j ops ≡ 0 → total f (comes m.each (OutOf (m.probed j)) n ops sink rows) ≡ 0
+pub out_none : (f : Row → ℕ) (m : Meaning) (j n : ℕ) (ops : List ℕ) (sink : ℕ) (rows : List Row) → IsSoundMeaning m → m.is_join j ≡ true → m.above n ≡ ops → occurs j ops ≡ 0 → total f (comes m.each (OutOf (m.probed j)) n ops sink rows) ≡ 0
 out_none f m j n [] sink rows sound join is none =
     by_test (total f (comes m.each (OutOf (m.probed j)) n [] sink rows) ≡ 0) (n == m.probed j)
     (λ e. absurd (let g : [] ≡ j ∷ m.above j = sym is ∙ ap m.above (eq-is n (m.probed j) e) ∙ sound.probed j join in cc))
@@ -62,7 +62,7 @@ out_none f m j n (op ∷ ops) sink rows sound join is none =
     (λ e. ap (λ b. total f (rows_where b rows ++ comes m.each (OutOf (m.probed j)) op ops sink (flat_map (m.each op) rows))) e
     ∙ out_none f m j op ops sink (flat_map (m.each op) rows) sound join (sound.chained n op ops is).0 (omega arith))
 
-legs_out_none : (f : Row → ℕ) (m : Meaning) (j start : ℕ) (legs : List Leg) → IsSound m → m.is_join j ≡ true → AreLegs m start legs → legs_through j legs ≡ 0 → total f (legs_bring m (OutOf (m.probed j)) start legs) ≡ 0
+legs_out_none : (f : Row → ℕ) (m : Meaning) (j start : ℕ) (legs : List Leg) → IsSoundMeaning m → m.is_join j ≡ true → AreLegs m start legs → legs_through j legs ≡ 0 → total f (legs_bring m (OutOf (m.probed j)) start legs) ≡ 0
 legs_out_none f m j start [] sound join are h = refl
 legs_out_none f m j start (leg ∷ legs) sound join are h =
     let x = OutOf (m.probed j) in
@@ -70,7 +70,7 @@ legs_out_none f m j start (leg ∷ legs) sound join are h =
     let b = out_none f m j start leg.operators leg.sink (m.rows start) sound join (sym are.0.chain) (omega arith) in
     let c = legs_out_none f m j leg.sink legs sound join are.1 (omega arith) in omega arith
 
-pub brought_out_none : (f : Row → ℕ) (m : Meaning) (j : ℕ) (ps : List Way) → IsSound m → m.is_join j ≡ true → AllByRecursion (λ p. AreLegs m p.start p.legs) ps → passes j ps ≡ 0 → total f (brought m (OutOf (m.probed j)) ps) ≡ 0
+pub brought_out_none : (f : Row → ℕ) (m : Meaning) (j : ℕ) (ps : List Way) → IsSoundMeaning m → m.is_join j ≡ true → AllByRecursion (λ p. AreLegs m p.start p.legs) ps → passes j ps ≡ 0 → total f (brought m (OutOf (m.probed j)) ps) ≡ 0
 brought_out_none f m j [] sound join are h = refl
 brought_out_none f m j (p ∷ ps) sound join are h =
     let x = OutOf (m.probed j) in
@@ -173,7 +173,7 @@ pending_more g m x probers old new more (i ∷ js) same only =
 
 -- ---- behind a node that a leg goes through there are no more than the leg's operators, and the leg's sink
 
-pub alike_from : (m : Meaning) (n : ℕ) (ops : List ℕ) (s : ℕ) → IsSound m → m.above n ≡ ops → m.above_sink n ≡ s → AreAlike m s ops
+pub alike_from : (m : Meaning) (n : ℕ) (ops : List ℕ) (s : ℕ) → IsSoundMeaning m → m.above n ≡ ops → m.above_sink n ≡ s → AreAlike m s ops
 alike_from m n [] s sound is to = tt
 alike_from m n (op ∷ ops) s sound is to = let c = sound.chained n op ops is in (c.0, c.1 ∙ to, alike_from m op ops s sound c.0 (c.1 ∙ to))
 
@@ -197,7 +197,7 @@ pub record IsBehind (m : Meaning) (i j n : ℕ) (to : ℕ → ℕ) : Type 0 wher
   pub few : occurs j (m.above i) ≤ n
   pub sink : 0 < to (m.above_sink i)
 
-within_legs : (m : Meaning) (i j start : ℕ) (legs : List Leg) → IsSound m → AreLegs m start legs → 0 < legs_through i legs → IsBehind m i j (legs_through j legs) (λ s. legs_to s legs)
+within_legs : (m : Meaning) (i j start : ℕ) (legs : List Leg) → IsSoundMeaning m → AreLegs m start legs → 0 < legs_through i legs → IsBehind m i j (legs_through j legs) (λ s. legs_to s legs)
 within_legs m i j start [] sound are h = absurd (omega arith)
 within_legs m i j start (leg ∷ legs) sound are h =
     elim (some-left (occurs i leg.operators)) [
@@ -207,7 +207,7 @@ within_legs m i j start (leg ∷ legs) sound are h =
           record { few = (let f = w.few in omega arith); sink = omega arith })
     ]
 
-pub within_ways : (m : Meaning) (i j : ℕ) (ps : List Way) → IsSound m → AllByRecursion (λ p. AreLegs m p.start p.legs) ps → 0 < passes i ps → IsBehind m i j (passes j ps) (λ s. feeds s ps)
+pub within_ways : (m : Meaning) (i j : ℕ) (ps : List Way) → IsSoundMeaning m → AllByRecursion (λ p. AreLegs m p.start p.legs) ps → 0 < passes i ps → IsBehind m i j (passes j ps) (λ s. feeds s ps)
 within_ways m i j [] sound are h = absurd (omega arith)
 within_ways m i j (p ∷ ps) sound are h =
     elim (some-left (way_through i p)) [

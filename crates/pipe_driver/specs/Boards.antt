@@ -10,7 +10,7 @@ use Rattle.pipe_driver.specs.Shape as kind
 use Rattle.pipe_driver.specs.Shape.{Kind, Begins, Unites, Joins, Sorts}
 use Rattle.pipe_driver.specs.Chains.{reader, chain_of}
 use Rattle.pipe_driver.specs.Meaning.{Meaning, is_part, meaning_of}
-use Rattle.pipe_driver.specs.Ways.{IsSound}
+use Rattle.pipe_driver.specs.Ways.{IsSoundMeaning}
 
 pub record Board : Type 0 where
   pub stages : Stages
@@ -102,7 +102,7 @@ pub record IsJoinAt (plan : Stages) (n : ℕ) : Type 0 where
 pub record IsBoard (b : Board) : Type 0 where
   pub ok : IsStages b.stages
   pub tree : IsTree b.stages
-  pub sound : IsSound b.m
+  pub sound : IsSoundMeaning b.m
   -- what isn't a union of nothing stands in the plan
   pub inside : (n : ℕ) → (b.stages.stage n ≡ Union [] → ⊥) → n < b.stages.size
   -- sorts and joins are those of the stages

@@ -8,7 +8,7 @@ use Rattle.pipe_expr.specs.declared.join_words.JoinType.{JoinType}
 use Rattle.pipe_chain.specs.Counts.{counts_of}
 use Rattle.pipe_chain.specs.Flow.{Work, Acts, Flows}
 use Rattle.pipe_driver.specs.Meaning.{Meaning, OutOf, Into}
-use Rattle.pipe_driver.specs.Ways.{occurs, IsSound}
+use Rattle.pipe_driver.specs.Ways.{occurs, IsSoundMeaning}
 use Rattle.pipe_driver.specs.Along.{AllMakeOf, more_of, come_to, AllMarked, counted_at}
 
 -- rows of node n that flowed through the operators of its chain
@@ -29,7 +29,7 @@ pub record Arrived (m : Meaning) (n s : ℕ) (ops : List ℕ) (ws : List Work) (
 abbrev pub RowsArrive : Type 0
 RowsArrive =
     (m : Meaning) (n s : ℕ) (ops : List ℕ) (ws : List Work) (acts : List Acts) (rows out : List Row)
-    → IsSound m → m.above n ≡ ops → m.above_sink n ≡ s → AllMakeOf m ops ws
+    → IsSoundMeaning m → m.above n ≡ ops → m.above_sink n ≡ s → AllMakeOf m ops ws
     → Flows ws acts rows out → Arrived m n s ops ws acts rows out
 
 -- what a probed row gives over built rows doesn't depend on their order

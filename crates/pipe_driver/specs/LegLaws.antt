@@ -9,7 +9,7 @@ use Rattle.pipe_plan.specs.Faults.{IsWellFormed}
 use Rattle.pipe_driver.specs.Shape.{sources_of}
 use Rattle.pipe_driver.specs.Meaning.{Meaning, OutOf, Into, is_place, meaning_of}
 use Rattle.pipe_driver.specs.Legs.{Way, ways_of}
-use Rattle.pipe_driver.specs.Ways.{feeds, passes, begun, starts_of, brought, own_brings, IsWay, AreOrdered, CanRun, IsSound}
+use Rattle.pipe_driver.specs.Ways.{feeds, passes, begun, starts_of, brought, own_brings, IsWay, AreOrdered, CanRun, IsSoundMeaning}
 
 -- each leg of a plan's branches is the chain of where it begins, goes upwards, and goes on only
 -- behind a sort's sink
@@ -74,4 +74,4 @@ BranchesCanRun =
 -- the meaning of a plan is sound: its joins stand once, chains go on, and so on
 abbrev pub MeaningsAreSound : Type 0
 MeaningsAreSound =
-    (plan : Plan) (root : ℕ) → IsWellFormed plan root → IsSound (meaning_of plan root)
+    (plan : Plan) (root : ℕ) → IsWellFormed plan root → IsSoundMeaning (meaning_of plan root)

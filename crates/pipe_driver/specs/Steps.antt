@@ -6,7 +6,7 @@ use Rattle.pipe_plan.specs.Plan.{Plan}
 use Rattle.pipe_plan.specs.Faults.{IsWellFormed}
 use Rattle.pipe_driver.specs.Meaning.{Meaning, OutOf, meaning_of}
 use Rattle.pipe_driver.specs.Legs.{Leg, Way, ways_of}
-use Rattle.pipe_driver.specs.Ways.{way_through, CanRun, IsSound}
+use Rattle.pipe_driver.specs.Ways.{way_through, CanRun, IsSoundMeaning}
 use Rattle.pipe_driver.specs.State.{World, Counts, IsBuilt, IsBetween, IsReady, IsPassing, IsFed, HasTail, HasPassed, HasSettled, IsLowered, HasClosed, TakesOut, BeginsElsewhere, IsStart}
 
 -- counts with other counts of legs that go through nodes, or that feed sinks
@@ -19,7 +19,7 @@ with_sinks c sinks = record { sinks = sinks; probers = c.probers }
 -- before the first of them runs, branches that can be run are all that is left
 abbrev pub BranchesStart : Type 0
 BranchesStart =
-    (m : Meaning) (w : World) (c : Counts) (ps : List Way) → IsSound m → CanRun m ps
+    (m : Meaning) (w : World) (c : Counts) (ps : List Way) → IsSoundMeaning m → CanRun m ps
     → IsStart w c ps → IsBetween m w c [] ps
 
 -- those of a well-formed plan can be
@@ -38,7 +38,7 @@ BranchesBegin =
 -- where a way can go on, each join that it goes through is built
 abbrev pub JoinsAreBuilt : Type 0
 JoinsAreBuilt =
-    (m : Meaning) (w : World) (c : Counts) (p : Way) (parked todo : List Way) → IsSound m
+    (m : Meaning) (w : World) (c : Counts) (p : Way) (parked todo : List Way) → IsSoundMeaning m
     → IsReady m w c p parked todo → (j : ℕ) → m.is_join j ≡ true → 0 < way_through j p
     → IsBuilt m j (w.slot j)
 
@@ -47,7 +47,7 @@ abbrev pub LegsPass : Type 0
 LegsPass =
     (m : Meaning) (old new : World) (c : Counts) (p : Way) (leg : Leg) (legs : List Leg)
     (parked later todo : List Way)
-    → IsSound m → IsReady m old c p parked todo → p.legs ≡ leg ∷ legs
+    → IsSoundMeaning m → IsReady m old c p parked todo → p.legs ≡ leg ∷ legs
     → HasPassed m p.start (m.rows p.start) old new → HasTail leg.sink legs parked later
     → IsPassing m new c leg.operators leg.sink later todo
 
@@ -63,7 +63,7 @@ LegsAreCounted =
 abbrev pub ProbeSidesAreSeen : Type 0
 ProbeSidesAreSeen =
     (m : Meaning) (w : World) (c : Counts) (j : ℕ) (now : List ℕ) (s : ℕ) (parked todo : List Way)
-    → IsSound m → IsPassing m w c (j ∷ now) s parked todo → m.is_join j ≡ true
+    → IsSoundMeaning m → IsPassing m w c (j ∷ now) s parked todo → m.is_join j ≡ true
     → c.probers j ≡ 1 → SameBag (w.there (OutOf (m.probed j))) (m.rows (m.probed j))
 
 -- and the join is closed
@@ -71,7 +71,7 @@ abbrev pub JoinsAreClosed : Type 0
 JoinsAreClosed =
     (m : Meaning) (old new : World) (c : Counts) (probers : ℕ → ℕ) (op : ℕ) (now : List ℕ) (s : ℕ)
     (parked todo : List Way)
-    → IsSound m → IsPassing m old c (op ∷ now) s parked todo → IsLowered op c.probers probers
+    → IsSoundMeaning m → IsPassing m old c (op ∷ now) s parked todo → IsLowered op c.probers probers
     → probers op ≡ 0 → HasSettled m op old new
     → IsPassing m new (with_probers c probers) now s parked todo
 
@@ -79,7 +79,7 @@ JoinsAreClosed =
 abbrev pub SinksAreFed : Type 0
 SinksAreFed =
     (m : Meaning) (w : World) (c : Counts) (sinks : ℕ → ℕ) (s : ℕ) (parked todo : List Way)
-    → IsSound m → IsPassing m w c [] s parked todo → IsLowered s c.sinks sinks
+    → IsSoundMeaning m → IsPassing m w c [] s parked todo → IsLowered s c.sinks sinks
     → IsFed m w (with_sinks c sinks) s parked todo
 
 -- a sink that other legs still feed stays as it is
@@ -100,7 +100,7 @@ SinksAreClosed =
 abbrev pub WaysGoOn : Type 0
 WaysGoOn =
     (m : Meaning) (old new : World) (c : Counts) (s : ℕ) (q : Way) (parked later todo : List Way)
-    → IsSound m → m.is_sort s ≡ true → IsFed m old c s parked todo → c.sinks s ≡ 0
+    → IsSoundMeaning m → m.is_sort s ≡ true → IsFed m old c s parked todo → c.sinks s ≡ 0
     → HasClosed s old new → TakesOut s q parked later → IsReady m new c q later todo
 
 -- where no branch is left, each sink is closed

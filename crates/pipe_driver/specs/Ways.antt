@@ -145,7 +145,7 @@ pub record CanRun (m : Meaning) (ps : List Way) : Type 0 where
 
 -- ---- what the meaning of each plan grants
 
-pub record IsSound (m : Meaning) : Type 0 where
+pub record IsSoundMeaning (m : Meaning) : Type 0 where
   pub apart : (n : ℕ) → m.is_sort n ≡ true → m.is_join n ≡ true → ⊥
   pub low_sort : (n : ℕ) → m.is_sort n ≡ true → n < m.ordered
   pub low_join : (n : ℕ) → m.is_join n ≡ true → n < m.ordered

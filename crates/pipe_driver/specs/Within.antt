@@ -10,7 +10,7 @@ use Rattle.pipe_plan.specs.Under.{is_under}
 use Rattle.pipe_plan.specs.Faults.{IsWellFormed}
 use Rattle.pipe_driver.specs.Meaning.{Meaning, Place, OutOf, due, meaning_of}
 use Rattle.pipe_driver.specs.Legs.{Way, ways_of}
-use Rattle.pipe_driver.specs.Ways.{occurs, starts_of, IsSound}
+use Rattle.pipe_driver.specs.Ways.{occurs, starts_of, IsSoundMeaning}
 use Rattle.pipe_driver.specs.State.{World, Counts, Spent, IsOpen, IsLeft, IsBetween, IsPassing}
 use Rattle.pipe_driver.specs.declared.error.RunError.{RunError}
 use Rattle.pipe_driver.specs.declared.error.RunError.TheVariants as error
@@ -43,7 +43,7 @@ GivesOfProbed m w j = IsWithin m w (OutOf (m.probed j)) → GaveOwn m w j
 abbrev pub JoinsGiveOwn : Type 0
 JoinsGiveOwn =
     (m : Meaning) (w : World) (c : Counts) (due_at : ℕ → ℕ) (now : List ℕ) (but : ℕ → Bool)
-    (live todo : List Way) → IsSound m → IsLeft m w c due_at now but live todo
+    (live todo : List Way) → IsSoundMeaning m → IsLeft m w c due_at now but live todo
     → ((j : ℕ) → 0 < c.probers j → m.is_join j ≡ true → GivesOfProbed m w j)
     → ((j : ℕ) → m.is_join j ≡ false → GaveOwn m w j) → GiveOwn m w c
 
@@ -121,7 +121,7 @@ pub record IsWide (m : Meaning) (limit n : ℕ) : Type 0 where
 abbrev pub ManyAreWide : Type 0
 ManyAreWide =
     (m : Meaning) (w : World) (c : Counts) (now : List ℕ) (s : ℕ) (parked todo : List Way)
-    (limit n : ℕ) → IsSound m → IsPassing m w c now s parked todo → GoThroughRun m
+    (limit n : ℕ) → IsSoundMeaning m → IsPassing m w c now s parked todo → GoThroughRun m
     → GivesMany m limit w n → IsWide m limit n
 
 -- a node under the root has more rows than the limit
@@ -130,10 +130,10 @@ pub record HasTooMany (limit : ℕ) (plan : Plan) (root n : ℕ) : Type 0 where
   pub above : limit < length (rows_of plan n)
 
 -- what an error says of a plan: no memory, a stop, or a node with too many rows
-abbrev pub EndsWith : ℕ → Plan → ℕ → RunError → Type 0
-EndsWith limit plan root (error.TooMany n) = HasTooMany limit plan root n
-EndsWith limit plan root error.Stopped = Unit {0}
-EndsWith limit plan root error.Memory = Unit {0}
+abbrev pub RunEndsWith : ℕ → Plan → ℕ → RunError → Type 0
+RunEndsWith limit plan root (error.TooMany n) = HasTooMany limit plan root n
+RunEndsWith limit plan root error.Stopped = Unit {0}
+RunEndsWith limit plan root error.Memory = Unit {0}
 
 -- a wide node that is run stands under the root
 abbrev pub WideAreUnder : Type 0

@@ -6,8 +6,8 @@ use Rattle.pipe_schema.specs.declared.stop.StopCheck.{Ghosts as StopWords}
 use Rattle.pipe_run.specs.Halts.{stop_of as halt_stops}
 use Rattle.pipe_run.specs.declared.halt.Halt.{Halt}
 use Rattle.pipe_run.specs.declared.halt.Halt.TheVariants.{Stopped, Refused}
-use Rattle.pipe_run.specs.declared.stage.Refusal.{Refusal}
-use Rattle.pipe_run.specs.declared.stage.Refusal.TheVariants.{TooMany, Memory}
+use Rattle.pipe_run.specs.declared.stage.LaneFault.{LaneFault}
+use Rattle.pipe_run.specs.declared.stage.LaneFault.TheVariants.{TooMany, Memory}
 use Rattle.pipe_driver.specs.declared.error.RunError.{RunError}
 use Rattle.pipe_driver.specs.declared.error.RunError.TheVariants as error
 use Rattle.pipe_engine.specs.Asked.{WasAsked, RisesBy, stop_of, stops, error_of, refusal_of}
@@ -212,6 +212,6 @@ stops_passed e (Ok value) is calm = absurd is
 stops_passed e (Err f) is calm = ap stop_of is ∙ calm
 
 -- why a run ends where lanes were refused something is no yes
-pub refusal_calm : (r : Refusal) → stop_of (refusal_of r) ≡ 0
+pub refusal_calm : (r : LaneFault) → stop_of (refusal_of r) ≡ 0
 refusal_calm (TooMany node) = refl
 refusal_calm Memory = refl

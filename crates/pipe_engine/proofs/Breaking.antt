@@ -19,8 +19,8 @@ use Rattle.pipe_run.specs.Stages.{operators_of}
 use Rattle.pipe_run.specs.declared.halt.Halt.{Halt}
 use Rattle.pipe_run.specs.declared.halt.Halt.TheVariants as halt
 use Rattle.pipe_run.specs.declared.lane.Lane.{Lane}
-use Rattle.pipe_run.specs.declared.stage.Refusal.{Refusal}
-use Rattle.pipe_run.specs.declared.stage.Refusal.TheVariants as refusal
+use Rattle.pipe_run.specs.declared.stage.LaneFault.{LaneFault}
+use Rattle.pipe_run.specs.declared.stage.LaneFault.TheVariants as refusal
 use Rattle.pipe_slots.specs.declared.phys_operator.PhysOperator.{PhysOperator}
 use Rattle.pipe_slots.specs.declared.slot.Slot.{Slot}
 use Rattle.pipe_slots.specs.declared.slots.Slots.{Slots}
@@ -76,7 +76,7 @@ module _ {H : Type 0} (hash_of : H → List ℕ → ℕ) where
   -- by what was told once flags were closed
   pub leg_refused : (old : Engine H) (source : PhysSource) (part : Part H) (shared : List (Slot H)) (seats : List (List SeatMarks)) (slots : Slots H) (p q : Passage H (PhysSink H)) (e r : RunError)
       → IsTaken (operators_of part.stages.items) old.slots slots shared seats → p.shared.items ≡ shared
-      → ((limit : ℕ) → HasOpened hash_of sink_words limit part.stages.items part.basin shared seats p.seats.items p.lanes.items)
+      → ((limit : ℕ) → HasOpened hash_of sink_words limit part.stages.items part.target shared seats p.seats.items p.lanes.items)
       → ((from : List Field) → IsPassing hash_of sink_words old.context.row_limit from p.lanes.items p.shared.items p.seats.items → AllByRecursion (IsLeftOf from) (left_of source) → Breaks hash_of old.context.row_limit from (left_rows (left_of source)) p.lanes.items q.lanes.items p.shared.items p.seats.items e)
       → q.shared.items ≡ p.shared.items → q.seats ≡ p.seats → old.leg ≡ None → IsTold hash_of slots q e r
       → (x : Settings H) → RefusesLeg (Brings source x) (StandsFor part x) (Fits hash_of old x) old.context.row_limit r
@@ -88,7 +88,7 @@ module _ {H : Type 0} (hash_of : H → List ℕ → ℕ) where
       let may : MayRunLeg (engine_words hash_of x) m old source part = record { w = w; start = start; leg = leg; fits = fits; stands = stands; brings = brings; above = above; above_sink = above_sink; built = built; idle = idle } in
       let o = may_open hash_of x m old source part may in
       let T : List (Slot H) → Type 0 = λ z. IsTaken (operators_of part.stages.items) old.slots slots z seats in
-      let O : List (Slot H) → Type 0 = λ z. HasOpened hash_of sink_words limit part.stages.items part.basin z seats p.seats.items lanes in
+      let O : List (Slot H) → Type 0 = λ z. HasOpened hash_of sink_words limit part.stages.items part.target z seats p.seats.items lanes in
       let open_is = subst O (sym shared_is) (opened limit) in
       let from = schema_given x lanes in
       let broke = breaks from (o.passing lanes p.shared.items seats p.seats.items open_is) (o.schema lanes p.shared.items seats p.seats.items open_is) in
@@ -141,14 +141,14 @@ module _ {H : Type 0} (hash_of : H → List ℕ → ℕ) where
 
   -- ---- a flush
 
-  off_many : (limit : ℕ) (from : List Field) (old new : Lanes) (ss ss' : List (Slot H)) (free free' : List (List SeatMarks)) (f : Refusal) (n : ℕ) → refusal_of f ≡ error.TooMany n → BreaksOff hash_of sink_words limit from old new ss ss' free free' f → BreaksOff hash_of sink_words limit from old new ss ss' free free' (refusal.TooMany n)
+  off_many : (limit : ℕ) (from : List Field) (old new : Lanes) (ss ss' : List (Slot H)) (free free' : List (List SeatMarks)) (f : LaneFault) (n : ℕ) → refusal_of f ≡ error.TooMany n → BreaksOff hash_of sink_words limit from old new ss ss' free free' f → BreaksOff hash_of sink_words limit from old new ss ss' free free' (refusal.TooMany n)
   off_many limit from old new ss ss' free free' refusal.Memory n e breaks = cc
   off_many limit from old new ss ss' free free' (refusal.TooMany k) n e breaks =
-      let B : Refusal → Type 0 = λ z. BreaksOff hash_of sink_words limit from old new ss ss' free free' z in
+      let B : LaneFault → Type 0 = λ z. BreaksOff hash_of sink_words limit from old new ss ss' free free' z in
       let same : k ≡ n = cc in
       subst B (ap (λ z. refusal.TooMany z) same) breaks
 
-  pub settle_refused : (old : Engine H) (leg : OpenLeg H) (p : Passage H (PhysSink H)) (node : ℕ) (f : Refusal) (e r : RunError) → old.leg ≡ Some leg → e ≡ refusal_of f
+  pub settle_refused : (old : Engine H) (leg : OpenLeg H) (p : Passage H (PhysSink H)) (node : ℕ) (f : LaneFault) (e r : RunError) → old.leg ≡ Some leg → e ≡ refusal_of f
       → ((from : List Field) → IsPassing hash_of sink_words old.context.row_limit from leg.passage.lanes.items leg.passage.shared.items leg.passage.seats.items
       → BreaksOff hash_of sink_words old.context.row_limit from leg.passage.lanes.items p.lanes.items leg.passage.shared.items p.shared.items leg.passage.seats.items p.seats.items f)
       → IsTold hash_of old.slots p e r → (x : Settings H) → RefusesSettling node (Fits hash_of old x) (IsBefore old.leg) old.context.row_limit r
@@ -162,5 +162,5 @@ module _ {H : Type 0} (hash_of : H → List ℕ → ℕ) where
       settle_broken hash_of x old leg p node from n m w now at opened (λ first ops e. given_is x lanes first ops e) off told.slots told.stages fits before above seen
 
   -- where a flush was refused by a node's rows, lanes hold their seats
-  pub off_held : (limit : ℕ) (from : List Field) (old new : Lanes) (ss ss' : List (Slot H)) (free free' : List (List SeatMarks)) (f : Refusal) (e : RunError) (n : ℕ) → e ≡ refusal_of f → e ≡ error.TooMany n → BreaksOff hash_of sink_words limit from old new ss ss' free free' f → HoldSeats hash_of new ss' free'
+  pub off_held : (limit : ℕ) (from : List Field) (old new : Lanes) (ss ss' : List (Slot H)) (free free' : List (List SeatMarks)) (f : LaneFault) (e : RunError) (n : ℕ) → e ≡ refusal_of f → e ≡ error.TooMany n → BreaksOff hash_of sink_words limit from old new ss ss' free free' f → HoldSeats hash_of new ss' free'
   off_held limit from old new ss ss' free free' f e n is many breaks = (off_many limit from old new ss ss' free free' f n (sym is ∙ many) breaks).held

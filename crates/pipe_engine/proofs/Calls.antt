@@ -9,7 +9,7 @@ use Rattle.pipe_expr.specs.declared.join_words.JoinType.TheVariants as how
 use Rattle.pipe_driver.specs.declared.branch.SinkAt.{SinkAt}
 use Rattle.pipe_driver.specs.Legs.{sink_node}
 use Rattle.pipe_driver.specs.Meaning.{Meaning}
-use Rattle.pipe_driver.specs.Ways.{one, occurs, IsSound}
+use Rattle.pipe_driver.specs.Ways.{one, occurs, IsSoundMeaning}
 use Rattle.pipe_driver.proofs.Tests.{by_test, eq-true, not-both}
 use Rattle.pipe_driver.specs.State.{World}
 use Rattle.pipe_chain.specs.Flags.{SeatMarks}
@@ -22,7 +22,7 @@ use Rattle.pipe_run.specs.Flushes.{HasStage}
 use Rattle.pipe_run.specs.Lanes.{held_in, lane_operators, lane_counts, lane_nodes, IsSet}
 use Rattle.pipe_run.specs.Stages.{operators_of, nodes_of, counts}
 use Rattle.pipe_run.specs.declared.lane.Lane.{Lane}
-use Rattle.pipe_run.specs.declared.stage.Basin.{Basin}
+use Rattle.pipe_run.specs.declared.stage.SinkStage.{SinkStage}
 use Rattle.pipe_run.specs.declared.stage.Stage.{Stage}
 use Rattle.pipe_run.proofs.Sums.{held-within}
 use Rattle.pipe_slots.specs.JoinWords.{parts_by, parts_in}
@@ -175,7 +175,7 @@ first_of ss rest s e = ap first_slot e
 
 -- ---- lanes at their sinks
 
-counts_nodes : {O K : Type 0} (sts : List (Stage O)) (b : Basin K) → length (counts sts b) ≡ length (nodes_of sts b)
+counts_nodes : {O K : Type 0} (sts : List (Stage O)) (b : SinkStage K) → length (counts sts b) ≡ length (nodes_of sts b)
 counts_nodes [] b = refl
 counts_nodes (st ∷ sts) b = ap suc (counts_nodes sts b)
 
@@ -188,7 +188,7 @@ plus_one (n ∷ k ∷ ns) ms a b = absurd (omega arith)
 one_count : {H : Type 0} (nodes : List ℕ) (lanes : Lanes H) → length nodes ≡ 1 → All (HasNodes nodes) lanes → length (counts_in lanes) ≤ 1
 one_count nodes [] long same = omega arith
 one_count nodes (z ∷ lanes) long same =
-    let e = counts_nodes z.stages.items z.basin in
+    let e = counts_nodes z.stages.items z.target in
     let f = ap length (same 0 z (omega arith)) in
     plus_one (lane_counts z) (counts_in lanes) (omega arith) (one_count nodes lanes long (λ i d less. same (suc i) d (omega arith)))
 
@@ -239,7 +239,7 @@ schema_is (Build b) = refl
 schema_is (Cross c) = refl
 
 pub one_schema : {H : Type 0} (k : PhysSink H) (lanes : Lanes H) → All (IsSet setting_in (setting_in k)) lanes → All (IsSet sink_schema (sink_schema k)) lanes
-one_schema k lanes same = λ i d less. schema_is (get_or lanes i d).basin.sink ∙ ap schema_by (same i d less) ∙ sym (schema_is k)
+one_schema k lanes same = λ i d less. schema_is (get_or lanes i d).target.sink ∙ ap schema_by (same i d less) ∙ sym (schema_is k)
 
 no_first : {H : Type 0} (ss : List (Slot H)) → ReadsNothing false ss → first_slot ss ≡ Empty → ⊥
 no_first [] reads none = reads

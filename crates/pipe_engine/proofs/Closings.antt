@@ -9,7 +9,7 @@ use Rattle.pipe_ops.specs.declared.sink.FinalizedSink.TheVariants.{Finished, Ope
 use Rattle.pipe_driver.specs.declared.branch.SinkAt.{SinkAt}
 use Rattle.pipe_driver.specs.declared.branch.SinkAt.TheVariants as at
 use Rattle.pipe_driver.specs.Legs.{Way}
-use Rattle.pipe_driver.specs.Ways.{way_to, feeds, IsSinkOf, IsSound}
+use Rattle.pipe_driver.specs.Ways.{way_to, feeds, IsSinkOf, IsSoundMeaning}
 use Rattle.pipe_driver.proofs.Tests.{all-append}
 use Rattle.pipe_driver.specs.declared.pipe_line.PipeLine.{PipeLine}
 use Rattle.pipe_driver.specs.declared.run.Run.{Run}
@@ -47,7 +47,7 @@ closed_as r k old runner a count result todo is none number did built apart idle
 
 -- ---- the root
 
-pub close_root : {R S P : Type 0} (r : RunnerWords R S P) (k : Task) (old : Run R S P) (runner : R) (a : SinkAt) (count : ℕ) (frame : Table) (todo : List (PipeLine S P)) → IsSound k.m → Feeds r k old a todo
+pub close_root : {R S P : Type 0} (r : RunnerWords R S P) (k : Task) (old : Run R S P) (runner : R) (a : SinkAt) (count : ℕ) (frame : Table) (todo : List (PipeLine S P)) → IsSoundMeaning k.m → Feeds r k old a todo
     → number_at old.counts.left.items count ≡ 0 → IsSinkOf k.m (sink_of k a) a → count ≡ k.number (sink_of k a) → Finalizes r.brings a (r.fits old.runner) (r.fits runner) (Finished frame) → r.idle runner
     → Between r k (run_with runner old.parked old.counts old.probers) todo × SameBag frame.rows (k.m.below k.m.ordered) × (old.parked.items ≡ old.parked.items)
 close_root r k old runner at.Ordered count frame todo sound is none sink number did idle =
@@ -62,7 +62,7 @@ close_root r k old runner (at.Build n) count frame todo sound is none sink numbe
 
 -- ---- a build
 
-pub close_build : {R S P : Type 0} (r : RunnerWords R S P) (k : Task) (old : Run R S P) (runner : R) (a : SinkAt) (count : ℕ) (built : Unit {0}) (todo : List (PipeLine S P)) → IsSound k.m → Feeds r k old a todo
+pub close_build : {R S P : Type 0} (r : RunnerWords R S P) (k : Task) (old : Run R S P) (runner : R) (a : SinkAt) (count : ℕ) (built : Unit {0}) (todo : List (PipeLine S P)) → IsSoundMeaning k.m → Feeds r k old a todo
     → number_at old.counts.left.items count ≡ 0 → IsSinkOf k.m (sink_of k a) a → count ≡ k.number (sink_of k a) → Finalizes r.brings a (r.fits old.runner) (r.fits runner) (Operator built) → r.idle runner
     → Between r k (run_with runner old.parked old.counts old.probers) todo × (old.counts ≡ old.counts) × (sink_of k a ≡ k.m.ordered → ⊥) × (old.parked.items ≡ old.parked.items)
 close_build r k old runner at.Ordered count built todo sound is none sink number did idle = absurd (done_with r k old runner at.Ordered count (Operator built) todo is none sink number did).is.ends
@@ -82,7 +82,7 @@ elsewhere_as : {S P : Type 0} (o n : ℕ) (ps : List (PipeLine S P)) → AllByRe
 elsewhere_as o n [] are = tt
 elsewhere_as o n (p ∷ ps) are = (are.0, elsewhere_as o n ps are.1)
 
-pub close_alone : {R S P : Type 0} (r : RunnerWords R S P) (k : Task) (old : Run R S P) (runner : R) (parked : Vec (PipeLine S P)) (a : SinkAt) (count : ℕ) (source : S) (todo : List (PipeLine S P)) → IsSound k.m → Feeds r k old a todo
+pub close_alone : {R S P : Type 0} (r : RunnerWords R S P) (k : Task) (old : Run R S P) (runner : R) (parked : Vec (PipeLine S P)) (a : SinkAt) (count : ℕ) (source : S) (todo : List (PipeLine S P)) → IsSoundMeaning k.m → Feeds r k old a todo
     → number_at old.counts.left.items count ≡ 0 → IsSinkOf k.m (sink_of k a) a → count ≡ k.number (sink_of k a) → Finalizes r.brings a (r.fits old.runner) (r.fits runner) (Source source) → r.idle runner
     → parked.items ≡ old.parked.items → AllByRecursion (StartsElsewhere (node_of a)) parked.items
     → Between r k (run_with runner parked old.counts old.probers) todo × (old.counts ≡ old.counts) × (sink_of k a ≡ k.m.ordered → ⊥) × (parked.items ≡ old.parked.items)
@@ -124,7 +124,7 @@ pub all_back : {A : Type 0} (P : A → Type 0) (a b : List A) → AllByRecursion
 all_back P [] b h = h
 all_back P (x ∷ a) b h = all_back P a b h.1
 
-pub close_sort : {R S P : Type 0} (r : RunnerWords R S P) (k : Task) (old : Run R S P) (runner : R) (parked : Vec (PipeLine S P)) (a : SinkAt) (count : ℕ) (source : S) (q : PipeLine S P) (todo : List (PipeLine S P)) → IsSound k.m → Feeds r k old a todo
+pub close_sort : {R S P : Type 0} (r : RunnerWords R S P) (k : Task) (old : Run R S P) (runner : R) (parked : Vec (PipeLine S P)) (a : SinkAt) (count : ℕ) (source : S) (q : PipeLine S P) (todo : List (PipeLine S P)) → IsSoundMeaning k.m → Feeds r k old a todo
     → number_at old.counts.left.items count ≡ 0 → IsSinkOf k.m (sink_of k a) a → count ≡ k.number (sink_of k a) → Finalizes r.brings a (r.fits old.runner) (r.fits runner) (Source source) → r.idle runner
     → Unparks (node_of a) q old.parked.items parked.items
     → IsNext r k old (run_with runner parked old.counts old.probers) todo (sink_of k a) (GoOn (record { start = q.start; source = Some source; legs = q.legs }))

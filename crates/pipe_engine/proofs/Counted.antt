@@ -14,7 +14,7 @@ use Rattle.pipe_run.specs.Dealt.{nodes_in, counts_in}
 use Rattle.pipe_run.specs.Lanes.{lane_nodes}
 use Rattle.pipe_run.specs.Stages.{nodes_of}
 use Rattle.pipe_run.specs.declared.lane.Lane.{Lane}
-use Rattle.pipe_run.specs.declared.stage.Basin.{Basin}
+use Rattle.pipe_run.specs.declared.stage.SinkStage.{SinkStage}
 use Rattle.pipe_run.specs.declared.stage.Stage.{Stage}
 use Rattle.pipe_driver.specs.Along.{counted_at}
 use Rattle.pipe_driver.proofs.Flowing.{same_many, both_many}
@@ -70,14 +70,14 @@ first_added t n c ns cs nodes counts e g = ap (λ l. cond (first_node l == t) (n
 
 -- ---- a lane, and the table of counts
 
-pub first_none : {O K : Type 0} (sts : List (Stage O)) (n : ℕ) (b : Basin K) → n ≡ length sts → (n == 0) ≡ true → b.node ≡ first_node (nodes_of sts b)
+pub first_none : {O K : Type 0} (sts : List (Stage O)) (n : ℕ) (b : SinkStage K) → n ≡ length sts → (n == 0) ≡ true → b.node ≡ first_node (nodes_of sts b)
 first_none sts n b long none = ap (λ l. first_node (nodes_of l b)) (sym (nil-told sts n long none))
 
-some_stage : {O K : Type 0} (sts : List (Stage O)) (b : Basin K) (d : Stage O) → (sts ≡ [] → ⊥) → (get_or sts 0 d).node ≡ first_node (nodes_of sts b)
+some_stage : {O K : Type 0} (sts : List (Stage O)) (b : SinkStage K) (d : Stage O) → (sts ≡ [] → ⊥) → (get_or sts 0 d).node ≡ first_node (nodes_of sts b)
 some_stage [] b d some = absurd (some refl)
 some_stage (st ∷ sts) b d some = refl
 
-pub first_some : {O K : Type 0} (sts : List (Stage O)) (n : ℕ) (b : Basin K) (d : Stage O) → n ≡ length sts → (n == 0) ≡ false → (get_or sts 0 d).node ≡ first_node (nodes_of sts b)
+pub first_some : {O K : Type 0} (sts : List (Stage O)) (n : ℕ) (b : SinkStage K) (d : Stage O) → n ≡ length sts → (n == 0) ≡ false → (get_or sts 0 d).node ≡ first_node (nodes_of sts b)
 first_some sts n b d long some = some_stage sts b d (λ none. (let more = some-told sts n long some in let zero = ap length none in absurd (omega arith)))
 
 -- a node that the table hasn't is no node of the plan
@@ -106,14 +106,14 @@ added_at node rows limit all given new low is le within put long = record {
       (λ e. (let a = put k in let b = ap (λ z. cond z all (number_at given k)) e in let l = within k in omega arith));
 }
 
-some_nodes : {O K : Type 0} (sts : List (Stage O)) (b : Basin K) → 0 < length (nodes_of sts b)
+some_nodes : {O K : Type 0} (sts : List (Stage O)) (b : SinkStage K) → 0 < length (nodes_of sts b)
 some_nodes [] b = omega arith
 some_nodes (st ∷ sts) b = omega arith
 
 -- lanes have a node that their first stage is given
 pub nodes_there : {O K : Type 0} (lanes : List (Lane O K)) → 0 < length lanes → 0 < length (nodes_in lanes)
 nodes_there [] some = absurd (omega arith)
-nodes_there (lane ∷ lanes) some = some_nodes lane.stages.items lane.basin
+nodes_there (lane ∷ lanes) some = some_nodes lane.stages.items lane.target
 
 pub first_lane : {O K : Type 0} (lanes : List (Lane O K)) (d : Lane O K) → 0 < length lanes → first_node (lane_nodes (get_or lanes 0 d)) ≡ first_node (nodes_in lanes)
 first_lane [] d some = absurd (omega arith)

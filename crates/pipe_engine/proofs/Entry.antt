@@ -6,7 +6,7 @@ use Rattle.pipe_plan.specs.PlanRows.{rows_of}
 use Rattle.pipe_driver.specs.Shape.{below_sink}
 use Rattle.pipe_driver.specs.Meaning.{tree_of}
 use Rattle.pipe_driver.specs.Legs.{Way, ways_of}
-use Rattle.pipe_driver.specs.Ways.{IsSound}
+use Rattle.pipe_driver.specs.Ways.{IsSoundMeaning}
 use Rattle.pipe_driver.proofs.Tests.{eq-true}
 use Rattle.pipe_driver.proofs.Sounds.{are_sound}
 use Rattle.pipe_driver.proofs.Runnable.{can_run}
@@ -58,5 +58,5 @@ stand_open r ask run ps is =
     let fed = can.root in
     let e = is.sinks (length ask.plan.nodes) in omega arith
 
-pub sound_of : {R S P : Type 0} (r : RunnerWords R S P) (ask : Ask) (run : Run R S P) (ps : List (PipeLine S P)) → StandFor r ask run ps → IsSound (task_of ask).m
+pub sound_of : {R S P : Type 0} (r : RunnerWords R S P) (ask : Ask) (run : Run R S P) (ps : List (PipeLine S P)) → StandFor r ask run ps → IsSoundMeaning (task_of ask).m
 sound_of r ask run ps is = are_sound ask.plan ask.root is.well

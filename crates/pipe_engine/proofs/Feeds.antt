@@ -1,7 +1,7 @@
 -- A leg is counted at its sink.
 use Rattle.std.proofs.Common.{◌≡◌, ℕ, zero, suc, ◌+◌, ◌<◌, ◌==◌, ◌⊎◌, inl, inr, List, [], ◌∷◌, length, refl, sym, ap, ◌∙◌, arith}
 use Rattle.pipe_driver.specs.declared.branch.SinkAt.{SinkAt}
-use Rattle.pipe_driver.specs.Ways.{one, feeds, IsSound}
+use Rattle.pipe_driver.specs.Ways.{one, feeds, IsSoundMeaning}
 use Rattle.pipe_driver.proofs.Tests.{by_test, eq-is, eq-true, eq-not}
 use Rattle.pipe_driver.specs.declared.pipe_line.PipeLine.{PipeLine}
 use Rattle.pipe_driver.specs.declared.run.Run.{Run}
@@ -43,7 +43,7 @@ sink_lowered k s count left old new numbered e some low =
     }
 
 pub has_run : {R S P : Type 0} (r : RunnerWords R S P) (k : Task) (p : PipeLine S P) (old led mid : Run R S P) (runner : R) (counts : SinkCounts) (todo : List (PipeLine S P)) (leg : Passing) (left : ℕ)
-    → IsSound k.m → HasLed r k p old led todo leg → Passes r k mid [] leg.at todo → mid.parked ≡ led.parked → mid.counts ≡ led.counts → EndsLeg (r.fits mid.runner) (r.fits runner) (r.before mid.runner) (r.idle runner) (r.holds runner)
+    → IsSoundMeaning k.m → HasLed r k p old led todo leg → Passes r k mid [] leg.at todo → mid.parked ≡ led.parked → mid.counts ≡ led.counts → EndsLeg (r.fits mid.runner) (r.fits runner) (r.before mid.runner) (r.idle runner) (r.holds runner)
     → length counts.left.items ≡ length mid.counts.left.items → Lowered leg.count left mid.counts.left.items counts.left.items
     → HasRun r k p old (run_with runner mid.parked counts mid.probers) todo (record { at = leg.at; count = leg.count; left = left })
 has_run r k p old led mid runner counts todo leg left sound has is parked same ends long low =

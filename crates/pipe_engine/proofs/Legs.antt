@@ -12,7 +12,7 @@ use Rattle.pipe_schema.proofs.Weights.{SameBag, SameBag-refl, SameBag-sym, SameB
 use Rattle.pipe_driver.specs.declared.branch.SinkAt.{SinkAt}
 use Rattle.pipe_driver.specs.Meaning.{Meaning, Place, OutOf, Into}
 use Rattle.pipe_driver.specs.Legs.{Leg, sink_node}
-use Rattle.pipe_driver.specs.Ways.{one, occurs, IsSound}
+use Rattle.pipe_driver.specs.Ways.{one, occurs, IsSoundMeaning}
 use Rattle.pipe_driver.proofs.Tests.{by_test, eq-is, eq-true, eq-false, eq-not, not-both}
 use Rattle.pipe_driver.specs.State.{World, HasPassed, AreAlike}
 use Rattle.pipe_driver.specs.Runner.{Becomes, AreBuilt, RunsLeg}
@@ -26,7 +26,7 @@ use Rattle.pipe_run.specs.Dealt.{works_in, nodes_in, counts_in}
 use Rattle.pipe_run.specs.Lanes.{held_in, IsSet}
 use Rattle.pipe_run.specs.Stages.{operators_of}
 use Rattle.pipe_run.specs.declared.lane.Lane.{Lane}
-use Rattle.pipe_run.specs.declared.stage.Basin.{Basin}
+use Rattle.pipe_run.specs.declared.stage.SinkStage.{SinkStage}
 use Rattle.pipe_run.specs.declared.stage.Stage.{Stage}
 use Rattle.pipe_slots.specs.declared.phys_operator.PhysOperator.{PhysOperator}
 use Rattle.pipe_source.specs.Supplies.{left_of}
@@ -69,7 +69,7 @@ on_chain m s (op ∷ ops) t j are some = by_test (occurs j (m.above t) ≤ occur
     (λ e. (let z = ap one e in let r = on_chain m s ops t j are.2 (omega arith) in omega arith))
 
 -- the probe side of a join that isn't on the way is off it too
-pub probed_off : (m : Meaning) (n s : ℕ) (ops : List ℕ) (j : ℕ) → IsSound m → m.above n ≡ ops → AreAlike m s ops → occurs j ops ≡ 0 → m.is_join j ≡ true → (n ≡ m.probed j → ⊥) × (occurs (m.probed j) ops ≡ 0)
+pub probed_off : (m : Meaning) (n s : ℕ) (ops : List ℕ) (j : ℕ) → IsSoundMeaning m → m.above n ≡ ops → AreAlike m s ops → occurs j ops ≡ 0 → m.is_join j ≡ true → (n ≡ m.probed j → ⊥) × (occurs (m.probed j) ops ≡ 0)
 probed_off m n s ops j sound above are none join =
     let p = m.probed j in
     let e : occurs j (m.above p) ≡ occurs j (j ∷ m.above j) = ap (occurs j) (sound.probed j join) in
@@ -140,7 +140,7 @@ empty_of x m w n (slot.Rows f) acts not is = absurd (not-both (m.is_join n) is.j
 empty_of x m w n (slot.Full t) acts not is = absurd (not-both (m.is_join n) is.join.is_join not)
 empty_of x m w n slot.Spent acts not is = absurd (not-both (m.is_join n) is.0 not)
 
-is_taken : {H : Type 0} (x : Settings H) (m : Meaning) (w : World) (given : ℕ) (sts : List (Stage (PhysOperator H))) (ops : List ℕ) (at : SinkAt) (b : Basin (PhysSink H)) (j : ℕ) (s t : Slot H) (acts : Acts) → AreStagesOf x m given sts ops at b → 0 < occurs j ops → s ≡ cond (is_place (operators_of sts) j) slot.Empty t → SlotFits x m w j t acts
+is_taken : {H : Type 0} (x : Settings H) (m : Meaning) (w : World) (given : ℕ) (sts : List (Stage (PhysOperator H))) (ops : List ℕ) (at : SinkAt) (b : SinkStage (PhysSink H)) (j : ℕ) (s t : Slot H) (acts : Acts) → AreStagesOf x m given sts ops at b → 0 < occurs j ops → s ≡ cond (is_place (operators_of sts) j) slot.Empty t → SlotFits x m w j t acts
     → s ≡ slot.Empty
 is_taken x m w given sts ops at b j s t acts are on e is = by_test (s ≡ slot.Empty) (is_place (operators_of sts) j)
     (λ k. e ∙ ap (λ z. cond z slot.Empty t) k)
@@ -149,16 +149,16 @@ is_taken x m w given sts ops at b j s t acts are on e is = by_test (s ≡ slot.E
 pub run_fits : {H : Type 0} (hash_of : H → List ℕ → ℕ) (x : Settings H) (old : Engine H) (source : PhysSource) (part : Part H) (p : Passage H (PhysSink H)) (seats : List (List SeatMarks)) (lanes : Vec (Lane (PhysOperator H) (PhysSink H))) (slots : Slots H) (index : ℕ) (journal : Vec Event) (from : List Field) (frame whole : Option Table)
     → length p.lanes.items ≤ old.context.workers → HasFrame source frame → IsKeptFrame part.at part.stages.items frame whole
     → IsTaken (operators_of part.stages.items) old.slots slots p.shared.items seats
-    → HasOpened hash_of sink_words old.context.row_limit part.stages.items part.basin p.shared.items seats p.seats.items p.lanes.items
+    → HasOpened hash_of sink_words old.context.row_limit part.stages.items part.target p.shared.items seats p.seats.items p.lanes.items
     → ((start : ℕ) (ops : List ℕ) → nodes_in p.lanes.items ≡ start ∷ ops → from ≡ x.schema_at start)
     → Carried hash_of old.context.row_limit from (left_rows (left_of source)) p.lanes.items lanes.items p.shared.items p.seats.items
     → old.leg ≡ None
-    → RunsLeg (Brings source x) (StandsFor part x) (Fits hash_of old x) (Fits hash_of (with_leg old slots (Some (record { at = part.at; passage = record p { lanes = lanes }; sink = part.basin.sink; whole = whole })) index journal) x)
-    (IsBefore (Some (record { at = part.at; passage = record p { lanes = lanes }; sink = part.basin.sink; whole = whole })))
+    → RunsLeg (Brings source x) (StandsFor part x) (Fits hash_of old x) (Fits hash_of (with_leg old slots (Some (record { at = part.at; passage = record p { lanes = lanes }; sink = part.target.sink; whole = whole })) index journal) x)
+    (IsBefore (Some (record { at = part.at; passage = record p { lanes = lanes }; sink = part.target.sink; whole = whole })))
 run_fits {H = H} hash_of x old source part p seats lanes slots index journal from frame whole few has kept taken opened from_is carried idle m w start leg fits stands brings above above_sink built =
     let sound = fits.sound in
     let sts = part.stages.items in
-    let b = part.basin in
+    let b = part.target in
     let os = operators_of sts in
     let ops = leg.operators in
     let limit = old.context.row_limit in
@@ -211,7 +211,7 @@ run_fits {H = H} hash_of x old source part p seats lanes slots index journal fro
           workers = taken.workers ∙ fits.workers;
           places = fits.places;
           given = fits.given;
-          counted = run_counted old.given.items old.leg (record { at = part.at; passage = record p { lanes = lanes }; sink = part.basin.sink; whole = whole }) limit w c more (start ∷ ops) (counts_in p.lanes.items) (counts_of ks acting (left_rows (left_of source)))
+          counted = run_counted old.given.items old.leg (record { at = part.at; passage = record p { lanes = lanes }; sink = part.target.sink; whole = whole }) limit w c more (start ∷ ops) (counts_in p.lanes.items) (counts_of ks acting (left_rows (left_of source)))
               fits.counted idle nodes1 went.counts opened.within
               (λ t. ap (counted_at t (start ∷ ops)) (counts_alike ks acting (left_rows (left_of source)) rows brings.rows) ∙ came.counted t);
           sinks = λ t. (

@@ -2,7 +2,7 @@
 use Rattle.std.proofs.Common.{◌≡◌, ℕ, ◌+◌, List, [], ◌∷◌, map, ap, sym, subst, ◌∙◌, Option, Some, arith}
 use Rattle.pipe_driver.specs.declared.branch.SinkAt.{SinkAt}
 use Rattle.pipe_driver.specs.Legs.{sink_node}
-use Rattle.pipe_driver.specs.Ways.{IsSinkOf, IsSound}
+use Rattle.pipe_driver.specs.Ways.{IsSinkOf, IsSoundMeaning}
 use Rattle.pipe_driver.specs.declared.pipe_line.Leg.{Leg}
 use Rattle.pipe_driver.specs.declared.pipe_line.PipeLine.{PipeLine}
 use Rattle.pipe_driver.specs.declared.run.Run.{Run}
@@ -15,7 +15,7 @@ use Rattle.pipe_driver.proofs.Counting.{seen_all}
 use Rattle.pipe_driver.proofs.LegPasses.{leg_tables, leg_there}
 
 pub may_run : {R S P : Type 0} (r : RunnerWords R S P) (k : Task) (p : PipeLine S P) (run : Run R S P) (todo : List (PipeLine S P)) (source : S) (leg : Leg P) (legs : List (Leg P))
-    → IsSound k.m → Ready r k run p todo → p.source ≡ Some source → p.legs.items ≡ leg ∷ legs → MayRunLeg r k.m run.runner source leg.part
+    → IsSoundMeaning k.m → Ready r k run p todo → p.source ≡ Some source → p.legs.items ≡ leg ∷ legs → MayRunLeg r k.m run.runner source leg.part
 may_run r k p run todo source leg legs sound ready is_source first =
     let m = k.m in
     let o = m.ordered in
@@ -41,7 +41,7 @@ pub may_leave : {R S P : Type 0} (r : RunnerWords R S P) (k : Task) (run : Run R
 may_leave r k run op now at todo is = record { w = is.w; now = now; at = at; fits = is.fits; before = is.before }
 
 pub may_settle : {R S P : Type 0} (r : RunnerWords R S P) (k : Task) (run : Run R S P) (op left : ℕ) (now : List ℕ) (at : SinkAt) (todo : List (PipeLine S P))
-    → IsSound k.m → Passes r k run (op ∷ now) at todo → number_at run.probers.left.items op ≡ left + 1 → left ≡ 0 → MaySettle r k.m run.runner op
+    → IsSoundMeaning k.m → Passes r k run (op ∷ now) at todo → number_at run.probers.left.items op ≡ left + 1 → left ≡ 0 → MaySettle r k.m run.runner op
 may_settle r k run op left now at todo sound is here none =
     let last : number_at run.probers.left.items op ≡ 1 = omega arith in
     record {

@@ -12,7 +12,7 @@ use Rattle.pipe_driver.specs.declared.branch.SinkAt.{SinkAt}
 use Rattle.pipe_chain.specs.Flags.{SeatMarks}
 use Rattle.pipe_driver.specs.Meaning.{Meaning, Place, OutOf, Into}
 use Rattle.pipe_driver.specs.Legs.{sink_node}
-use Rattle.pipe_driver.specs.Ways.{one, occurs, IsSound}
+use Rattle.pipe_driver.specs.Ways.{one, occurs, IsSoundMeaning}
 use Rattle.pipe_driver.proofs.Tests.{by_test, eq-is, eq-true, eq-false, eq-not, not-both}
 use Rattle.pipe_driver.specs.State.{World, Waits, Has, HasSettled, spent, spent_at}
 use Rattle.pipe_driver.specs.State as state
@@ -102,7 +102,7 @@ tail_of : (a b : ℕ) (xs ys : List ℕ) → a ∷ xs ≡ b ∷ ys → xs ≡ ys
 tail_of a b xs ys e = ap behind e
 
 pub left_behind : {H : Type 0} (hash_of : H → List ℕ → ℕ) (x : Settings H) (m : Meaning) (w : World) (limit : ℕ) (leg : OpenLeg H) (lanes : List (Lane (PhysOperator H) (PhysSink H))) (ss : List (Slot H)) (free : List (List SeatMarks)) (s : Slot H) (seats : List SeatMarks) (node given : ℕ) (now : List ℕ)
-    → IsSound m → m.above given ≡ node ∷ now → m.above_sink given ≡ sink_node m.ordered leg.at → nodes_in leg.passage.lanes.items ≡ given ∷ m.above given
+    → IsSoundMeaning m → m.above given ≡ node ∷ now → m.above_sink given ≡ sink_node m.ordered leg.at → nodes_in leg.passage.lanes.items ≡ given ∷ m.above given
     → All (GivesSchemas (x.schema_at given) (map x.schema_at (m.above given))) leg.passage.lanes.items
     → StagesFit x m w given (m.above given) (works_in (phys_words hash_of) (x.schema_at given) leg.passage.shared.items leg.passage.lanes.items) leg.passage.shared.items (acts_now hash_of leg.passage.lanes.items leg.passage.seats.items)
     → (left : HasLeft hash_of sink_words limit (x.schema_at given) s seats leg.passage.lanes.items lanes leg.passage.shared.items ss leg.passage.seats.items free)
@@ -286,7 +286,7 @@ stages_spent x m w n given (o ∷ ops) (k ∷ ks) (s ∷ ss) (a ∷ acts) off is
     (stage_spent x m w n given o k s a apart is.0, stages_spent x m w n o ops ks ss acts (omega arith) is.1)
 
 -- what the node has of its own
-pub owns : {H : Type 0} (hash_of : H → List ℕ → ℕ) (x : Settings H) (m : Meaning) (w : World) (given node : ℕ) (work : Work) (s closed : Slot H) (seats : List SeatMarks) → IsSound m → 0 < x.parts → StageFits x m w given node work s (sum_of seats) → IsRest 0 s seats → IsClosedAs s seats closed
+pub owns : {H : Type 0} (hash_of : H → List ℕ → ℕ) (x : Settings H) (m : Meaning) (w : World) (given node : ℕ) (work : Work) (s closed : Slot H) (seats : List SeatMarks) → IsSoundMeaning m → 0 < x.parts → StageFits x m w given node work s (sum_of seats) → IsRest 0 s seats → IsClosedAs s seats closed
     → (m.is_join node ≡ true → SameBag (w.there (OutOf (m.probed node))) (m.rows (m.probed node))) → SameBag (m.own node) (w.gained node ++ rows_of_parts parts_in (part_in hash_of) closed)
 owns {H = H} hash_of x m w given node work s closed seats sound some is rest closes seen =
     let spec = x.spec_at node in

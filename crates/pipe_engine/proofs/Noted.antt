@@ -7,7 +7,7 @@ use Rattle.pipe_driver.specs.declared.branch.SinkAt.TheVariants as at
 use Rattle.std.specs.List.{AllByRecursion}
 use Rattle.pipe_driver.specs.Legs.{Way, sink_node}
 use Rattle.pipe_driver.specs.Meaning.{Meaning}
-use Rattle.pipe_driver.specs.Ways.{MayGoOn, IsSinkOf, IsSound}
+use Rattle.pipe_driver.specs.Ways.{MayGoOn, IsSinkOf, IsSoundMeaning}
 use Rattle.pipe_driver.proofs.Tests.{all-append}
 use Rattle.pipe_driver.specs.declared.pipe_line.Leg.{Leg}
 use Rattle.pipe_driver.specs.declared.run.Fed.{Fed}
@@ -56,7 +56,7 @@ tail_parks o n legs old new parks = record {
 }
 
 -- only behind a sort something waits
-tail_behind : {H : Type 0} (m : Meaning) (a : SinkAt) (legs : List (Leg (Part H))) (old new : List (Line H)) → IsSound m → MayGoOn m (sink_node m.ordered a) (map (leg_as m.ordered) legs) → Parks (node_of a) legs old new → HasTail (sink_node m.ordered a) (map (leg_as m.ordered) legs) (ways_as m.ordered old) (ways_as m.ordered new)
+tail_behind : {H : Type 0} (m : Meaning) (a : SinkAt) (legs : List (Leg (Part H))) (old new : List (Line H)) → IsSoundMeaning m → MayGoOn m (sink_node m.ordered a) (map (leg_as m.ordered) legs) → Parks (node_of a) legs old new → HasTail (sink_node m.ordered a) (map (leg_as m.ordered) legs) (ways_as m.ordered old) (ways_as m.ordered new)
 tail_behind m (at.Sort n) legs old new sound on parks = tail_parks m.ordered n legs old new parks
 tail_behind m (at.Build n) legs old new sound on parks = tail_parks m.ordered n legs old new parks
 tail_behind m at.Ordered [] old new sound on parks = record { tails = ways_as m.ordered parks.tails; is = ap (ways_as m.ordered) parks.is ∙ ways_append m.ordered old parks.tails; tail = ap (ways_as m.ordered) parks.rest }
@@ -73,13 +73,13 @@ rest_told v m n (leg ∷ legs) tails is told =
     subst Q (sym is.3) (subst N (sym is.1) (subst T (sym is.2) told), tt)
 
 -- only behind a sort something waits, and it begins there
-told_at : {H : Type 0} (v : Staging) (m : Meaning) (a : SinkAt) (legs : List (Leg (Part H))) → IsSound m → MayGoOn m (sink_node m.ordered a) (map (leg_as m.ordered) legs) → AreTold v m (sink_node m.ordered a) legs → AreTold v m (node_of a) legs
+told_at : {H : Type 0} (v : Staging) (m : Meaning) (a : SinkAt) (legs : List (Leg (Part H))) → IsSoundMeaning m → MayGoOn m (sink_node m.ordered a) (map (leg_as m.ordered) legs) → AreTold v m (sink_node m.ordered a) legs → AreTold v m (node_of a) legs
 told_at v m (at.Sort n) legs sound on told = told
 told_at v m (at.Build n) legs sound on told = told
 told_at v m at.Ordered [] sound on told = tt
 told_at v m at.Ordered (leg ∷ legs) sound on told = absurd (let l = sound.low_sort m.ordered on in omega arith)
 
-parks_told : {H : Type 0} (v : Staging) (m : Meaning) (a : SinkAt) (legs : List (Leg (Part H))) (old new : List (Line H)) → IsSound m → MayGoOn m (sink_node m.ordered a) (map (leg_as m.ordered) legs) → Parks (node_of a) legs old new
+parks_told : {H : Type 0} (v : Staging) (m : Meaning) (a : SinkAt) (legs : List (Leg (Part H))) (old new : List (Line H)) → IsSoundMeaning m → MayGoOn m (sink_node m.ordered a) (map (leg_as m.ordered) legs) → Parks (node_of a) legs old new
     → AllByRecursion (IsTold v m) old → AreTold v m (sink_node m.ordered a) legs → AllByRecursion (IsTold v m) new
 parks_told v m a legs old new sound on parks olds told =
     let Q : List (Line _) → Type 0 = AllByRecursion (IsTold v m) in
@@ -99,7 +99,7 @@ module _ {H : Type 0} (r : RunnerWords (Engine H) PhysSource (Part H)) (k : Task
 
   -- its rows have come to its sink
   pub noted_led : (p : Line H) (old : LineRun H) (runner : Engine H) (parked : Vec (Line H)) (todo : List (Line H)) (leg : Leg (Part H)) (legs : List (Leg (Part H))) (events more : List Event)
-      → IsSound k.m → IsBoard (board_in k.m v) → Ready r k old p todo → p.legs.items ≡ leg ∷ legs → Parks (node_of leg.at) legs old.parked.items parked.items → NotedBefore v k old p todo events → IsLegOf (board_in k.m v) p.start more
+      → IsSoundMeaning k.m → IsBoard (board_in k.m v) → Ready r k old p todo → p.legs.items ≡ leg ∷ legs → Parks (node_of leg.at) legs old.parked.items parked.items → NotedBefore v k old p todo events → IsLegOf (board_in k.m v) p.start more
       → NotedBetween v k (run_with runner parked old.counts old.probers) todo (events ++ more)
   noted_led p old runner parked todo leg legs events more sound board ready first parks noted wrote =
       let m = k.m in

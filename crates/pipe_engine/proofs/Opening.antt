@@ -14,7 +14,7 @@ use Rattle.std.specs.List.{AllByRecursion}
 use Rattle.pipe_chain.specs.Chain.{works_of, IsChain}
 use Rattle.pipe_chain.specs.Flow.{Acts}
 use Rattle.pipe_run.specs.Stages.{operators_of, nodes_of}
-use Rattle.pipe_run.specs.declared.stage.Basin.{Basin}
+use Rattle.pipe_run.specs.declared.stage.SinkStage.{SinkStage}
 use Rattle.pipe_run.specs.declared.stage.Stage.{Stage}
 use Rattle.pipe_table.specs.declared.spec.JoinSpec.{JoinSpec}
 use Rattle.pipe_slots.specs.Kinds.{kind_of}
@@ -72,7 +72,7 @@ op_place x m given n (op.CallBack c) k is ne = absurd is
 
 -- ---- stages
 
-pub nodes_are : {H : Type 0} (x : Settings H) (m : Meaning) (given : ℕ) (sts : List (Stage (PhysOperator H))) (ops : List ℕ) (at : SinkAt) (b : Basin (PhysSink H)) → AreStagesOf x m given sts ops at b → nodes_of sts b ≡ given ∷ ops
+pub nodes_are : {H : Type 0} (x : Settings H) (m : Meaning) (given : ℕ) (sts : List (Stage (PhysOperator H))) (ops : List ℕ) (at : SinkAt) (b : SinkStage (PhysSink H)) → AreStagesOf x m given sts ops at b → nodes_of sts b ≡ given ∷ ops
 nodes_are x m given [] [] at b are = ap (λ k. k ∷ []) are.0
 nodes_are x m given [] (n ∷ ops) at b are = absurd are
 nodes_are x m given (st ∷ sts) [] at b are = absurd are
@@ -82,13 +82,13 @@ pub record EndsIn {H : Type 0} (x : Settings H) (m : Meaning) (at : SinkAt) (sin
   pub given : ℕ
   pub is : IsSinkOf x m given at sink
 
-pub ends_in : {H : Type 0} (x : Settings H) (m : Meaning) (given : ℕ) (sts : List (Stage (PhysOperator H))) (ops : List ℕ) (at : SinkAt) (b : Basin (PhysSink H)) → AreStagesOf x m given sts ops at b → EndsIn x m at b.sink
+pub ends_in : {H : Type 0} (x : Settings H) (m : Meaning) (given : ℕ) (sts : List (Stage (PhysOperator H))) (ops : List ℕ) (at : SinkAt) (b : SinkStage (PhysSink H)) → AreStagesOf x m given sts ops at b → EndsIn x m at b.sink
 ends_in x m given [] [] at b are = record { given = given; is = are.1 }
 ends_in x m given [] (n ∷ ops) at b are = absurd are
 ends_in x m given (st ∷ sts) [] at b are = absurd are
 ends_in x m given (st ∷ sts) (n ∷ ops) at b are = ends_in x m n sts ops at b are.2
 
-pub chain_is : {H : Type 0} (hash_of : H → List ℕ → ℕ) (x : Settings H) (m : Meaning) (given : ℕ) (sts : List (Stage (PhysOperator H))) (ops : List ℕ) (at : SinkAt) (b : Basin (PhysSink H)) → AreStagesOf x m given sts ops at b → IsChain (phys_words hash_of) (x.schema_at given) (operators_of sts) (sink_schema b.sink)
+pub chain_is : {H : Type 0} (hash_of : H → List ℕ → ℕ) (x : Settings H) (m : Meaning) (given : ℕ) (sts : List (Stage (PhysOperator H))) (ops : List ℕ) (at : SinkAt) (b : SinkStage (PhysSink H)) → AreStagesOf x m given sts ops at b → IsChain (phys_words hash_of) (x.schema_at given) (operators_of sts) (sink_schema b.sink)
 chain_is hash_of x m given [] [] at b are = sym are.1.schema
 chain_is hash_of x m given [] (n ∷ ops) at b are = absurd are
 chain_is hash_of x m given (st ∷ sts) [] at b are = absurd are
@@ -96,7 +96,7 @@ chain_is hash_of x m given (st ∷ sts) (n ∷ ops) at b are =
     let P : List Field → Type 0 = λ s. IsChain (phys_words hash_of) s (operators_of sts) (sink_schema b.sink) in
     (op_takes x m given n st.operator are.1, subst P (sym (op_output x m given n st.operator are.1)) (chain_is hash_of x m n sts ops at b are.2))
 
-pub gives_are : {H : Type 0} (x : Settings H) (m : Meaning) (given : ℕ) (sts : List (Stage (PhysOperator H))) (ops : List ℕ) (at : SinkAt) (b : Basin (PhysSink H)) → AreStagesOf x m given sts ops at b → schemas_of (x.schema_at given) (operators_of sts) ≡ map x.schema_at ops
+pub gives_are : {H : Type 0} (x : Settings H) (m : Meaning) (given : ℕ) (sts : List (Stage (PhysOperator H))) (ops : List ℕ) (at : SinkAt) (b : SinkStage (PhysSink H)) → AreStagesOf x m given sts ops at b → schemas_of (x.schema_at given) (operators_of sts) ≡ map x.schema_at ops
 gives_are x m given [] [] at b are = refl
 gives_are x m given [] (n ∷ ops) at b are = absurd are
 gives_are x m given (st ∷ sts) [] at b are = absurd are
@@ -107,7 +107,7 @@ gives_are x m given (st ∷ sts) (n ∷ ops) at b are =
 or_false : (a b : Bool) → a ≡ false → b ≡ false → (a || b) ≡ false
 or_false a b h k = ap (λ t. t || b) h ∙ k
 
-pub place_off : {H : Type 0} (x : Settings H) (m : Meaning) (given : ℕ) (sts : List (Stage (PhysOperator H))) (ops : List ℕ) (at : SinkAt) (b : Basin (PhysSink H)) (k : ℕ) → AreStagesOf x m given sts ops at b → occurs k ops ≡ 0 → is_place (operators_of sts) k ≡ false
+pub place_off : {H : Type 0} (x : Settings H) (m : Meaning) (given : ℕ) (sts : List (Stage (PhysOperator H))) (ops : List ℕ) (at : SinkAt) (b : SinkStage (PhysSink H)) (k : ℕ) → AreStagesOf x m given sts ops at b → occurs k ops ≡ 0 → is_place (operators_of sts) k ≡ false
 place_off x m given [] [] at b k are none = refl
 place_off x m given [] (n ∷ ops) at b k are none = absurd are
 place_off x m given (st ∷ sts) [] at b k are none = absurd are
@@ -134,7 +134,7 @@ second_false true b h = cc
 second_false false b h = h
 
 -- a node on the way whose operator isn't the place of a probe isn't a join
-pub not_placed : {H : Type 0} (x : Settings H) (m : Meaning) (given : ℕ) (sts : List (Stage (PhysOperator H))) (ops : List ℕ) (at : SinkAt) (b : Basin (PhysSink H)) (k : ℕ) → AreStagesOf x m given sts ops at b → 0 < occurs k ops → is_place (operators_of sts) k ≡ false → m.is_join k ≡ false
+pub not_placed : {H : Type 0} (x : Settings H) (m : Meaning) (given : ℕ) (sts : List (Stage (PhysOperator H))) (ops : List ℕ) (at : SinkAt) (b : SinkStage (PhysSink H)) (k : ℕ) → AreStagesOf x m given sts ops at b → 0 < occurs k ops → is_place (operators_of sts) k ≡ false → m.is_join k ≡ false
 not_placed x m given [] [] at b k are on off = absurd (omega arith)
 not_placed x m given [] (n ∷ ops) at b k are on off = absurd are
 not_placed x m given (st ∷ sts) [] at b k are on off = absurd are
@@ -193,7 +193,7 @@ opens {H = H} x m w given n (op.Pass p) slots seats is fits built = row_opens x 
 opens {H = H} x m w given n (op.PlaceHolder p) slots seats is fits built = place_opens x m w given n p slots seats is (tabled_of x m w n (slot_at slots n) (sum_of (seats_at seats n)) (built is.join.is_join) (fits n))
 opens {H = H} x m w given n (op.CallBack c) slots seats is fits built = absurd is
 
-pub stages_open : {H : Type 0} (hash_of : H → List ℕ → ℕ) (x : Settings H) (m : Meaning) (w : World) (given : ℕ) (sts : List (Stage (PhysOperator H))) (ops : List ℕ) (at : SinkAt) (b : Basin (PhysSink H)) (slots : List (Slot H)) (seats : List (List SeatMarks))
+pub stages_open : {H : Type 0} (hash_of : H → List ℕ → ℕ) (x : Settings H) (m : Meaning) (w : World) (given : ℕ) (sts : List (Stage (PhysOperator H))) (ops : List ℕ) (at : SinkAt) (b : SinkStage (PhysSink H)) (slots : List (Slot H)) (seats : List (List SeatMarks))
     → AreStagesOf x m given sts ops at b → ((j : ℕ) → SlotFits x m w j (slot_at slots j) (sum_of (seats_at seats j))) → AreBuilt m w ops
     → StagesFit x m w given ops (works_of (phys_words hash_of) (x.schema_at given) (operators_of sts) (map (own_slot slots) (operators_of sts))) (map (own_slot slots) (operators_of sts)) (map sum_of (map (own_seats seats) (operators_of sts)))
 stages_open hash_of x m w given [] [] at b slots seats are fits built = tt
@@ -234,7 +234,7 @@ planned_one x m given n (op.Pass p) is = tt
 planned_one x m given n (op.PlaceHolder p) is = tt
 planned_one x m given n (op.CallBack c) is = absurd is
 
-pub are_planned : {H : Type 0} (x : Settings H) (m : Meaning) (w : World) (given : ℕ) (sts : List (Stage (PhysOperator H))) (ops : List ℕ) (at : SinkAt) (b : Basin (PhysSink H)) (slots : List (Slot H)) (seats : List (List SeatMarks))
+pub are_planned : {H : Type 0} (x : Settings H) (m : Meaning) (w : World) (given : ℕ) (sts : List (Stage (PhysOperator H))) (ops : List ℕ) (at : SinkAt) (b : SinkStage (PhysSink H)) (slots : List (Slot H)) (seats : List (List SeatMarks))
     → AreStagesOf x m given sts ops at b → ((j : ℕ) → SlotFits x m w j (slot_at slots j) (sum_of (seats_at seats j))) → AreBuilt m w ops → ArePlanned (map (own_slot slots) (operators_of sts)) sts
 are_planned x m w given [] [] at b slots seats are fits built = tt
 are_planned x m w given [] (n ∷ ops) at b slots seats are fits built = absurd are
@@ -247,7 +247,7 @@ are_planned x m w given (st ∷ sts) (n ∷ ops) at b slots seats are fits built
     )
 
 -- the places of probes are those of different joins
-apart_one : {H : Type 0} (x : Settings H) (m : Meaning) (given n : ℕ) (o : PhysOperator H) (sts : List (Stage (PhysOperator H))) (ops : List ℕ) (at : SinkAt) (b : Basin (PhysSink H)) (nodes : ℕ) → IsOperatorOf x m given n o → AreStagesOf x m n sts ops at b → occurs n ops ≡ 0 → ((j : ℕ) → m.is_join j ≡ true → j < nodes)
+apart_one : {H : Type 0} (x : Settings H) (m : Meaning) (given n : ℕ) (o : PhysOperator H) (sts : List (Stage (PhysOperator H))) (ops : List ℕ) (at : SinkAt) (b : SinkStage (PhysSink H)) (nodes : ℕ) → IsOperatorOf x m given n o → AreStagesOf x m n sts ops at b → occurs n ops ≡ 0 → ((j : ℕ) → m.is_join j ≡ true → j < nodes)
     → IsApart o (operators_of sts) nodes
 apart_one x m given n (op.Filter f) sts ops at b nodes is are none low = tt
 apart_one x m given n (op.SimpleProjection p) sts ops at b nodes is are none low = tt
@@ -260,7 +260,7 @@ apart_one x m given n (op.PlaceHolder p) sts ops at b nodes is are none low =
     subst P (sym is.node) (place_off x m n sts ops at b n are none, low n is.join.is_join)
 apart_one x m given n (op.CallBack c) sts ops at b nodes is are none low = absurd is
 
-pub are_apart : {H : Type 0} (x : Settings H) (m : Meaning) (s given : ℕ) (sts : List (Stage (PhysOperator H))) (ops : List ℕ) (at : SinkAt) (b : Basin (PhysSink H)) (nodes : ℕ) → AreStagesOf x m given sts ops at b → AreAlike m s ops → ((j : ℕ) → m.is_join j ≡ true → j < nodes) → AreApart (operators_of sts) nodes
+pub are_apart : {H : Type 0} (x : Settings H) (m : Meaning) (s given : ℕ) (sts : List (Stage (PhysOperator H))) (ops : List ℕ) (at : SinkAt) (b : SinkStage (PhysSink H)) (nodes : ℕ) → AreStagesOf x m given sts ops at b → AreAlike m s ops → ((j : ℕ) → m.is_join j ≡ true → j < nodes) → AreApart (operators_of sts) nodes
 are_apart x m s given [] [] at b nodes are alike low = tt
 are_apart x m s given [] (n ∷ ops) at b nodes are alike low = absurd are
 are_apart x m s given (st ∷ sts) [] at b nodes are alike low = absurd are

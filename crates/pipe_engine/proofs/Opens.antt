@@ -41,9 +41,9 @@ pub record MayOpen {H : Type 0} (hash_of : H → List ℕ → ℕ) (x : Settings
   pub planned : (new : Slots H) (shared : List (Slot H)) (seats : List (List SeatMarks)) → IsTaken (operators_of part.stages.items) old.slots new shared seats → ArePlanned shared part.stages.items
   pub rest : (new : Slots H) (shared : List (Slot H)) (seats : List (List SeatMarks)) → IsTaken (operators_of part.stages.items) old.slots new shared seats → AllRest 0 shared seats
   pub enough : (new : Slots H) (shared : List (Slot H)) (seats : List (List SeatMarks)) → IsTaken (operators_of part.stages.items) old.slots new shared seats → AllByRecursion (HasSeats old.context.workers) shared
-  pub passing : (lanes : List (Lane (PhysOperator H) (PhysSink H))) (ss : List (Slot H)) (before free : List (List SeatMarks)) → HasOpened hash_of sink_words old.context.row_limit part.stages.items part.basin ss before free lanes
+  pub passing : (lanes : List (Lane (PhysOperator H) (PhysSink H))) (ss : List (Slot H)) (before free : List (List SeatMarks)) → HasOpened hash_of sink_words old.context.row_limit part.stages.items part.target ss before free lanes
       → IsPassing hash_of sink_words old.context.row_limit (schema_given x lanes) lanes ss free
-  pub schema : (lanes : List (Lane (PhysOperator H) (PhysSink H))) (ss : List (Slot H)) (before free : List (List SeatMarks)) → HasOpened hash_of sink_words old.context.row_limit part.stages.items part.basin ss before free lanes
+  pub schema : (lanes : List (Lane (PhysOperator H) (PhysSink H))) (ss : List (Slot H)) (before free : List (List SeatMarks)) → HasOpened hash_of sink_words old.context.row_limit part.stages.items part.target ss before free lanes
       → AllByRecursion (IsLeftOf (schema_given x lanes)) (left_of source)
   pub some : left_of source ≡ [] → ⊥
   pub few : length (left_rows (left_of source)) < 2 ^ 62
@@ -55,7 +55,7 @@ may_open {H = H} hash_of x m old source part may =
     let sound = fits.sound in
     let start = may.start in
     let sts = part.stages.items in
-    let b = part.basin in
+    let b = part.target in
     let os = operators_of sts in
     let ops = may.leg.operators in
     let stands = may.stands in

@@ -29,7 +29,7 @@ use Rattle.pipe_run.specs.Dealt.{works_in, nodes_in, acts_in, counts_in, IsOverI
 use Rattle.pipe_run.specs.Flushes.{rows_of_parts}
 use Rattle.pipe_run.specs.Stages.{operators_of}
 use Rattle.pipe_run.specs.declared.lane.Lane.{Lane}
-use Rattle.pipe_run.specs.declared.stage.Refusal.TheVariants as refusal
+use Rattle.pipe_run.specs.declared.stage.LaneFault.TheVariants as refusal
 use Rattle.pipe_slots.specs.JoinWords.{parts_in, part_in}
 use Rattle.pipe_slots.specs.SlotTables.{slot_at, seats_at}
 use Rattle.pipe_slots.specs.declared.phys_operator.PhysOperator.{PhysOperator}
@@ -89,7 +89,7 @@ broken_of hash_of limit from rows old new ss free node was over =
 module _ {H : Type 0} (hash_of : H → List ℕ → ℕ) (x : Settings H) where
   pub leg_broken : (old : Engine H) (source : PhysSource) (part : Part H) (p : Passage H (PhysSink H)) (seats : List (List SeatMarks)) (lanes : Lanes H) (slots : Slots H) (from : List Field) (n : ℕ) (m : Meaning) (w : World) (start : ℕ) (leg : Leg)
       → IsTaken (operators_of part.stages.items) old.slots slots p.shared.items seats
-      → HasOpened hash_of sink_words old.context.row_limit part.stages.items part.basin p.shared.items seats p.seats.items p.lanes.items
+      → HasOpened hash_of sink_words old.context.row_limit part.stages.items part.target p.shared.items seats p.seats.items p.lanes.items
       → ((first : ℕ) (ops : List ℕ) → nodes_in p.lanes.items ≡ first ∷ ops → from ≡ x.schema_at first)
       → Broken hash_of old.context.row_limit from (left_rows (left_of source)) p.lanes.items lanes p.shared.items p.seats.items n
       → SlotsOnce slots → AllOnce p.shared.items (acts_now hash_of lanes p.seats.items)
@@ -98,7 +98,7 @@ module _ {H : Type 0} (hash_of : H → List ℕ → ℕ) (x : Settings H) where
   leg_broken old source part p seats lanes slots from n m w start leg taken opened from_is broken slots_once stages_once idle fits stands brings above above_sink built =
       let sound = fits.sound in
       let sts = part.stages.items in
-      let b = part.basin in
+      let b = part.target in
       let os = operators_of sts in
       let ops = leg.operators in
       let limit = old.context.row_limit in

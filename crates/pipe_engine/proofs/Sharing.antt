@@ -9,7 +9,7 @@ use Rattle.pipe_driver.specs.Meaning.{Meaning, Into}
 use Rattle.pipe_driver.specs.Plans.{at_start}
 use Rattle.pipe_driver.specs.State.{World}
 use Rattle.pipe_driver.specs.Tables.{number_at}
-use Rattle.pipe_driver.specs.Ways.{occurs, IsSound}
+use Rattle.pipe_driver.specs.Ways.{occurs, IsSoundMeaning}
 use Rattle.pipe_passage.specs.LaneSeats.{sum_of, IsRest, HasSeats}
 use Rattle.pipe_slots.specs.SlotTables.{slot_at, seats_at}
 use Rattle.pipe_engine.specs.declared.engine.FedSink.{FedSink}
@@ -43,7 +43,7 @@ module _ {H : Type 0} (hash_of : H → List ℕ → ℕ) (x : Settings H) (m : M
   back_both P holds = subst (P shared.slots.items) seats (subst (OfTables P) tables holds)
 
   -- an engine that has what fits, fits
-  pub fits_shared : SharedFit x m e.context shared w → IsSound m → e.parts ≡ x.parts → 0 < x.parts → x.parts < 4294967295 → e.nodes ≡ m.ordered → length e.sinks.items ≡ suc e.nodes → Fits hash_of e x m w
+  pub fits_shared : SharedFit x m e.context shared w → IsSoundMeaning m → e.parts ≡ x.parts → 0 < x.parts → x.parts < 4294967295 → e.nodes ≡ m.ordered → length e.sinks.items ≡ suc e.nodes → Fits hash_of e x m w
   fits_shared is sound parts some few ordered places = record {
     sound = sound;
     parts = parts;

@@ -5,7 +5,7 @@ use Rattle.pipe_driver.specs.declared.branch.SinkAt.{SinkAt}
 use Rattle.pipe_driver.specs.Legs as plan
 use Rattle.pipe_driver.specs.Legs.{Way}
 use Rattle.pipe_driver.specs.Meaning.{Meaning, meaning_of}
-use Rattle.pipe_driver.specs.Ways.{IsSound}
+use Rattle.pipe_driver.specs.Ways.{IsSoundMeaning}
 use Rattle.pipe_driver.proofs.Tests.{eq-false, eq-true}
 use Rattle.pipe_plan.specs.Faults.{IsWellFormed}
 use Rattle.pipe_plan.specs.Plan.{Plan}
@@ -20,7 +20,7 @@ use Rattle.pipe_driver.specs.Runner.{AreBuilt}
 use Rattle.pipe_driver.specs.Runs.{parked_ways, Ready, Passes, sink_of}
 use Rattle.pipe_driver.specs.State.{World, Counts, HasPassed, HasTail, IsLowered, IsPassing, IsTail}
 use Rattle.pipe_driver.specs.Tables.{number_at}
-use Rattle.pipe_driver.specs.Within.{GivesMany, EndsWith}
+use Rattle.pipe_driver.specs.Within.{GivesMany, RunEndsWith}
 use Rattle.pipe_driver.specs.Words.{RunnerWords}
 use Rattle.pipe_driver.proofs.Counting.{closes_last, seen_all}
 use Rattle.pipe_driver.proofs.LegPasses.{leg_tables, leg_there, passed}
@@ -35,7 +35,7 @@ tail_there s [] old = (old ++ [], record { tails = []; is = refl; tail = refl })
 tail_there s (leg ∷ legs) old = let q : Way = record { start = s; legs = leg ∷ legs } in (old ++ q ∷ [], record { tails = q ∷ []; is = refl; tail = (q, refl, refl, refl) })
 
 pub pass_tells : {R S P : Type 0} (r : RunnerWords R S P) (k : Task) (p : PipeLine S P) (run : Run R S P) (todo : List (PipeLine S P)) (source : S) (leg : Leg P) (legs : List (Leg P)) (limit : ℕ) (e : RunError)
-    → IsSound k.m → Ready r k run p todo → p.source ≡ Some source → p.legs.items ≡ leg ∷ legs → RefusesLeg (r.brings source) (r.stands leg.part) (r.fits run.runner) limit e → Tells k.m limit e
+    → IsSoundMeaning k.m → Ready r k run p todo → p.source ≡ Some source → p.legs.items ≡ leg ∷ legs → RefusesLeg (r.brings source) (r.stands leg.part) (r.fits run.runner) limit e → Tells k.m limit e
 pass_tells r k p run todo source leg legs limit error.Stopped sound ready is_source first refuses = tt
 pass_tells r k p run todo source leg legs limit error.Memory sound ready is_source first refuses = tt
 pass_tells {S = S} {P = P} r k p run todo source leg legs limit (error.TooMany n) sound ready is_source first refuses = λ chains. (
@@ -54,18 +54,18 @@ pass_tells {S = S} {P = P} r k p run todo source leg legs limit (error.TooMany n
     many_wide m did.new (counts_as k run) one.operators one.sink tail.0 (ways_as o todo) limit n sound passing chains did.gives)
 
 -- in the world that is there
-there_tells : {R S P : Type 0} (r : RunnerWords R S P) (k : Task) (run : Run R S P) (now : List ℕ) (at : SinkAt) (todo : List (PipeLine S P)) (limit n : ℕ) → IsSound k.m → (is : Passes r k run now at todo) → ComesToMany k.m limit (Is is.w) n → Tells k.m limit (error.TooMany n)
+there_tells : {R S P : Type 0} (r : RunnerWords R S P) (k : Task) (run : Run R S P) (now : List ℕ) (at : SinkAt) (todo : List (PipeLine S P)) (limit n : ℕ) → IsSoundMeaning k.m → (is : Passes r k run now at todo) → ComesToMany k.m limit (Is is.w) n → Tells k.m limit (error.TooMany n)
 there_tells r k run now at todo limit n sound is did = λ chains. (
     let G : World → Type 0 = λ w. GivesMany k.m limit w n in
     many_wide k.m is.w (counts_as k run) now (sink_of k at) (parked_ways k run) (ways_as k.m.ordered todo) limit n sound is.passing chains (subst G did.is did.gives))
 
-pub leave_tells : {R S P : Type 0} (r : RunnerWords R S P) (k : Task) (run : Run R S P) (op : ℕ) (now : List ℕ) (at : SinkAt) (todo : List (PipeLine S P)) (limit : ℕ) (e : RunError) → IsSound k.m → Passes r k run (op ∷ now) at todo
+pub leave_tells : {R S P : Type 0} (r : RunnerWords R S P) (k : Task) (run : Run R S P) (op : ℕ) (now : List ℕ) (at : SinkAt) (todo : List (PipeLine S P)) (limit : ℕ) (e : RunError) → IsSoundMeaning k.m → Passes r k run (op ∷ now) at todo
     → RefusesNode op (r.fits run.runner) (r.before run.runner) limit e → Tells k.m limit e
 leave_tells r k run op now at todo limit error.Stopped sound is refuses = tt
 leave_tells r k run op now at todo limit error.Memory sound is refuses = tt
 leave_tells r k run op now at todo limit (error.TooMany n) sound is refuses = there_tells r k run (op ∷ now) at todo limit n sound is (refuses k.m is.w now at is.fits is.before)
 
-pub end_tells : {R S P : Type 0} (r : RunnerWords R S P) (k : Task) (run : Run R S P) (at : SinkAt) (todo : List (PipeLine S P)) (limit : ℕ) (e : RunError) → IsSound k.m → Passes r k run [] at todo → RefusesEnd (r.fits run.runner) (r.before run.runner) limit e → Tells k.m limit e
+pub end_tells : {R S P : Type 0} (r : RunnerWords R S P) (k : Task) (run : Run R S P) (at : SinkAt) (todo : List (PipeLine S P)) (limit : ℕ) (e : RunError) → IsSoundMeaning k.m → Passes r k run [] at todo → RefusesEnd (r.fits run.runner) (r.before run.runner) limit e → Tells k.m limit e
 end_tells r k run at todo limit error.Stopped sound is refuses = tt
 end_tells r k run at todo limit error.Memory sound is refuses = tt
 end_tells r k run at todo limit (error.TooMany n) sound is refuses = there_tells r k run [] at todo limit n sound is (refuses k.m is.w at is.fits is.before)
@@ -74,7 +74,7 @@ end_tells r k run at todo limit (error.TooMany n) sound is refuses = there_tells
 abbrev none_at : ℕ → (ℕ → ℕ) → ℕ → ℕ
 none_at op probers k = cond (k == op) 0 (probers k)
 
-pub settle_tells : {R S P : Type 0} (r : RunnerWords R S P) (k : Task) (run : Run R S P) (op left : ℕ) (now : List ℕ) (at : SinkAt) (todo : List (PipeLine S P)) (limit : ℕ) (e : RunError) → IsSound k.m → Passes r k run (op ∷ now) at todo
+pub settle_tells : {R S P : Type 0} (r : RunnerWords R S P) (k : Task) (run : Run R S P) (op left : ℕ) (now : List ℕ) (at : SinkAt) (todo : List (PipeLine S P)) (limit : ℕ) (e : RunError) → IsSoundMeaning k.m → Passes r k run (op ∷ now) at todo
     → number_at run.probers.left.items op ≡ left + 1 → left ≡ 0 → RefusesSettling op (r.fits run.runner) (r.before run.runner) limit e → Tells k.m limit e
 settle_tells r k run op left now at todo limit error.Stopped sound is here none refuses = tt
 settle_tells r k run op left now at todo limit error.Memory sound is here none refuses = tt
@@ -107,7 +107,7 @@ not_many m limit error.Memory not = tt
 
 -- ---- of a plan
 
-pub plan_tells : (plan : Plan) (root limit : ℕ) (e : RunError) → IsWellFormed plan root → Tells (meaning_of plan root) limit e → EndsWith limit plan root e
+pub plan_tells : (plan : Plan) (root limit : ℕ) (e : RunError) → IsWellFormed plan root → Tells (meaning_of plan root) limit e → RunEndsWith limit plan root e
 plan_tells plan root limit (error.TooMany n) well tells = wide_under plan root limit n (tells (chains_run plan root well))
 plan_tells plan root limit error.Stopped well tells = tt
 plan_tells plan root limit error.Memory well tells = tt

@@ -12,7 +12,7 @@ use Rattle.pipe_source.specs.declared.phys_source.PhysSource.{PhysSource}
 use Rattle.pipe_driver.specs.declared.branch.SinkAt.{SinkAt}
 use Rattle.pipe_driver.specs.declared.branch.SinkAt.TheVariants as at
 use Rattle.pipe_driver.specs.Meaning.{Meaning}
-use Rattle.pipe_driver.specs.Ways.{IsSinkOf, IsSound}
+use Rattle.pipe_driver.specs.Ways.{IsSinkOf, IsSoundMeaning}
 use Rattle.pipe_driver.specs.Tables.{number_at}
 use Rattle.pipe_driver.specs.Runner.{Finalizes}
 use Rattle.pipe_driver.specs.Lines.{Task}
@@ -68,7 +68,7 @@ one_supplied x m workers n v source staging sort brings one =
 
 -- only a sort ends as a source, and what waited for it goes on
 pub noted_sort : {H : Type 0} (hash_of : H → List ℕ → ℕ) (x : Settings H) (k : Task) (v : Staging) (workers : ℕ) (old : LineRun H) (runner : Engine H) (parked : Vec (Line H)) (a : SinkAt) (count : ℕ) (source : PhysSource) (q : Line H) (todo : List (Line H)) (events : List Event)
-    → IsStagingOf x k.m workers v → IsSound k.m → Feeds (engine_words hash_of x) k old a todo → number_at old.counts.left.items count ≡ 0 → IsSinkOf k.m (sink_of k a) a → count ≡ k.number (sink_of k a)
+    → IsStagingOf x k.m workers v → IsSoundMeaning k.m → Feeds (engine_words hash_of x) k old a todo → number_at old.counts.left.items count ≡ 0 → IsSinkOf k.m (sink_of k a) a → count ≡ k.number (sink_of k a)
     → Finalizes (engine_words hash_of x).brings a ((engine_words hash_of x).fits old.runner) ((engine_words hash_of x).fits runner) (Source source) → IsOneFrame source
     → Unparks (node_of a) q old.parked.items parked.items → NotedFed v k old a todo events
     → NotedBefore v k (run_with runner parked old.counts old.probers) (record { start = q.start; source = Some source; legs = q.legs }) todo (events ++ closing a)

@@ -23,7 +23,7 @@ use Rattle.pipe_chain.specs.declared.operator.Operator.{Ghosts as OperatorWords}
 use Rattle.pipe_driver.specs.declared.branch.SinkAt.{SinkAt}
 use Rattle.pipe_driver.specs.declared.branch.SinkAt.TheVariants as at
 use Rattle.pipe_driver.specs.Meaning.{Meaning}
-use Rattle.pipe_run.specs.declared.stage.Basin.{Basin}
+use Rattle.pipe_run.specs.declared.stage.SinkStage.{SinkStage}
 use Rattle.pipe_run.specs.declared.stage.Stage.{Stage}
 use Rattle.pipe_slots.specs.declared.phys_operator.PhysOperator.{PhysOperator}
 use Rattle.pipe_slots.specs.declared.slot.Slot.{Slot}
@@ -259,7 +259,7 @@ frame_order rows (Frame left) whole is of = is.0 ∙ of
 frame_order rows (Union supply) whole is of = absurd of
 frame_order rows (ReProject supply) whole is of = absurd of
 
-no_operators : {H : Type 0} (x : Settings H) (m : Meaning) (start : ℕ) (ops : List ℕ) (a : SinkAt) (b : Basin (PhysSink H)) → AreStagesOf x m start [] ops a b → (ops ≡ []) × IsSinkOf x m start a b.sink
+no_operators : {H : Type 0} (x : Settings H) (m : Meaning) (start : ℕ) (ops : List ℕ) (a : SinkAt) (b : SinkStage (PhysSink H)) → AreStagesOf x m start [] ops a b → (ops ≡ []) × IsSinkOf x m start a b.sink
 no_operators x m start [] a b are = (refl, are.1)
 no_operators x m start (n ∷ ops) a b are = absurd are
 
@@ -280,7 +280,7 @@ pub root_order : {H : Type 0} (x : Settings H) (m : Meaning) (k : PhysSink H) �
 root_order {H = H} x m k set ends = let E : SinkSetting H → Type 0 = EndsAt x m at.Ordered in root_due x m k (subst E (sym set) ends)
 
 -- what a leg keeps: the rows that its lanes hold
-pub frame_whole : {H : Type 0} (x : Settings H) (m : Meaning) (start : ℕ) (source : PhysSource) (a : SinkAt) (sts : List (Stage (PhysOperator H))) (ops above : List ℕ) (b : Basin (PhysSink H)) (frame kept : Option Table) (held : List Row)
+pub frame_whole : {H : Type 0} (x : Settings H) (m : Meaning) (start : ℕ) (source : PhysSource) (a : SinkAt) (sts : List (Stage (PhysOperator H))) (ops above : List ℕ) (b : SinkStage (PhysSink H)) (frame kept : Option Table) (held : List Row)
     → HasFrame source frame → IsKeptFrame a sts frame kept → AreStagesOf x m start sts ops a b → above ≡ ops → (sts ≡ [] → SameBag (left_rows (left_of source)) held) → IsWhole above held kept
 frame_whole x m start source at.Ordered [] ops above b None kept held has is are above_is same = let P : Option Table → Type 0 = IsWhole above held in subst P (sym is) tt
 frame_whole x m start source at.Ordered [] ops above b (Some frame) kept held has is are above_is same =
@@ -290,7 +290,7 @@ frame_whole x m start source at.Ordered (st ∷ sts) ops above b frame kept held
 frame_whole x m start source (at.Sort n) sts ops above b frame kept held has is are above_is same = let P : Option Table → Type 0 = IsWhole above held in subst P (sym is) tt
 frame_whole x m start source (at.Build n) sts ops above b frame kept held has is are above_is same = let P : Option Table → Type 0 = IsWhole above held in subst P (sym is) tt
 
-frame_of_root : {H : Type 0} (x : Settings H) (m : Meaning) (start : ℕ) (source : PhysSource) (b : Basin (PhysSink H)) (frame : Option Table) → HasFrame source frame → AllByRecursion (HasSchemaLeft (x.schema_at start)) (left_of source) → IsSinkOf x m start at.Ordered b.sink → IsOfRoot x frame
+frame_of_root : {H : Type 0} (x : Settings H) (m : Meaning) (start : ℕ) (source : PhysSource) (b : SinkStage (PhysSink H)) (frame : Option Table) → HasFrame source frame → AllByRecursion (HasSchemaLeft (x.schema_at start)) (left_of source) → IsSinkOf x m start at.Ordered b.sink → IsOfRoot x frame
 frame_of_root x m start source b None has all sink = tt
 frame_of_root {H = H} x m start source b (Some frame) has all sink =
     let E : SinkSetting H → Type 0 = EndsAt x m at.Ordered in
@@ -301,14 +301,14 @@ in_order m start source sts frame kept None has is sorted begins = tt
 in_order m start source [] frame kept (Some due) has is sorted begins = ap whole_rows is ∙ frame_order (m.rows start) source frame has (sorted begins.0) ∙ begins.2
 in_order m start source (st ∷ sts) frame kept (Some due) has is sorted begins = let z : st ∷ sts ≡ [] = begins.1 in cc
 
-kept_of_root : {H : Type 0} (x : Settings H) (m : Meaning) (start : ℕ) (source : PhysSource) (sts : List (Stage (PhysOperator H))) (ops : List ℕ) (b : Basin (PhysSink H)) (frame kept : Option Table) → HasFrame source frame → IsKeptFrame at.Ordered sts frame kept → AllByRecursion (HasSchemaLeft (x.schema_at start)) (left_of source) → AreStagesOf x m start sts ops at.Ordered b → IsOfRoot x kept
+kept_of_root : {H : Type 0} (x : Settings H) (m : Meaning) (start : ℕ) (source : PhysSource) (sts : List (Stage (PhysOperator H))) (ops : List ℕ) (b : SinkStage (PhysSink H)) (frame kept : Option Table) → HasFrame source frame → IsKeptFrame at.Ordered sts frame kept → AllByRecursion (HasSchemaLeft (x.schema_at start)) (left_of source) → AreStagesOf x m start sts ops at.Ordered b → IsOfRoot x kept
 kept_of_root x m start source [] ops b frame kept has is all are =
     let P : Option Table → Type 0 = IsOfRoot x in
     subst P (sym is) (frame_of_root x m start source b frame has all (no_operators x m start ops at.Ordered b are).1)
 kept_of_root x m start source (st ∷ sts) ops b frame kept has is all are = let P : Option Table → Type 0 = IsOfRoot x in subst P (sym is) tt
 
 -- and it may be there
-pub frame_place : {H : Type 0} (x : Settings H) (m : Meaning) (start : ℕ) (source : PhysSource) (a : SinkAt) (sts : List (Stage (PhysOperator H))) (ops : List ℕ) (b : Basin (PhysSink H)) (frame kept : Option Table)
+pub frame_place : {H : Type 0} (x : Settings H) (m : Meaning) (start : ℕ) (source : PhysSource) (a : SinkAt) (sts : List (Stage (PhysOperator H))) (ops : List ℕ) (b : SinkStage (PhysSink H)) (frame kept : Option Table)
     → HasFrame source frame → IsKeptFrame a sts frame kept → AreStagesOf x m start sts ops a b → Brings source x m start → KeepsOrder x m start sts a → IsWholeAt x a kept
 frame_place x m start source at.Ordered sts ops b frame kept has is are brings begins = (kept_of_root x m start source sts ops b frame kept has is brings.schema are, in_order m start source sts frame kept x.order has is brings.order begins)
 frame_place x m start source (at.Sort n) sts ops b frame kept has is are brings begins = is

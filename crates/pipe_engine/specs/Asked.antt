@@ -4,13 +4,13 @@ use Rattle.pipe_schema.specs.Counts.{Counts, last_count}
 use Rattle.pipe_schema.specs.declared.stop.StopCheck.{Ghosts as StopWords}
 use Rattle.pipe_run.specs.declared.halt.Halt.{Halt}
 use Rattle.pipe_run.specs.declared.halt.Halt.TheVariants as halt
-use Rattle.pipe_run.specs.declared.stage.Refusal.{Refusal}
-use Rattle.pipe_run.specs.declared.stage.Refusal.TheVariants as refusal
+use Rattle.pipe_run.specs.declared.stage.LaneFault.{LaneFault}
+use Rattle.pipe_run.specs.declared.stage.LaneFault.TheVariants as refusal
 use Rattle.pipe_driver.specs.declared.error.RunError.{RunError}
 use Rattle.pipe_driver.specs.declared.error.RunError.TheVariants as error
 
 -- why a run ends, by why its lanes ended early
-abbrev pub refusal_of : Refusal → RunError
+abbrev pub refusal_of : LaneFault → RunError
 refusal_of (refusal.TooMany node) = error.TooMany node
 refusal_of refusal.Memory = error.Memory
 

@@ -5,7 +5,7 @@ use Rattle.pipe_schema.specs.Rows.{Same}
 use Rattle.pipe_plan.specs.PlanRows.{rows_of}
 use Rattle.pipe_driver.specs.declared.branch.SinkAt.{SinkAt}
 use Rattle.pipe_driver.specs.declared.branch.SinkAt.TheVariants as places
-use Rattle.pipe_driver.specs.Ways.{occurs, IsSinkOf, IsSound}
+use Rattle.pipe_driver.specs.Ways.{occurs, IsSinkOf, IsSoundMeaning}
 use Rattle.pipe_driver.specs.declared.pipe_line.PipeLine.{PipeLine}
 use Rattle.pipe_driver.specs.declared.run.Run.{Run}
 use Rattle.pipe_driver.specs.declared.run.Fed.{Fed}
@@ -18,7 +18,7 @@ use Rattle.pipe_driver.specs.Lines.{counts_as}
 use Rattle.pipe_driver.specs.Runs.{sink_of, Between, Ready, Passes, Feeds, HasLed, HasRun, IsNext, IsAnswer, KeepsRoot, HasStopped}
 use Rattle.pipe_driver.specs.Fronts.{FedMore, FedOn, HasRunFront, IsOnTheWayBy}
 use Rattle.pipe_driver.specs.Plans.{StandFor}
-use Rattle.pipe_driver.specs.Within.{AllWithin, EndsWith}
+use Rattle.pipe_driver.specs.Within.{AllWithin, RunEndsWith}
 use Rattle.pipe_driver.specs.declared.error.RunError.{RunError}
 use Rattle.pipe_source.specs.declared.phys_source.PhysSource.{PhysSource}
 use Rattle.pipe_engine.specs.Engine.{engine_words, sink_at, OthersStay}
@@ -48,7 +48,7 @@ ForEach {H = H} P Q = (k : Known H) → P k → Q k
 -- a pipeline of the plan may go on
 pub record CanGo {H : Type 0} (hash_of : H → List ℕ → ℕ) (run : LineRun H) (p : Line H)
     (todo : List (Line H)) (k : Known H) : Type 0 where
-  pub sound : IsSound k.task.m
+  pub sound : IsSoundMeaning k.task.m
   pub ready : Ready (words_of hash_of k) k.task run p todo
 
 -- its first leg has come to its sink
@@ -59,7 +59,7 @@ Led hash_of p old new todo leg k = HasLed (words_of hash_of k) k.task p old new 
 -- a leg isn't counted at these nodes and its sink
 pub record CanPass {H : Type 0} (hash_of : H → List ℕ → ℕ) (run : LineRun H) (now : List ℕ)
     (at : SinkAt) (todo : List (Line H)) (k : Known H) : Type 0 where
-  pub sound : IsSound k.task.m
+  pub sound : IsSoundMeaning k.task.m
   pub passes : Passes (words_of hash_of k) k.task run now at todo
 
 abbrev pub IsLeftAt : {H : Type 0} → (hash_of : H → List ℕ → ℕ) → LineRun H → List ℕ → SinkAt →
@@ -74,7 +74,7 @@ Ran hash_of p old new todo fed k = HasRun (words_of hash_of k) k.task p old new 
 -- a leg has fed a sink of this number
 pub record CanClose {H : Type 0} (hash_of : H → List ℕ → ℕ) (run : LineRun H) (fed : Fed)
     (todo : List (Line H)) (k : Known H) : Type 0 where
-  pub sound : IsSound k.task.m
+  pub sound : IsSoundMeaning k.task.m
   pub feeds : Feeds (words_of hash_of k) k.task run fed.at todo
   pub at : IsSinkOf k.task.m (sink_of k.task fed.at) fed.at
   pub number : fed.count ≡ k.task.number (sink_of k.task fed.at)
@@ -147,7 +147,7 @@ pub record IsGoing {H : Type 0} (hash_of : H → List ℕ → ℕ) (first : Line
 -- the next branch may begin
 pub record CanBegin {H : Type 0} (hash_of : H → List ℕ → ℕ) (run : LineRun H)
     (todo : List (Line H)) (k : Known H) : Type 0 where
-  pub sound : IsSound k.task.m
+  pub sound : IsSoundMeaning k.task.m
   pub between : Between (words_of hash_of k) k.task run todo
 
 -- between two branches of a front part
@@ -168,14 +168,14 @@ RanFront hash_of all old new later answer k =
 -- some branch that is left feeds the root's sink
 pub record CanRun {H : Type 0} (hash_of : H → List ℕ → ℕ) (run : LineRun H) (todo : List (Line H))
     (k : Known H) : Type 0 where
-  pub sound : IsSound k.task.m
+  pub sound : IsSoundMeaning k.task.m
   pub between : Between (words_of hash_of k) k.task run todo
   pub root : 0 < (counts_as k.task run).sinks k.task.m.ordered
 
 -- all branches have run but these
 pub record HasRunTo {H : Type 0} (hash_of : H → List ℕ → ℕ) (old run : LineRun H)
     (todo : List (Line H)) (answer : Option Table) (k : Known H) : Type 0 where
-  pub sound : IsSound k.task.m
+  pub sound : IsSoundMeaning k.task.m
   pub between : Between (words_of hash_of k) k.task run todo
   pub root : IsAnswer k.task old run answer
 
@@ -239,4 +239,4 @@ abbrev pub EndsPlan : {H : Type 0} → (hash_of : H → List ℕ → ℕ) → Li
     RunError → Type 0
 EndsPlan {H = H} hash_of run pipelines e =
     (asked : Asked H) → StandFor (engine_words hash_of asked.settings) asked.ask run pipelines
-    → EndsWith run.runner.context.row_limit asked.ask.plan asked.ask.root e
+    → RunEndsWith run.runner.context.row_limit asked.ask.plan asked.ask.root e

@@ -15,7 +15,7 @@ use Rattle.pipe_driver.specs.declared.branch.SinkAt.TheVariants as at
 use Rattle.pipe_driver.specs.Meaning.{Meaning, OutOf, Into}
 use Rattle.pipe_driver.specs.Legs.{sink_node}
 use Rattle.pipe_driver.specs.Ways as ways
-use Rattle.pipe_driver.specs.Ways.{occurs, IsSound}
+use Rattle.pipe_driver.specs.Ways.{occurs, IsSoundMeaning}
 use Rattle.pipe_driver.specs.State.{World, Waits, Has}
 use Rattle.pipe_driver.specs.State as state
 use Rattle.pipe_driver.specs.Tables.{number_at}
@@ -292,7 +292,7 @@ pub record IsAdded (node rows limit : ℕ) (old new : List ℕ) : Type 0 where
 
 pub record Fits {H : Type 0} (hash_of : H → List ℕ → ℕ) (engine : Engine H) (x : Settings H)
     (m : Meaning) (w : World) : Type 0 where
-  pub sound : IsSound m
+  pub sound : IsSoundMeaning m
   pub parts : engine.parts ≡ x.parts
   pub some : 0 < x.parts
   pub few : x.parts < 4294967295

@@ -77,8 +77,8 @@ IsTold hash_of slots p e error.Memory = Unit {0}
 
 -- ---- what an error says of each plan
 
-abbrev pub IsRefused : {H : Type 0} → (limit : ℕ) → RunError → Known H → Type 0
-IsRefused limit e k = Tells k.task.m limit e
+abbrev pub TellsEachPlan : {H : Type 0} → (limit : ℕ) → RunError → Known H → Type 0
+TellsEachPlan limit e k = Tells k.task.m limit e
 
 -- it isn't one of a node's rows
 abbrev pub IsNotMany : RunError → Type 0

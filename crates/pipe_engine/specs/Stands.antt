@@ -10,7 +10,7 @@ use Rattle.pipe_driver.specs.Meaning.{Meaning}
 use Rattle.pipe_driver.specs.Legs.{Leg, sink_node}
 use Rattle.pipe_table.specs.Spec.{IsSpec, settings_of, built_schema}
 use Rattle.pipe_table.specs.declared.spec.JoinSpec.{JoinSpec}
-use Rattle.pipe_run.specs.declared.stage.Basin.{Basin}
+use Rattle.pipe_run.specs.declared.stage.SinkStage.{SinkStage}
 use Rattle.pipe_run.specs.declared.stage.Stage.{Stage}
 use Rattle.pipe_slots.specs.Kinds.{kind_of}
 use Rattle.pipe_slots.specs.JoinWords.{takes_join, output_join}
@@ -118,7 +118,7 @@ pub record IsSinkOf {H : Type 0} (x : Settings H) (m : Meaning) (given : ℕ) (a
 
 -- stages behind node `given`, each given rows of the one before it, up to the sink
 abbrev pub AreStagesOf : {H : Type 0} → Settings H → Meaning → (given : ℕ) →
-    List (Stage (PhysOperator H)) → (ops : List ℕ) → SinkAt → Basin (PhysSink H) → Type 0
+    List (Stage (PhysOperator H)) → (ops : List ℕ) → SinkAt → SinkStage (PhysSink H) → Type 0
 AreStagesOf x m given [] [] at b =
     (b.node ≡ given) × IsSinkOf x m given at b.sink
 AreStagesOf x m given [] (n ∷ ops) at b = ⊥
@@ -144,5 +144,5 @@ pub record StandsFor {H : Type 0} (part : Part H) (x : Settings H) (m : Meaning)
     (leg : Leg) : Type 0 where
   pub at : part.at ≡ leg.at
   pub sink : leg.sink ≡ sink_node m.ordered leg.at
-  pub stages : AreStagesOf x m start part.stages.items leg.operators part.at part.basin
+  pub stages : AreStagesOf x m start part.stages.items leg.operators part.at part.target
   pub order : KeepsOrder x m start part.stages.items part.at

@@ -23,7 +23,7 @@ fn node_given<O, K>(lane: &Lane<O, K>) -> u32
     ensures { result ≡ first_node (lane_nodes lane.now) }
 {
     if lane.stages.is_empty() {
-        return lane.basin.node;
+        return lane.target.node;
     }
     lane.stages[0].node
 }

@@ -9,7 +9,7 @@ ghost use Rattle.pipe_engine.specs.Drives.{ForSome, ForEach, CanGo, Led, CanPass
 ghost use Rattle.pipe_engine.specs.Drives.{AnswersAt, FedAlone, HasLowered};
 ghost use Rattle.pipe_engine.specs.Journals.{Keeps, NotedAt, NotedGoing, NotedAfter, NotedThen};
 ghost use Rattle.pipe_engine.specs.Paced.{HasKeptPace, TakesPaced, most_of, rows_due_from};
-ghost use Rattle.pipe_engine.specs.Refused.{IsNotMany, IsRefused};
+ghost use Rattle.pipe_engine.specs.Refused.{IsNotMany, TellsEachPlan};
 
 use crate::engine::{PlanLine, PlanRun, Tools};
 use crate::journal::close_place;
@@ -41,7 +41,7 @@ fn pass<R: Threads + Sync, H: KeyHasher, C: StopCheck, G: Gate + Sync>(
         (Keeps run.old (NotedGoing run.old current pipelines.now.items)
         (NotedAt run.new pipelines.now.items))) }
     ensures err { IfErr result (λ e. ForEach (CanGo H.hash_of run.old current pipelines.now.items)
-        (IsRefused run.old.runner.context.row_limit e)) }
+        (TellsEachPlan run.old.runner.context.row_limit e)) }
     ensures asked { WasAsked C.StopCheck 0 stop.old stop.new result }
     ensures paced { OnOk result (TakesPaced (most_of run.old.runner.context)
         (rows_due_from current.source) 0 (C.asked stop.old) (C.asked stop.new)) }
@@ -96,7 +96,7 @@ fn leave<R: Threads + Sync, H: KeyHasher, C: StopCheck, G: Gate + Sync>(
         (NotedAt run.new pipelines.now.items))) }
     ensures err { IfErr result (λ e. ForEach
         (CanPass H.hash_of run.old (drop place operators.now) at pipelines.now.items)
-        (IsRefused run.old.runner.context.row_limit e)) }
+        (TellsEachPlan run.old.runner.context.row_limit e)) }
     ensures parked { OnOk result (run.new.parked ≡ run.old.parked) }
     ensures counts { OnOk result (run.new.counts ≡ run.old.counts) }
     ensures asked { WasAsked C.StopCheck 0 stop.old stop.new result }
@@ -131,7 +131,7 @@ pub(crate) fn feed<R: Threads + Sync, H: KeyHasher, C: StopCheck, G: Gate + Sync
         (Keeps run.old (NotedGoing run.old current pipelines.now.items)
         (NotedAfter run.new fed.at pipelines.now.items))) }
     ensures err { IfErr result (λ e. ForEach (CanGo H.hash_of run.old current pipelines.now.items)
-        (IsRefused run.old.runner.context.row_limit e)) }
+        (TellsEachPlan run.old.runner.context.row_limit e)) }
     ensures asked { WasAsked C.StopCheck 1 stop.old stop.new result }
     ensures paced { OnOk result (TakesPaced (most_of run.old.runner.context)
         (rows_due_from current.source) 0 (C.asked stop.old) (C.asked stop.new)) }
@@ -181,7 +181,7 @@ fn leave_all<R: Threads + Sync, H: KeyHasher, C: StopCheck, G: Gate + Sync>(
         (NotedAt run.new pipelines.now.items))) }
     ensures err { IfErr result (λ e. ForEach
         (CanPass H.hash_of run.old operators.now at pipelines.now.items)
-        (IsRefused run.old.runner.context.row_limit e)) }
+        (TellsEachPlan run.old.runner.context.row_limit e)) }
     ensures parked { OnOk result (run.new.parked ≡ run.old.parked) }
     ensures counts { OnOk result (run.new.counts ≡ run.old.counts) }
     ensures asked { WasAsked C.StopCheck 0 stop.old stop.new result }

@@ -2,7 +2,7 @@
 
 use pipe_driver::SinkAt;
 use pipe_index::HashesKeys;
-use pipe_run::{Basin, Stage};
+use pipe_run::{SinkStage, Stage};
 use pipe_slots::{PhysOperator, PhysSink};
 
 /// The operators of a leg with the nodes whose rows they are given, and its sink, all of which have done nothing. Each
@@ -11,7 +11,7 @@ use pipe_slots::{PhysOperator, PhysSink};
 pub struct Part<H: HashesKeys> {
     pub at: SinkAt,
     pub stages: Vec<Stage<PhysOperator<H>>>,
-    pub basin: Basin<PhysSink<H>>,
+    pub target: SinkStage<PhysSink<H>>,
     /// The nodes whose rows its source's frames have, in order.
     pub scans: Vec<u32>,
 }

@@ -10,7 +10,7 @@ ghost use Rattle.pipe_engine.specs.Drives.{IsRootAnswer, HasRootSchema, KeepsOpe
 ghost use Rattle.pipe_engine.specs.Journals.{Keeps, NotedAt, NotedGoing, WroteWhole};
 ghost use Rattle.pipe_engine.specs.Paced.{HasKeptPace, TakesPaced};
 ghost use Rattle.pipe_engine.specs.Paced.{most_of, rows_due_from, rows_due_of};
-ghost use Rattle.pipe_engine.specs.Refused.{IsRefused};
+ghost use Rattle.pipe_engine.specs.Refused.{TellsEachPlan};
 ghost use Rattle.pipe_run.specs.Paced.{KeepsPace};
 
 use crate::driving::{close, feed};
@@ -47,7 +47,7 @@ fn run_way<R: Threads + Sync, H: KeyHasher, C: StopCheck, G: Gate + Sync>(
     ensures fed { OnOk result (ForEach (CanGo H.hash_of run.old first pipelines.now.items)
         (FedSinks first run.old run.new fed.old.items fed.new.items)) }
     ensures err { IfErr result (λ e. ForEach (CanGo H.hash_of run.old first pipelines.now.items)
-        (IsRefused run.old.runner.context.row_limit e)) }
+        (TellsEachPlan run.old.runner.context.row_limit e)) }
     ensures frame { IfOk result (λ answer. ForEach
         (CanGo H.hash_of run.old first pipelines.now.items) (IsRootAnswer answer)) }
     ensures falls { OnOk result ((k : ℕ) → number_at run.new.counts.left.items k
@@ -103,7 +103,7 @@ pub fn run_front<R: Threads + Sync, H: KeyHasher, C: StopCheck, G: Gate + Sync>(
         (NotedAt run.new pipelines.new.items))) }
     ensures err { IfErr result (λ e. ForEach
         (CanBegin H.hash_of run.old (first ∷ pipelines.old.items))
-        (IsRefused run.old.runner.context.row_limit e)) }
+        (TellsEachPlan run.old.runner.context.row_limit e)) }
     ensures frame { IfOk result (λ answer. ForEach
         (CanBegin H.hash_of run.old (first ∷ pipelines.old.items)) (IsRootAnswer answer)) }
     ensures lowers { IfOk result (λ answer. ForEach
@@ -158,7 +158,7 @@ pub(crate) fn run_fronts<R: Threads + Sync, H: KeyHasher, C: StopCheck, G: Gate 
     ensures journal { OnOk result (ForEach (CanRun H.hash_of run pipelines.items)
         (Keeps run (NotedAt run pipelines.items) (WroteWhole journal.new.items))) }
     ensures err { IfErr result (λ e. ForEach (CanRun H.hash_of run pipelines.items)
-        (IsRefused run.runner.context.row_limit e)) }
+        (TellsEachPlan run.runner.context.row_limit e)) }
     ensures asked { OnOk result (Rises (C.asked stop.old) (C.asked stop.new)) }
     ensures yes { Counts (stops result) (C.yes stop.old) (C.yes stop.new) }
     ensures last { result ≡ Err RunError.Stopped → C.last_answer stop.new ≡ true }

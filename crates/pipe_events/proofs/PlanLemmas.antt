@@ -23,7 +23,7 @@ use Rattle.pipe_plan.specs.Swap.{swaps, swaps_by}
 use Rattle.pipe_events.specs.Stages.{Stages, Union, IsStages, IsBelow, GivesOneList, IsBuiltRight, is_built_by, stage_rows, rows, rows_at, rows_to}
 use Rattle.pipe_events.specs.Worlds.{Event, start}
 use Rattle.pipe_events.specs.Schedules.{AllAllowed, GivesTheRows}
-use Rattle.pipe_events.specs.PlanStages.{one_row, sorted_slice, stage_of, Setting, stages_of, IsSound, EveryScheduleOfAPlan, StagesHaveTheRows}
+use Rattle.pipe_events.specs.PlanStages.{one_row, sorted_slice, stage_of, Setting, stages_of, IsSoundPlan, EveryScheduleOfAPlan, StagesHaveTheRows}
 use Rattle.pipe_events.proofs.WalkLemmas.{walk_is, Decides-no}
 use Rattle.pipe_events.proofs.Tests.{any-stronger}
 use Rattle.pipe_events.proofs.Every.{every}
@@ -192,7 +192,7 @@ module _ (plan : Plan) (root : ℕ) (setting : Setting) where
   stage_built schema (node.Join left right left_on right_on options) = built_by options.how _
   stage_built schema (node.Sort input by options) = tt
 
-  module _ (sound : IsSound plan root setting) where
+  module _ (sound : IsSoundPlan plan root setting) where
     stage_one_list : (k : ℕ) → k < length plan.nodes → is_under plan.nodes root k ≡ true → (x : Node) → node_at plan.nodes k ≡ x → GivesOneList (rows stages) (stage_of plan.frames (schemas_to plan k) x)
     stage_one_list k inside under (node.DataFrameScan frame columns) e = tt
     stage_one_list k inside under (node.Filter input predicate) e = tt

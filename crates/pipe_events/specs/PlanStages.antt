@@ -89,7 +89,7 @@ abbrev pub SortsAlike : (List Row → List Row) → List Row → Type 0
 SortsAlike sort rows = (bag : List Row) → Same bag rows → sort bag ≡ sort rows
 
 -- What the check of a plan grants, and what a partition is
-pub record IsSound (plan : Plan) (root : ℕ) (setting : Setting) : Type 0 where
+pub record IsSoundPlan (plan : Plan) (root : ℕ) (setting : Setting) : Type 0 where
   pub rooted : root < length plan.nodes
   -- the inputs of a node are smaller numbers
   pub smaller : (k : ℕ) → k < length plan.nodes → is_under plan.nodes root k ≡ true →
@@ -105,7 +105,7 @@ pub record IsSound (plan : Plan) (root : ℕ) (setting : Setting) : Type 0 where
 -- the plan; after a complete list it has them
 abbrev pub EveryScheduleOfAPlan : Type 0
 EveryScheduleOfAPlan =
-    (plan : Plan) (root : ℕ) (setting : Setting) → IsSound plan root setting →
+    (plan : Plan) (root : ℕ) (setting : Setting) → IsSoundPlan plan root setting →
     (events : List Event) → AllAllowed (stages_of plan root setting) start events →
     GivesTheRows (stages_of plan root setting) events (rows_of plan root)
 

@@ -8,15 +8,15 @@ use Rattle.pipe_driver.specs.Within as driver
 use Rattle.pipe_driver.specs.declared.error.RunError.{RunError}
 use Rattle.pipe_driver.specs.declared.error.RunError.TheVariants as run_error
 use Rattle.pipe_engine.specs.Asked as engine
-use Rattle.pipe_exec.specs.Evaluated.{EndsWith, error_of, stop_of}
+use Rattle.pipe_exec.specs.Evaluated.{PlanEndsWith, error_of, stop_of}
 
-ends_as : (limit : ℕ) (plan : Plan) (root : ℕ) (e : RunError) → driver.EndsWith limit plan root e → EndsWith limit plan root (error_of e)
+ends_as : (limit : ℕ) (plan : Plan) (root : ℕ) (e : RunError) → driver.RunEndsWith limit plan root e → PlanEndsWith limit plan root (error_of e)
 ends_as limit plan root (run_error.TooMany n) h = h
 ends_as limit plan root run_error.Stopped h = tt
 ends_as limit plan root run_error.Memory h = tt
 
-pub ends : (limit : ℕ) (plan : Plan) (root : ℕ) (e : RunError) (p : PipeError) → p ≡ error_of e → driver.EndsWith limit plan root e → EndsWith limit plan root p
-ends limit plan root e p is h = subst (EndsWith limit plan root) (sym is) (ends_as limit plan root e h)
+pub ends : (limit : ℕ) (plan : Plan) (root : ℕ) (e : RunError) (p : PipeError) → p ≡ error_of e → driver.RunEndsWith limit plan root e → PlanEndsWith limit plan root p
+ends limit plan root e p is h = subst (PlanEndsWith limit plan root) (sym is) (ends_as limit plan root e h)
 
 stop_as : (e : RunError) → engine.stop_of e ≡ stop_of (error_of e)
 stop_as (run_error.TooMany n) = refl

@@ -17,17 +17,17 @@ pub record HasRowsOf (plan : Plan) (n : ℕ) (rows : List Row) : Type 0 where
   pub in_order : sorts_rows (node_at plan.nodes n) ≡ true → rows ≡ rows_of plan n
 
 -- what an error says of a plan that is well-formed: no memory, a stop, or a node with too many rows
-abbrev pub EndsWith : ℕ → Plan → ℕ → PipeError → Type 0
-EndsWith limit plan root error.BadConfig = ⊥
-EndsWith limit plan root (error.BadNode n) = ⊥
-EndsWith limit plan root (error.UnknownColumn n name) = ⊥
-EndsWith limit plan root (error.DuplicateName n name) = ⊥
-EndsWith limit plan root (error.TypeMismatch n) = ⊥
-EndsWith limit plan root (error.BadJoin n) = ⊥
-EndsWith limit plan root (error.BadSort n) = ⊥
-EndsWith limit plan root (error.TooMany n) = HasTooMany limit plan root n
-EndsWith limit plan root error.Stopped = Unit {0}
-EndsWith limit plan root error.Memory = Unit {0}
+abbrev pub PlanEndsWith : ℕ → Plan → ℕ → PipeError → Type 0
+PlanEndsWith limit plan root error.BadConfig = ⊥
+PlanEndsWith limit plan root (error.BadNode n) = ⊥
+PlanEndsWith limit plan root (error.UnknownColumn n name) = ⊥
+PlanEndsWith limit plan root (error.DuplicateName n name) = ⊥
+PlanEndsWith limit plan root (error.TypeMismatch n) = ⊥
+PlanEndsWith limit plan root (error.BadJoin n) = ⊥
+PlanEndsWith limit plan root (error.BadSort n) = ⊥
+PlanEndsWith limit plan root (error.TooMany n) = HasTooMany limit plan root n
+PlanEndsWith limit plan root error.Stopped = Unit {0}
+PlanEndsWith limit plan root error.Memory = Unit {0}
 
 -- why pipelines weren't run to their end, as an error of the plan
 abbrev pub error_of : RunError → PipeError

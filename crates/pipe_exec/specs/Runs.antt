@@ -5,17 +5,17 @@ use Rattle.pipe_plan.specs.Plan.{Plan}
 use Rattle.pipe_plan.specs.declared.config.PipeConfig.{PipeConfig}
 use Rattle.pipe_plan.specs.declared.error.PipeError.{PipeError}
 use Rattle.pipe_plan.specs.declared.error.PipeError.TheVariants as error
-use Rattle.pipe_exec.specs.Evaluated.{EndsWith}
-use Rattle.pipe_exec.specs.Sound.{CheckCauses, IsSound}
+use Rattle.pipe_exec.specs.Evaluated.{PlanEndsWith}
+use Rattle.pipe_exec.specs.Sound.{CheckCauses, IsSoundRun}
 
 -- a job may be run, and ends with this error: by no memory, a stop, or a node with more rows than its limit
-pub record Fails (plan : Plan) (root : ℕ) (config : PipeConfig) (e : PipeError) : Type 0 where
-  pub sound : IsSound plan root config
-  pub ends : EndsWith config.row_limit plan root e
+pub record RunFails (plan : Plan) (root : ℕ) (config : PipeConfig) (e : PipeError) : Type 0 where
+  pub sound : IsSoundRun plan root config
+  pub ends : PlanEndsWith config.row_limit plan root e
 
 -- what an error of a run says of a job
 abbrev pub RunCauses : Plan → ℕ → PipeConfig → PipeError → Type 0
-RunCauses plan root config e = CheckCauses plan root config e ⊎ Fails plan root config e
+RunCauses plan root config e = CheckCauses plan root config e ⊎ RunFails plan root config e
 
 abbrev pub IsMemory : PipeError → Type 0
 IsMemory e = e ≡ error.Memory

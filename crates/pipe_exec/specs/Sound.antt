@@ -9,7 +9,7 @@ use Rattle.pipe_plan.specs.declared.error.PipeError.{PipeError}
 use Rattle.pipe_plan.specs.declared.error.PipeError.TheVariants as error
 
 -- the numbers are good, and the plan is well-formed
-pub record IsSound (plan : Plan) (root : ℕ) (config : PipeConfig) : Type 0 where
+pub record IsSoundRun (plan : Plan) (root : ℕ) (config : PipeConfig) : Type 0 where
   pub numbers : IsConfig config
   pub formed : IsWellFormed plan root
 
@@ -24,9 +24,9 @@ pub record HasFault (plan : Plan) (root : ℕ) (config : PipeConfig) (e : PipeEr
   pub told : check_fault plan root ≡ Some e
 
 -- the error by which a job is refused
-abbrev pub IsRefused : Plan → ℕ → PipeConfig → PipeError → Type 0
-IsRefused plan root config e = HasBadNumber config e ⊎ HasFault plan root config e
+abbrev pub IsRefusedRun : Plan → ℕ → PipeConfig → PipeError → Type 0
+IsRefusedRun plan root config e = HasBadNumber config e ⊎ HasFault plan root config e
 
 -- what an error of the check says of a job: why it is refused, or want of memory
 abbrev pub CheckCauses : Plan → ℕ → PipeConfig → PipeError → Type 0
-CheckCauses plan root config e = (e ≡ error.Memory) ⊎ IsRefused plan root config e
+CheckCauses plan root config e = (e ≡ error.Memory) ⊎ IsRefusedRun plan root config e

@@ -2,7 +2,7 @@
 
 ghost use Rattle.std.specs.Prelude.{◌≡◌, IfOk, IfErr, IsErrOf, OnOk};
 ghost use Rattle.pipe_plan.specs.Plan.{plan_of};
-ghost use Rattle.pipe_exec.specs.Sound.{CheckCauses, IsSound};
+ghost use Rattle.pipe_exec.specs.Sound.{CheckCauses, IsSoundRun};
 
 use crate::numbers::is_config;
 use pipe_check::{CheckedPlan, check_plan};
@@ -19,7 +19,7 @@ pub fn check_job<'a>(
     config: &PipeConfig,
 ) -> Result<CheckedPlan<'a>, PipeError>
     ensures plan { IfOk result (λ plan. plan ≡ record { arena = arena.now; root = root }) }
-    ensures sound { OnOk result (IsSound (plan_of arena.now) root config.now) }
+    ensures sound { OnOk result (IsSoundRun (plan_of arena.now) root config.now) }
     ensures err { IfErr result (CheckCauses (plan_of arena.now) root config.now) }
     ensures unstopped { IsErrOf result PipeError.Stopped → ⊥ }
 {

@@ -7,7 +7,7 @@ ghost use Rattle.pipe_plan.specs.Schemas.{schema_of};
 ghost use Rattle.pipe_run.specs.Paced.{KeepsPace};
 ghost use Rattle.pipe_driver.specs.Within.{AllWithin};
 ghost use Rattle.pipe_lines.specs.Journals.{IsJournalOf};
-ghost use Rattle.pipe_exec.specs.Evaluated.{EndsWith, HasRowsOf, error_of, stops};
+ghost use Rattle.pipe_exec.specs.Evaluated.{PlanEndsWith, HasRowsOf, error_of, stops};
 
 use pipe_check::CheckedPlan;
 use pipe_driver::RunError;
@@ -57,7 +57,7 @@ pub(crate) fn plan_frame<R: Threads + Sync, H: KeyHasher, C: StopCheck, G: Gate 
     ensures paced { OnOk result (KeepsPace context.workers context.chunk_rows
         (C.asked stop.old) (C.asked stop.new) [] journal.new.items) }
     ensures err { let root = plan.now.root in
-        IfErr result (EndsWith context.row_limit (plan_of plan.now.arena) root) }
+        IfErr result (PlanEndsWith context.row_limit (plan_of plan.now.arena) root) }
     ensures asked { OnOk result (Rises (C.asked stop.old) (C.asked stop.new)) }
     ensures yes { Counts (stops result) (C.yes stop.old) (C.yes stop.new) }
     ensures last { result ≡ Err PipeError.Stopped → C.last_answer stop.new ≡ true }

@@ -9,7 +9,7 @@ ghost use Rattle.pipe_rows.specs.Fnv.{fnv1a};
 ghost use Rattle.pipe_exec.specs.Evaluated.{HasRowsOf, stops};
 ghost use Rattle.pipe_exec.specs.Journals.{HasJournal, KeptPace};
 ghost use Rattle.pipe_exec.specs.Runs.{IsMemory, RunCauses, Stays};
-ghost use Rattle.pipe_exec.specs.Sound.{IsSound};
+ghost use Rattle.pipe_exec.specs.Sound.{IsSoundRun};
 
 use crate::answer::{Journal, RunAnswer};
 use crate::check::check_job;
@@ -36,7 +36,7 @@ pub fn run_plan_with<R: Threads + Sync, H: KeyHasher, C: StopCheck, G: Gate + Sy
     stop: &mut C,
     gate: &G,
 ) -> Result<RunAnswer, PipeError>
-    ensures sound { OnOk result (IsSound (plan_of arena.now) root config.now) }
+    ensures sound { OnOk result (IsSoundRun (plan_of arena.now) root config.now) }
     ensures within { OnOk result (AllWithin config.now.row_limit (plan_of arena.now) root) }
     ensures schema { let plan = plan_of arena.now in
         IfOk result (λ answer. answer.frame.schema ≡ schema_of plan root) }
@@ -49,7 +49,7 @@ pub fn run_plan_with<R: Threads + Sync, H: KeyHasher, C: StopCheck, G: Gate + Sy
     ensures asked { OnOk result (Rises (C.asked stop.old) (C.asked stop.new)) }
     ensures yes { Counts (stops result) (C.yes stop.old) (C.yes stop.new) }
     ensures last { result ≡ Err PipeError.Stopped → C.last_answer stop.new ≡ true }
-    ensures complete { IsSound (plan_of arena.now) root config.now
+    ensures complete { IsSoundRun (plan_of arena.now) root config.now
         → AllWithin config.now.row_limit (plan_of arena.now) root
         → Stays (C.yes stop.old) (C.yes stop.new) → IfErr result IsMemory }
 {
@@ -73,7 +73,7 @@ pub fn run_plan<R: Threads + Sync, C: StopCheck, G: Gate + Sync>(
     stop: &mut C,
     gate: &G,
 ) -> Result<RunAnswer, PipeError>
-    ensures sound { OnOk result (IsSound (plan_of arena.now) root config.now) }
+    ensures sound { OnOk result (IsSoundRun (plan_of arena.now) root config.now) }
     ensures within { OnOk result (AllWithin config.now.row_limit (plan_of arena.now) root) }
     ensures schema { let plan = plan_of arena.now in
         IfOk result (λ answer. answer.frame.schema ≡ schema_of plan root) }
@@ -86,7 +86,7 @@ pub fn run_plan<R: Threads + Sync, C: StopCheck, G: Gate + Sync>(
     ensures asked { OnOk result (Rises (C.asked stop.old) (C.asked stop.new)) }
     ensures yes { Counts (stops result) (C.yes stop.old) (C.yes stop.new) }
     ensures last { result ≡ Err PipeError.Stopped → C.last_answer stop.new ≡ true }
-    ensures complete { IsSound (plan_of arena.now) root config.now
+    ensures complete { IsSoundRun (plan_of arena.now) root config.now
         → AllWithin config.now.row_limit (plan_of arena.now) root
         → Stays (C.yes stop.old) (C.yes stop.new) → IfErr result IsMemory }
 {

@@ -140,7 +140,7 @@ module _ {H : Type 0} (plan : Checked) (specs : Specs) where
         leg_is plan specs places hasher parts start nodes k leg good (leads plan start ops first k ks rest) is.through (is.at ∙ place) (is.count ∙ count)
         (subst (λ c. c < 4294967295) (sym is.count) few) (is.part_at ∙ place)
         (subst (λ l. AreStagesAt plan specs start l nodes) (sym stages_same) made)
-        (subst (IsSinkSplit plan specs places hasher parts k.at) (sym is.basin) split)
+        (subst (IsSinkSplit plan specs places hasher parts k.at) (sym is.target) split)
         (is.given ∙ ap (λ z. last_of z nodes) begins) (is.scans ∙ takes)
 
     pub legs_cut : (start : ℕ) (ops : List ℕ) (first given : ℕ) (taken : List ℕ) (os : List (PhysOperator H)) (ks : List SinkNode) (ss : List (ThreadedSink H)) (legs : List (Leg (Part H)))

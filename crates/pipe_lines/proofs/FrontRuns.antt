@@ -41,7 +41,7 @@ use Rattle.pipe_engine.specs.Journals.{events_in, NotedAt, staging_of}
 use Rattle.pipe_engine.specs.Known.{Asked, known_of}
 use Rattle.pipe_engine.specs.Left.{Shares, counts_left}
 use Rattle.pipe_engine.specs.Noted.{AreListed}
-use Rattle.pipe_engine.specs.Refused.{IsRefused}
+use Rattle.pipe_engine.specs.Refused.{TellsEachPlan}
 use Rattle.pipe_engine.specs.declared.part.Part.{Part}
 use Rattle.pipe_engine.proofs.Entry.{root_rows}
 use Rattle.pipe_engine.proofs.Leaving.{left_after, parted, dropped_ways}
@@ -104,7 +104,7 @@ module _ {H : Type 0} (hash_of : H → List ℕ → ℕ) (asked : Asked H) (cont
   can_begin all slots counts run lines stand between = record { sound = are_sound asked.ask.plan asked.ask.root stand.left.well; between = between }
 
   -- what it tells of the plan where it is refused
-  pub front_tells : (all : List (PipeLine H)) (slots : Slots H) (counts : SinkCounts) (was : PExecutionContext) (e : RunError) → StandForLeft hash_of asked context all slots counts → was ≡ context → IsRefused was.row_limit e (known_of asked) → RefusesBy context.row_limit e asked
+  pub front_tells : (all : List (PipeLine H)) (slots : Slots H) (counts : SinkCounts) (was : PExecutionContext) (e : RunError) → StandForLeft hash_of asked context all slots counts → was ≡ context → TellsEachPlan was.row_limit e (known_of asked) → RefusesBy context.row_limit e asked
   front_tells all slots counts was e stand same tells = plan_tells asked.ask.plan asked.ask.root context.row_limit e stand.left.well (limit_as k.m was context e same tells)
 
   -- by the pipelines themselves

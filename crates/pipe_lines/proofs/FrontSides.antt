@@ -5,7 +5,7 @@ use Rattle.pipe_driver.specs.Blocks.{is_in_front, is_together, begins_on}
 use Rattle.pipe_driver.specs.Fronts.{IsClosed}
 use Rattle.pipe_driver.specs.Legs.{Leg, Way}
 use Rattle.pipe_driver.specs.Meaning.{Meaning}
-use Rattle.pipe_driver.specs.Ways.{one, legs_to, way_to, feeds, way_through, passes, AreLegs, IsWay, Behind, AreOrdered, IsSound}
+use Rattle.pipe_driver.specs.Ways.{one, legs_to, way_to, feeds, way_through, passes, AreLegs, IsWay, Behind, AreOrdered, IsSoundMeaning}
 use Rattle.pipe_driver.specs.Within.{GoThroughRun}
 use Rattle.pipe_driver.proofs.Sums.{above, no_more}
 use Rattle.pipe_driver.proofs.Tests.{by_test, eq-is, eq-true, not-both, or-right, or-first, some-left}
@@ -16,8 +16,8 @@ module _ {X : Type 0} (test : X → Bool) where
   abbrev Passes : X → Type 0
   Passes x = test x ≡ true
 
-  abbrev Fails : X → Type 0
-  Fails x = test x ≡ false
+  abbrev FailsTest : X → Type 0
+  FailsTest x = test x ≡ false
 
   any_there : (a : List X) (p : X) (ps : List X) → test p ≡ true → list_any test (a ++ p ∷ ps) ≡ true
   any_there [] p ps e = or-first (test p) (list_any test ps) e
@@ -42,12 +42,12 @@ module _ {X : Type 0} (test : X → Bool) where
   record Block (xs : List X) : Type 0 where
     count : ℕ
     passes : AllByRecursion Passes (take count xs)
-    fails : AllByRecursion Fails (drop count xs)
+    fails : AllByRecursion FailsTest (drop count xs)
 
-  none_pass : (xs : List X) → not (list_any test xs) ≡ true → AllByRecursion Fails xs
+  none_pass : (xs : List X) → not (list_any test xs) ≡ true → AllByRecursion FailsTest xs
   none_pass [] h = tt
   none_pass (x ∷ xs) h =
-      by_test (AllByRecursion Fails (x ∷ xs)) (test x)
+      by_test (AllByRecursion FailsTest (x ∷ xs)) (test x)
       (λ e. absurd (let f : false ≡ true = sym (ap (λ b. not (b || list_any test xs)) e) ∙ h in cc))
       (λ e. (e, none_pass xs (sym (ap (λ b. not (b || list_any test xs)) e) ∙ h)))
 
@@ -98,7 +98,7 @@ pub record BeginsAlone (m : Meaning) (p : Way) : Type 0 where
   pub run : m.is_run p.start ≡ true
   pub bare : m.is_join p.start ≡ false
 
-module _ (m : Meaning) (j : ℕ) (sound : IsSound m) (chains : GoThroughRun m) (join : m.is_join j ≡ true) (stays : (n : ℕ) → m.is_run n ≡ true → m.side j n ≡ true → n ≢ j → m.side j (m.above_sink n) ≡ true) where
+module _ (m : Meaning) (j : ℕ) (sound : IsSoundMeaning m) (chains : GoThroughRun m) (join : m.is_join j ≡ true) (stays : (n : ℕ) → m.is_run n ≡ true → m.side j n ≡ true → n ≢ j → m.side j (m.above_sink n) ≡ true) where
   -- it comes to sinks of the side alone
   legs_stay : (start : ℕ) (legs : List Leg) → AreLegs m start legs → m.is_run start ≡ true → m.is_join start ≡ false → m.side j start ≡ true → (s : ℕ) → 0 < legs_to s legs → m.side j s ≡ true
   legs_stay start [] are run bare on s fed = absurd (omega (arith, fed))
@@ -126,7 +126,7 @@ module _ (m : Meaning) (j : ℕ) (sound : IsSound m) (chains : GoThroughRun m) (
       ]
 
   -- others feed no sink of it
-  off_side : (ps : List Way) → AllByRecursion (IsWay m) ps → AllByRecursion (Fails (begins_on m j)) ps → (s : ℕ) → m.side j s ≡ true → feeds s ps ≡ 0
+  off_side : (ps : List Way) → AllByRecursion (IsWay m) ps → AllByRecursion (FailsTest (begins_on m j)) ps → (s : ℕ) → m.side j s ≡ true → feeds s ps ≡ 0
   off_side [] ways off s side = refl
   off_side (p ∷ ps) ways off s side =
       let here : way_to s p ≡ 0 = no_more (way_to s p) (λ some. (let up = above m s p.start p.legs ways.0.legs some in not-both (m.side j p.start) (up.sides j side) off.0)) in

@@ -11,7 +11,7 @@ use Rattle.pipe_ops.specs.declared.context.PExecutionContext.{PExecutionContext}
 use Rattle.pipe_run.specs.Paced.{KeepsPace}
 use Rattle.pipe_plan.specs.PlanRows.{rows_of}
 use Rattle.pipe_events.specs.EventValues.{event_value}
-use Rattle.pipe_events.specs.PlanStages.{IsSound, Setting, stages_of}
+use Rattle.pipe_events.specs.PlanStages.{IsSoundPlan, Setting, stages_of}
 use Rattle.pipe_events.specs.Schedules.{run}
 use Rattle.pipe_events.specs.Worlds.{start}
 use Rattle.pipe_events.specs.declared.event.Event.{Event}
@@ -47,7 +47,7 @@ journaled hash_of hash plan context pipelines slots counts events frame fit some
     let good = stand.stand.lent.well in
     let there = without_fault p plan.root good.faultless in
     let parts : 0 < setting.parts = (let enough = is.parts_are.enough in omega (arith, some, enough)) in
-    let sound : IsSound p plan.root setting = record {
+    let sound : IsSoundPlan p plan.root setting = record {
       rooted = there.0;
       smaller = there.1;
       one_list = sorts_sure p plan.root good.faultless fit;

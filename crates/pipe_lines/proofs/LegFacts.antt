@@ -11,7 +11,7 @@ use Rattle.pipe_driver.specs.Legs.{leg_of, sink_node}
 use Rattle.pipe_driver.specs.Numbers.{place_among, named_sinks}
 use Rattle.pipe_driver.specs.declared.pipe_line.Leg.{Leg}
 use Rattle.pipe_driver.specs.Lines.{leg_as}
-use Rattle.pipe_run.specs.declared.stage.Basin.{Basin}
+use Rattle.pipe_run.specs.declared.stage.SinkStage.{SinkStage}
 use Rattle.pipe_run.specs.declared.stage.Stage.{Stage}
 use Rattle.pipe_slots.specs.declared.phys_operator.PhysOperator.{PhysOperator}
 use Rattle.pipe_convert.specs.Converted.{schema_in}
@@ -39,7 +39,7 @@ sink_there plan given ops (at.Build n) on = on.sink.1
 module _ {H : Type 0} (plan : Checked) (specs : Specs) where
   -- ---- stages
 
-  stages_stand : (sinks : Sinks H) (hasher : H) (parts start : ℕ) (ops : List ℕ) (stages : List (Stage (PhysOperator H))) (a : SinkAt) (b : Basin (PhysSink H)) → GoesAlong plan start ops → AreStagesAt plan specs start stages ops → b.node ≡ last_of start ops
+  stages_stand : (sinks : Sinks H) (hasher : H) (parts start : ℕ) (ops : List ℕ) (stages : List (Stage (PhysOperator H))) (a : SinkAt) (b : SinkStage (PhysSink H)) → GoesAlong plan start ops → AreStagesAt plan specs start stages ops → b.node ≡ last_of start ops
       → IsSinkOf (settings_in plan specs sinks hasher parts) (meaning_in plan) (last_of start ops) a b.sink → AreStagesOf (settings_in plan specs sinks hasher parts) (meaning_in plan) start stages ops a b
   stages_stand sinks hasher parts start [] [] a b along are at_end sink = (at_end, sink)
   stages_stand sinks hasher parts start [] (stage ∷ stages) a b along are at_end sink = absurd are
@@ -78,13 +78,13 @@ module _ {H : Type 0} (plan : Checked) (specs : Specs) where
 
   pub leg_is : (sinks : Sinks H) (hasher : H) (parts start : ℕ) (ops : List ℕ) (sink : SinkNode) (leg : Leg (Part H)) → IsWellFormed (plan_in plan) plan.root → Leads plan start ops sink
       → leg.operators.items ≡ ops → leg.at ≡ sink.at → leg.count ≡ sink.count → leg.count < 4294967295 → leg.part.at ≡ sink.at
-      → AreStagesAt plan specs start leg.part.stages.items ops → IsSinkSplit plan specs sinks hasher parts sink.at leg.part.basin.sink → leg.part.basin.node ≡ last_of start ops → leg.part.scans.items ≡ taken_at (node_at (nodes_in plan) start) start → IsLegOf plan specs sinks hasher parts start ops sink leg
+      → AreStagesAt plan specs start leg.part.stages.items ops → IsSinkSplit plan specs sinks hasher parts sink.at leg.part.target.sink → leg.part.target.node ≡ last_of start ops → leg.part.scans.items ≡ taken_at (node_at (nodes_in plan) start) start → IsLegOf plan specs sinks hasher parts start ops sink leg
   leg_is sinks hasher parts start ops sink leg good leads ops_is at_is count_is few part_at are made at_end scans =
       let x = settings_in plan specs sinks hasher parts in
       let m = meaning_in plan in
       let size = length (nodes_in plan) in
       let goes = chain_goes plan good start ops sink.at leads.on in
-      let stand = stages_stand sinks hasher parts start ops leg.part.stages.items sink.at leg.part.basin goes.0 are at_end (record { setting = made.setting; schema = made.schema (last_of start ops) goes.1; ends = made.ends; empty = made.empty }) in
+      let stand = stages_stand sinks hasher parts start ops leg.part.stages.items sink.at leg.part.target goes.0 are at_end (record { setting = made.setting; schema = made.schema (last_of start ops) goes.1; ends = made.ends; empty = made.empty }) in
       record {
         nodes = ap (λ o. leg_of size o leg.at) ops_is ∙ ap (leg_of size ops) at_is;
         at = at_is;
@@ -94,10 +94,10 @@ module _ {H : Type 0} (plan : Checked) (specs : Specs) where
           stands = record {
             at = part_at ∙ sym at_is;
             sink = refl;
-            stages = subst (λ o. AreStagesOf x m start leg.part.stages.items o leg.part.at leg.part.basin) (sym ops_is) (subst (λ a. AreStagesOf x m start leg.part.stages.items ops a leg.part.basin) (sym part_at) stand);
+            stages = subst (λ o. AreStagesOf x m start leg.part.stages.items o leg.part.at leg.part.target) (sym ops_is) (subst (λ a. AreStagesOf x m start leg.part.stages.items ops a leg.part.target) (sym part_at) stand);
             order = subst (KeepsOrder x m start leg.part.stages.items) (sym part_at) (keeps_order plan specs x start ops leg.part.stages.items sink.at refl good leads.on.under goes.0 goes.1 are);
           };
           scans = scans;
         };
-        text = ap (λ t. t ++ arrow_word (sink_text leg.part.basin.sink)) (stages_text start ops leg.part.stages.items are) ∙ ap (λ t. operator_texts (nodes_in plan) ops ++ arrow_word t) made.text;
+        text = ap (λ t. t ++ arrow_word (sink_text leg.part.target.sink)) (stages_text start ops leg.part.stages.items are) ∙ ap (λ t. operator_texts (nodes_in plan) ops ++ arrow_word t) made.text;
       }

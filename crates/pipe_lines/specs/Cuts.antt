@@ -79,8 +79,8 @@ pub record IsLegCut {H : Type 0} (operators : List (PhysOperator H)) (nodes : Li
   pub count : leg.count ≡ sink.count
   pub part_at : leg.part.at ≡ place_of sink.sink sink_node
   pub stages : leg.part.stages.items ≡ stages_of start operators nodes
-  pub basin : leg.part.basin.sink ≡ sink.sink
-  pub given : leg.part.basin.node ≡ last_of start nodes
+  pub target : leg.part.target.sink ≡ sink.sink
+  pub given : leg.part.target.node ≡ last_of start nodes
   pub scans : leg.part.scans.items ≡ taken
 
 -- legs from so many operators on, the first of which begins at a node: each goes through the

@@ -33,7 +33,7 @@ stage_text stage = arrow_word (text_of stage.operator)
 
 -- the operators of a leg, and its sink, each behind an arrow
 abbrev pub part_text : {H : Type 0} → Part H → List ℕ
-part_text part = flat_map stage_text part.stages.items ++ arrow_word (sink_text part.basin.sink)
+part_text part = flat_map stage_text part.stages.items ++ arrow_word (sink_text part.target.sink)
 
 abbrev pub leg_text : {H : Type 0} → Leg (Part H) → List ℕ
 leg_text leg = part_text leg.part

@@ -13,7 +13,7 @@ use Rattle.pipe_driver.specs.JournalLaws.{IsWhole}
 use Rattle.pipe_driver.specs.Meaning.{meaning_of}
 use Rattle.pipe_driver.specs.declared.error.RunError.{RunError}
 use Rattle.pipe_driver.specs.declared.sink_counts.SinkCounts.{SinkCounts}
-use Rattle.pipe_driver.specs.Within.{AllWithin, EndsWith}
+use Rattle.pipe_driver.specs.Within.{AllWithin, RunEndsWith}
 use Rattle.pipe_slots.specs.declared.slots.Slots.{Slots}
 use Rattle.pipe_engine.specs.Drives.{Line}
 use Rattle.pipe_engine.specs.Finished.{IsRootFrame}
@@ -64,7 +64,7 @@ StaysWithin limit asked = AllWithin limit asked.ask.plan asked.ask.root
 
 -- no memory, a stop, or a node under the root with more rows than the limit
 abbrev pub RefusesBy : {H : Type 0} → (limit : ℕ) → RunError → Asked H → Type 0
-RefusesBy limit e asked = EndsWith limit asked.ask.plan asked.ask.root e
+RefusesBy limit e asked = RunEndsWith limit asked.ask.plan asked.ask.root e
 
 -- a journal is a whole one, for each setting that is that of the run
 abbrev pub HasWholeJournal : {H : Type 0} → (workers : ℕ) → List (PipeLine H) → List Event → Asked H →

@@ -11,7 +11,7 @@ use pipe_driver::{Leg, SinkAt};
 use pipe_engine::Part;
 use pipe_ops::Sink;
 use pipe_rows::KeyHasher;
-use pipe_run::{Basin, Stage};
+use pipe_run::{SinkStage, Stage};
 use pipe_slots::{PhysOperator, PhysSink};
 use std::alloc::{AllocError, Global};
 use std::collections::VecDeque;
@@ -104,7 +104,7 @@ fn cut_leg<H: KeyHasher>(
         part: Part {
             at,
             stages,
-            basin: Basin {
+            target: SinkStage {
                 sink,
                 node: last_node(start, nodes),
                 given: 0,

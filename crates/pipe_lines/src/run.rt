@@ -5,7 +5,7 @@ ghost use Rattle.pipe_schema.specs.Counts.{Counts, Rises};
 ghost use Rattle.pipe_schema.specs.Rows.{Same};
 ghost use Rattle.pipe_convert.specs.Converted.{schema_in};
 ghost use Rattle.pipe_convert.specs.Nodes.{nodes_in, plan_in, rows_in};
-ghost use Rattle.pipe_driver.specs.Within.{AllWithin, EndsWith};
+ghost use Rattle.pipe_driver.specs.Within.{AllWithin, RunEndsWith};
 ghost use Rattle.pipe_plan.specs.Under.{node_at};
 ghost use Rattle.pipe_engine.specs.Asked.{stops};
 ghost use Rattle.pipe_engine.specs.Paced.{TakesPaced, most_of};
@@ -77,7 +77,7 @@ pub fn run_branches<R: Threads + Sync, H: KeyHasher, C: StopCheck, G: Gate + Syn
     ensures journal { IfOk result
         (IsJournalOf (plan_in plan.now) plan.now.root (H.hash_of hasher) context.workers
         journal.new.items) }
-    ensures err { IfErr result (EndsWith context.row_limit (plan_in plan.now) plan.now.root) }
+    ensures err { IfErr result (RunEndsWith context.row_limit (plan_in plan.now) plan.now.root) }
     ensures complete { AllWithin context.row_limit (plan_in plan.now) plan.now.root
         → Stays (C.yes stop.old) (C.yes stop.new) → IfErr result IsMemory }
     ensures asked { OnOk result (Rises (C.asked stop.old) (C.asked stop.new)) }

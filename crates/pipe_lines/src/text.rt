@@ -75,7 +75,7 @@ fn write_part<W: fmt::Write, H: HashesKeys>(
     ensures { WritesOnOk W.write_str_gives f.old result (part_text part.now) f.new }
 {
     write_stages(f, part.stages.as_slice())?;
-    write_word(f, sink_word(&part.basin.sink))
+    write_word(f, sink_word(&part.target.sink))
 }
 
 /// Writes the words of legs.

@@ -30,7 +30,7 @@ use Rattle.pipe_rules.specs.Placed.{is_input, placing_at}
 use Rattle.pipe_rules.proofs.Filters.{all-of, all-both}
 use Rattle.pipe_rules.proofs.Under.{own-name}
 use Rattle.pipe_rules.specs.Low.{is_filter, is_sort, Stays, IsLow, AreLow}
-use Rattle.pipe_rules.specs.Grown.{over, AreWithin, AreUnder, IsSound, AreSound}
+use Rattle.pipe_rules.specs.Grown.{over, AreWithin, AreUnder, IsSoundNode, AreSound}
 use Rattle.pipe_rules.proofs.Granted.{Granted, granted, rows-granted}
 use Rattle.pipe_rules.proofs.Faultless.{no-fault}
 use Rattle.pipe_rules.proofs.Whole.{whole-plan}
@@ -226,7 +226,7 @@ module _ (frames : List Table) (old new : List Node) (root : ℕ) (needs : ℕ �
     low-left n lt (node.Join left right left_on right_on options) is l = tt
     low-left n lt (node.Sort input by options) is l = tt
 
-    sound-at : (n : ℕ) → n < length old → IsSound frames new n
+    sound-at : (n : ℕ) → n < length old → IsSoundNode frames new n
     sound-at n lt =
         let x = node_at old n in
         let y = narrow_node frames t (needs n) x in

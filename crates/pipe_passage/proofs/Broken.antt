@@ -5,8 +5,8 @@ use Rattle.pipe_schema.specs.declared.field.Field.{Field}
 use Rattle.pipe_ops.specs.declared.sink.Sink.{Ghosts as SinkWords}
 use Rattle.pipe_chain.specs.Flags.{SeatMarks}
 use Rattle.pipe_run.specs.declared.lane.Lane.{Lane}
-use Rattle.pipe_run.specs.declared.stage.Refusal.{Refusal}
-use Rattle.pipe_run.specs.declared.stage.Refusal.TheVariants.{TooMany, Memory}
+use Rattle.pipe_run.specs.declared.stage.LaneFault.{LaneFault}
+use Rattle.pipe_run.specs.declared.stage.LaneFault.TheVariants.{TooMany, Memory}
 use Rattle.pipe_run.specs.Dealt.{DoTheSame, IsOverIn}
 use Rattle.pipe_run.specs.Flushes.{IsFlushFit, flushed_in, rows_of_parts}
 use Rattle.pipe_slots.specs.JoinWords.{parts_in, part_in}
@@ -23,7 +23,7 @@ use Rattle.pipe_passage.proofs.Stopped.{held-passing, held-after}
 module _ {H K B C : Type 0} (hash_of : H → List ℕ → ℕ) (sink : SinkWords K B C) (limit : ℕ) (from : List Field) where
   module _ (ss : List (Slot H)) (v w : List SeatMarks) (free : List (List SeatMarks)) (xs ys : List (Lane (PhysOperator H) K)) (h : LanesLeft v w xs ys) (slot closed : Slot H) (c : IsClosedAs slot w closed) (p : IsPassing hash_of sink limit from xs (slot ∷ ss) (v ∷ free)) (some : 0 < parts_in closed)
       (zs : List (Lane (PhysOperator H) K)) (same : DoTheSame (phys_words hash_of) sink ys zs) (fits : All (IsFlushFit (phys_words hash_of) sink closed ss limit (flushed_in (phys_words hash_of) ys)) zs) where
-    broken-of : (r : Refusal) → IsOverIn (phys_words hash_of) ss limit (flushed_in (phys_words hash_of) ys) (rows_of_parts parts_in (part_in hash_of) closed) ys zs r → BreaksOff hash_of sink limit from xs zs (slot ∷ ss) ss (v ∷ free) free r
+    broken-of : (r : LaneFault) → IsOverIn (phys_words hash_of) ss limit (flushed_in (phys_words hash_of) ys) (rows_of_parts parts_in (part_in hash_of) closed) ys zs r → BreaksOff hash_of sink limit from xs zs (slot ∷ ss) ss (v ∷ free) free r
     broken-of Memory over = tt
     broken-of (TooMany node) over =
         let left = has-left hash_of sink limit from slot ss v w free xs ys p h in
@@ -42,7 +42,7 @@ module _ {H K B C : Type 0} (hash_of : H → List ℕ → ℕ) (sink : SinkWords
 
   -- by what was taken off
   pub broken-flushed : (slot closed : Slot H) (w : List SeatMarks) (xs ys : List (Lane (PhysOperator H) K)) (ss ss' : List (Slot H)) (free free' : List (List SeatMarks)) (h : StageLeft slot w xs ys ss ss' free free') (p : IsPassing hash_of sink limit from xs ss free) → IsClosedAs slot w closed → 0 < parts_in closed → (zs : List (Lane (PhysOperator H) K)) → DoTheSame (phys_words hash_of) sink ys zs
-      → All (IsFlushFit (phys_words hash_of) sink closed ss' limit (flushed_in (phys_words hash_of) ys)) zs → (r : Refusal) → IsOverIn (phys_words hash_of) ss' limit (flushed_in (phys_words hash_of) ys) (rows_of_parts parts_in (part_in hash_of) closed) ys zs r → BreaksOff hash_of sink limit from xs zs ss ss' free free' r
+      → All (IsFlushFit (phys_words hash_of) sink closed ss' limit (flushed_in (phys_words hash_of) ys)) zs → (r : LaneFault) → IsOverIn (phys_words hash_of) ss' limit (flushed_in (phys_words hash_of) ys) (rows_of_parts parts_in (part_in hash_of) closed) ys zs r → BreaksOff hash_of sink limit from xs zs ss ss' free free' r
   broken-flushed slot closed w xs ys ss ss' free free' h p c some zs same fits r over =
       subst (λ (l : List (Slot H)). BreaksOff hash_of sink limit from xs zs l ss' free free' r) (sym h.shared)
       (subst (λ (f : List (List SeatMarks)). BreaksOff hash_of sink limit from xs zs (slot ∷ ss') ss' f free' r) (sym h.seats_are)

@@ -18,7 +18,7 @@ use Rattle.pipe_outer.specs.Unmet.{FullRows}
 use Rattle.pipe_outer.specs.declared.marks.Marks.{Marks}
 use Rattle.pipe_outer.specs.declared.marks.Marks.TheVariants as marks
 use Rattle.pipe_run.specs.declared.lane.Lane.{Lane}
-use Rattle.pipe_run.specs.declared.stage.Basin.{Basin}
+use Rattle.pipe_run.specs.declared.stage.SinkStage.{SinkStage}
 use Rattle.pipe_run.specs.declared.stage.Stage.{Stage}
 use Rattle.pipe_run.specs.Dealt.{AreAlike, IsLike, DoTheSame, AllSame, works_in, nodes_in, acts_in, counts_in}
 use Rattle.pipe_run.specs.Lanes.{lane_operators, lane_works, lane_acts, lane_counts, lane_nodes, held_in, IsCalm, IsFit, IsSet}
@@ -93,7 +93,7 @@ one-left v x y h = record {
   stages = h.stages;
   seats = ap (λ (sts : List (Stage (PhysOperator _))). v ++ first_seats sts) h.stages;
   flushers = h.flushers;
-  basin = h.basin;
+  target = h.target;
   entries = h.entries;
   refused = h.refused;
 }
@@ -175,13 +175,13 @@ module _ {H K : Type 0} (hash_of : H → List ℕ → ℕ) where
 
     left-counts : lane_counts x ≡ h.stage.given ∷ lane_counts y
     left-counts =
-        ap (λ (sts : List (Stage (PhysOperator H))). counts sts x.basin) h.stages
-        ∙ ap (λ (b : Basin K). h.stage.given ∷ counts y.stages.items b) (sym h.basin)
+        ap (λ (sts : List (Stage (PhysOperator H))). counts sts x.target) h.stages
+        ∙ ap (λ (b : SinkStage K). h.stage.given ∷ counts y.stages.items b) (sym h.target)
 
     left-nodes : lane_nodes x ≡ h.stage.node ∷ lane_nodes y
     left-nodes =
-        ap (λ (sts : List (Stage (PhysOperator H))). nodes_of sts x.basin) h.stages
-        ∙ ap (λ (b : Basin K). h.stage.node ∷ nodes_of y.stages.items b) (sym h.basin)
+        ap (λ (sts : List (Stage (PhysOperator H))). nodes_of sts x.target) h.stages
+        ∙ ap (λ (b : SinkStage K). h.stage.node ∷ nodes_of y.stages.items b) (sym h.target)
 
     left-works : (from : List Field) (slot : Slot H) (ss : List (Slot H)) → lane_works (phys_words hash_of) from (slot ∷ ss) x ≡ work_of here from slot ∷ lane_works (phys_words hash_of) (output_of here from) ss y
     left-works from slot ss = ap (λ (os : List (PhysOperator H)). works_of (phys_words hash_of) from os (slot ∷ ss)) left-operators
@@ -214,12 +214,12 @@ module _ {H K : Type 0} (hash_of : H → List ℕ → ℕ) where
       left-fit sink limit slot ss fit = record {
         serve = (left-serve slot ss fit.serve).1;
         chain =
-            let all : IsChain (phys_words hash_of) from (here ∷ lane_operators y) (sink.schema x.basin.sink) = subst (λ (os : List (PhysOperator H)). IsChain (phys_words hash_of) from os (sink.schema x.basin.sink)) left-operators fit.chain in
-            let here_on : IsChain (phys_words hash_of) (first_schema schemas) (lane_operators y) (sink.schema x.basin.sink) = subst (λ (s : List Field). IsChain (phys_words hash_of) s (lane_operators y) (sink.schema x.basin.sink)) left-next all.1 in
-            subst (λ (b : Basin K). IsChain (phys_words hash_of) (first_schema schemas) (lane_operators y) (sink.schema b.sink)) (sym h.basin) here_on;
+            let all : IsChain (phys_words hash_of) from (here ∷ lane_operators y) (sink.schema x.target.sink) = subst (λ (os : List (PhysOperator H)). IsChain (phys_words hash_of) from os (sink.schema x.target.sink)) left-operators fit.chain in
+            let here_on : IsChain (phys_words hash_of) (first_schema schemas) (lane_operators y) (sink.schema x.target.sink) = subst (λ (s : List Field). IsChain (phys_words hash_of) s (lane_operators y) (sink.schema x.target.sink)) left-next all.1 in
+            subst (λ (b : SinkStage K). IsChain (phys_words hash_of) (first_schema schemas) (lane_operators y) (sink.schema b.sink)) (sym h.target) here_on;
         still = λ e. (subst (λ (os : List (PhysOperator H)). AllByRecursion idle_of os) left-operators (fit.still (sym h.refused ∙ e))).1;
         within = λ e. (subst (λ (l : List ℕ). AllWithin limit l) left-counts (fit.within (sym h.refused ∙ e))).1;
-        room = λ e. subst (λ (b : Basin K). length (sink.held b.sink) ≤ b.given) (sym h.basin) (fit.room (sym h.refused ∙ e));
+        room = λ e. subst (λ (b : SinkStage K). length (sink.held b.sink) ≤ b.given) (sym h.target) (fit.room (sym h.refused ∙ e));
       }
 
   -- ---- all lanes
@@ -293,8 +293,8 @@ module _ {H K : Type 0} (hash_of : H → List ℕ → ℕ) where
   left-held held v w [] (y ∷ ys) h = absurd h
   left-held held v w (x ∷ xs) [] h = absurd h
   left-held held v w (x ∷ xs) (y ∷ ys) h =
-      ap (λ (b : Basin K). held b.sink ++ flat_map (held_in held) ys) h.1.basin
-      ∙ ap (λ l. held x.basin.sink ++ l) (left-held held h.0 w xs ys h.2)
+      ap (λ (b : SinkStage K). held b.sink ++ flat_map (held_in held) ys) h.1.target
+      ∙ ap (λ l. held x.target.sink ++ l) (left-held held h.0 w xs ys h.2)
 
   left-noted : (v w : List SeatMarks) (xs ys : List (Lane (PhysOperator H) K)) → LanesLeft v w xs ys → map noted ys ≡ map noted xs
   left-noted v w [] [] h = refl
@@ -442,8 +442,8 @@ module _ {H K : Type 0} (hash_of : H → List ℕ → ℕ) where
             held = left-held sink.held v w xs ys h;
             entries = left-noted v w xs ys h;
             gives = left-schemas;
-            settings = λ z all. left-all (IsSet sink.setting z) (IsSet sink.setting z) (λ a b x y one q. ap (λ (c : Basin K). sink.setting c.sink) one.basin ∙ q) v w xs ys h all;
-            schemas = λ z all. left-all (IsSet sink.schema z) (IsSet sink.schema z) (λ a b x y one q. ap (λ (c : Basin K). sink.schema c.sink) one.basin ∙ q) v w xs ys h all;
+            settings = λ z all. left-all (IsSet sink.setting z) (IsSet sink.setting z) (λ a b x y one q. ap (λ (c : SinkStage K). sink.setting c.sink) one.target ∙ q) v w xs ys h all;
+            schemas = λ z all. left-all (IsSet sink.schema z) (IsSet sink.schema z) (λ a b x y one q. ap (λ (c : SinkStage K). sink.schema c.sink) one.target ∙ q) v w xs ys h all;
           }
 
       pub has-left-next : has-left.next ≡ first_schema p.schemas

@@ -10,7 +10,7 @@ use Rattle.pipe_chain.specs.Flow.{Work, Acts, added}
 use Rattle.pipe_chain.specs.declared.operator.Operator.{Ghosts as OperatorWords}
 use Rattle.pipe_outer.specs.Marking.{seat_acts}
 use Rattle.pipe_run.specs.declared.lane.Lane.{Lane}
-use Rattle.pipe_run.specs.declared.stage.Basin.{Basin}
+use Rattle.pipe_run.specs.declared.stage.SinkStage.{SinkStage}
 use Rattle.pipe_run.specs.declared.stage.Stage.{Stage}
 use Rattle.pipe_run.specs.Dealt.{AreAlike, works_in, nodes_in, acts_in, counts_in}
 use Rattle.pipe_run.specs.Lanes.{lane_operators, lane_works, lane_acts, lane_counts, lane_nodes, held_in, IsCalm, IsFit, IsSet}
@@ -117,7 +117,7 @@ module _ {H : Type 0} (hash_of : H → List ℕ → ℕ) where
       ∙ ap (λ l. output_of a.operator schema ∷ l) (open-schemas (output_of a.operator schema) ss os from made h.1)
 
   module _ {K : Type 0} where
-    open-nodes : (a₀ b₀ : Basin K) → b₀.node ≡ a₀.node → (ss : List (Slot H)) (took : Seats) (from made : Steps) → AreOpen ss took from made → nodes_of made b₀ ≡ nodes_of from a₀
+    open-nodes : (a₀ b₀ : SinkStage K) → b₀.node ≡ a₀.node → (ss : List (Slot H)) (took : Seats) (from made : Steps) → AreOpen ss took from made → nodes_of made b₀ ≡ nodes_of from a₀
     open-nodes a₀ b₀ e [] [] [] [] h = ap (λ (n : ℕ). n ∷ []) e
     open-nodes a₀ b₀ e [] [] [] (b ∷ made) h = absurd h
     open-nodes a₀ b₀ e [] [] (a ∷ from) made h = absurd h
@@ -129,7 +129,7 @@ module _ {H : Type 0} (hash_of : H → List ℕ → ℕ) where
         ap (λ (n : ℕ). n ∷ nodes_of made b₀) h.0.node
         ∙ ap (λ l. a.node ∷ l) (open-nodes a₀ b₀ e ss os from made h.1)
 
-    open-within : (limit : ℕ) (b₀ : Basin K) → b₀.given ≡ 0 → (ss : List (Slot H)) (took : Seats) (from made : Steps) → AreOpen ss took from made → AllWithin limit (counts made b₀)
+    open-within : (limit : ℕ) (b₀ : SinkStage K) → b₀.given ≡ 0 → (ss : List (Slot H)) (took : Seats) (from made : Steps) → AreOpen ss took from made → AllWithin limit (counts made b₀)
     open-within limit b₀ e [] [] [] [] h = (omega (arith, e), tt)
     open-within limit b₀ e [] [] [] (b ∷ made) h = absurd h
     open-within limit b₀ e [] [] (a ∷ from) made h = absurd h
@@ -161,12 +161,12 @@ within-plus limit [] ms h k = within-any limit ms k
 within-plus limit (n ∷ ns) [] h k = within-any limit (n ∷ ns) h
 within-plus limit (n ∷ ns) (m ∷ ms) h k = (omega (arith, h.0, k.0), within-plus limit ns ms h.1 k.1)
 
-module _ {H K B C : Type 0} (hash_of : H → List ℕ → ℕ) (sink : SinkWords K B C) (ss : List (Slot H)) (stages : List (Stage (PhysOperator H))) (basin : Basin K) where
+module _ {H K B C : Type 0} (hash_of : H → List ℕ → ℕ) (sink : SinkWords K B C) (ss : List (Slot H)) (stages : List (Stage (PhysOperator H))) (target : SinkStage K) where
   abbrev Opened : (before after' : List (List SeatMarks)) → Lane (PhysOperator H) K → Type 0
-  Opened before after' lane = LaneOpened sink ss before after' stages basin lane
+  Opened before after' lane = LaneOpened sink ss before after' stages target lane
 
   abbrev AllOpened : (before after' : List (List SeatMarks)) → List (Lane (PhysOperator H) K) → Type 0
-  AllOpened before after' lanes = LanesOpened sink ss before after' stages basin lanes
+  AllOpened before after' lanes = LanesOpened sink ss before after' stages target lanes
 
   -- ---- lanes are put one behind another
 
@@ -188,15 +188,15 @@ module _ {H K B C : Type 0} (hash_of : H → List ℕ → ℕ) (sink : SinkWords
   lane-opened-works : (from : List Field) (before after' : List (List SeatMarks)) (x : Lane (PhysOperator H) K) → Opened before after' x → lane_works (phys_words hash_of) from ss x ≡ works_of (phys_words hash_of) from (operators_of stages) ss
   lane-opened-works from before after' x h = open-works hash_of from ss h.took stages x.stages.items h.each
 
-  lane-opened-nodes : (before after' : List (List SeatMarks)) (x : Lane (PhysOperator H) K) → Opened before after' x → lane_nodes x ≡ nodes_of stages basin
-  lane-opened-nodes before after' x h = open-nodes hash_of basin x.basin h.node ss h.took stages x.stages.items h.each
+  lane-opened-nodes : (before after' : List (List SeatMarks)) (x : Lane (PhysOperator H) K) → Opened before after' x → lane_nodes x ≡ nodes_of stages target
+  lane-opened-nodes before after' x h = open-nodes hash_of target x.target h.node ss h.took stages x.stages.items h.each
 
-  lane-opened-fit : (limit : ℕ) (from : List Field) → IsChain (phys_words hash_of) from (operators_of stages) (sink.schema basin.sink) → (before after' : List (List SeatMarks)) (x : Lane (PhysOperator H) K) → Opened before after' x → IsFit (phys_words hash_of) sink ss limit from x
+  lane-opened-fit : (limit : ℕ) (from : List Field) → IsChain (phys_words hash_of) from (operators_of stages) (sink.schema target.sink) → (before after' : List (List SeatMarks)) (x : Lane (PhysOperator H) K) → Opened before after' x → IsFit (phys_words hash_of) sink ss limit from x
   lane-opened-fit limit from chain before after' x h = record {
     serve = open-serve hash_of ss h.took stages x.stages.items h.each;
-    chain = subst (λ (end : List Field). IsChain (phys_words hash_of) from (lane_operators x) end) (sym h.own.schema) (open-chain hash_of from (sink.schema basin.sink) ss h.took stages x.stages.items h.each chain);
+    chain = subst (λ (end : List Field). IsChain (phys_words hash_of) from (lane_operators x) end) (sym h.own.schema) (open-chain hash_of from (sink.schema target.sink) ss h.took stages x.stages.items h.each chain);
     still = λ e. open-idle hash_of ss h.took stages x.stages.items h.each;
-    within = λ e. open-within hash_of limit x.basin h.given ss h.took stages x.stages.items h.each;
+    within = λ e. open-within hash_of limit x.target h.given ss h.took stages x.stages.items h.each;
     room = λ e. omega (arith, ap length h.own.empty);
   }
 
@@ -204,7 +204,7 @@ module _ {H K B C : Type 0} (hash_of : H → List ℕ → ℕ) (sink : SinkWords
   first-works from before after' [] some h = absurd (omega arith)
   first-works from before after' (x ∷ lanes) some h = lane-opened-works from before h.0 x h.1
 
-  first-nodes : (before after' : List (List SeatMarks)) (lanes : List (Lane (PhysOperator H) K)) → 0 < length lanes → AllOpened before after' lanes → nodes_in lanes ≡ nodes_of stages basin
+  first-nodes : (before after' : List (List SeatMarks)) (lanes : List (Lane (PhysOperator H) K)) → 0 < length lanes → AllOpened before after' lanes → nodes_in lanes ≡ nodes_of stages target
   first-nodes before after' [] some h = absurd (omega arith)
   first-nodes before after' (x ∷ lanes) some h = lane-opened-nodes before h.0 x h.1
 
@@ -216,7 +216,7 @@ module _ {H K B C : Type 0} (hash_of : H → List ℕ → ℕ) (sink : SinkWords
   all-within : (before after' : List (List SeatMarks)) (lanes : List (Lane (PhysOperator H) K)) → AllOpened before after' lanes → AllWithin 0 (counts_in lanes)
   all-within before after' [] h = tt
   all-within before after' (x ∷ lanes) h =
-      within-plus 0 (lane_counts x) (counts_in lanes) (open-within hash_of 0 x.basin h.1.given ss h.1.took stages x.stages.items h.1.each) (all-within h.0 after' lanes h.2)
+      within-plus 0 (lane_counts x) (counts_in lanes) (open-within hash_of 0 x.target h.1.given ss h.1.took stages x.stages.items h.1.each) (all-within h.0 after' lanes h.2)
 
   all-empty : (before after' : List (List SeatMarks)) (lanes : List (Lane (PhysOperator H) K)) → AllOpened before after' lanes → flat_map (held_in sink.held) lanes ≡ []
   all-empty before after' [] h = refl
@@ -245,7 +245,7 @@ module _ {H K B C : Type 0} (hash_of : H → List ℕ → ℕ) (sink : SinkWords
     gives-all : (from : List Field) → All (GivesSchemas from (schemas_of from (operators_of stages))) lanes
     gives-all from = each-lane (GivesSchemas from (schemas_of from (operators_of stages))) (λ u v x one. open-schemas hash_of from ss one.took stages x.stages.items one.each) before after' lanes all
 
-    passing-from : (from : List Field) → IsChain (phys_words hash_of) from (operators_of stages) (sink.schema basin.sink) → IsPassing hash_of sink limit from lanes ss after'
+    passing-from : (from : List Field) → IsChain (phys_words hash_of) from (operators_of stages) (sink.schema target.sink) → IsPassing hash_of sink limit from lanes ss after'
     passing-from from chain = record {
       some = some;
       few = few;
@@ -259,7 +259,7 @@ module _ {H K B C : Type 0} (hash_of : H → List ℕ → ℕ) (sink : SinkWords
       noted_none = each-in-turn HasNothing (λ u v x one. one.entries) before after' lanes all;
     }
 
-    pub has-opened : HasOpened hash_of sink limit stages basin ss before after' lanes
+    pub has-opened : HasOpened hash_of sink limit stages target ss before after' lanes
     has-opened = record {
       passing = passing-from;
       works = λ from. first-works from before after' lanes some all;
@@ -267,17 +267,17 @@ module _ {H K B C : Type 0} (hash_of : H → List ℕ → ℕ) (sink : SinkWords
       acts = all-sums before after' lanes long all;
       within = all-within before after' lanes all;
       empty = all-empty before after' lanes all;
-      settings = each-lane (IsSet sink.setting (sink.setting basin.sink)) (λ u v x one. one.own.setting) before after' lanes all;
-      schemas = each-lane (IsSet sink.schema (sink.schema basin.sink)) (λ u v x one. one.own.schema) before after' lanes all;
-      gives = each-lane (IsSet sink.gives (sink.gives basin.sink)) (λ u v x one. one.own.gives) before after' lanes all;
+      settings = each-lane (IsSet sink.setting (sink.setting target.sink)) (λ u v x one. one.own.setting) before after' lanes all;
+      schemas = each-lane (IsSet sink.schema (sink.schema target.sink)) (λ u v x one. one.own.schema) before after' lanes all;
+      gives = each-lane (IsSet sink.gives (sink.gives target.sink)) (λ u v x one. one.own.gives) before after' lanes all;
       noted_none = each-in-turn HasNothing (λ u v x one. one.entries) before after' lanes all;
       gives_all = gives-all;
     }
 
 -- a lane over stages that were opened
-pub lane-opened : {H K B C : Type 0} (sink : SinkWords K B C) (ss : List (Slot H)) (before after' : List (List SeatMarks)) (stages : List (Stage (PhysOperator H))) (basin : Basin K) (lane : Lane (PhysOperator H) K) (old : List (Stage (PhysOperator H))) → old ≡ [] → StagesOpened ss before after' stages old lane.stages.items
-    → IsSplit sink basin.sink lane.basin.sink → lane.basin.node ≡ basin.node → lane.basin.given ≡ 0 → lane.flushers.items ≡ [] → lane.entries.items ≡ [] → IsCalm lane → LaneOpened sink ss before after' stages basin lane
-lane-opened sink ss before after' stages basin lane old none h own node given flushers entries calm = record {
+pub lane-opened : {H K B C : Type 0} (sink : SinkWords K B C) (ss : List (Slot H)) (before after' : List (List SeatMarks)) (stages : List (Stage (PhysOperator H))) (target : SinkStage K) (lane : Lane (PhysOperator H) K) (old : List (Stage (PhysOperator H))) → old ≡ [] → StagesOpened ss before after' stages old lane.stages.items
+    → IsSplit sink target.sink lane.target.sink → lane.target.node ≡ target.node → lane.target.given ≡ 0 → lane.flushers.items ≡ [] → lane.entries.items ≡ [] → IsCalm lane → LaneOpened sink ss before after' stages target lane
+lane-opened sink ss before after' stages target lane old none h own node given flushers entries calm = record {
   took = h.took;
   seats = h.seats;
   each = subst (λ (made : List (Stage (PhysOperator _))). AreOpen ss h.took stages made) (sym (h.pushed ∙ ap (λ l. l ++ h.made) none)) h.each;

@@ -19,8 +19,8 @@ use Rattle.pipe_outer.specs.declared.marks.Marks.{Marks}
 use Rattle.pipe_outer.specs.declared.marks.Marks.TheVariants as marks
 use Rattle.pipe_outer.proofs.JoinLaw.{as-total, items-bag}
 use Rattle.pipe_run.specs.declared.lane.Lane.{Lane}
-use Rattle.pipe_run.specs.declared.stage.Refusal.{Refusal}
-use Rattle.pipe_run.specs.declared.stage.Refusal.TheVariants.{TooMany, Memory}
+use Rattle.pipe_run.specs.declared.stage.LaneFault.{LaneFault}
+use Rattle.pipe_run.specs.declared.stage.LaneFault.TheVariants.{TooMany, Memory}
 use Rattle.pipe_run.specs.declared.stage.Stage.{Stage}
 use Rattle.pipe_run.specs.Dealt.{DoTheSame, IsOverIn, acts_in}
 use Rattle.pipe_run.specs.Flushes.{HasStage, IsFlushFit, flushed_in, rows_of_parts}

@@ -9,7 +9,7 @@ use Rattle.pipe_outer.specs.Marking.{won_key, seat_acts}
 use Rattle.pipe_outer.specs.declared.marks.Marks.{Marks}
 use Rattle.pipe_outer.specs.declared.marks.Marks.TheVariants as marks
 use Rattle.pipe_run.specs.declared.lane.Lane.{Lane}
-use Rattle.pipe_run.specs.declared.stage.Basin.{Basin}
+use Rattle.pipe_run.specs.declared.stage.SinkStage.{SinkStage}
 use Rattle.pipe_run.specs.declared.stage.Stage.{Stage}
 use Rattle.pipe_run.specs.Lanes.{IsCalm}
 use Rattle.pipe_run.specs.Opens.{IsSplit}
@@ -151,25 +151,25 @@ pub record StagesOpened {H : Type 0} (ss : List (Slot H)) (before after' : List 
 -- a lane that has done nothing, over operators with seats and a sink of its own
 pub record LaneOpened {H K B C : Type 0} (sink : SinkWords K B C) (ss : List (Slot H))
     (before after' : List (List SeatMarks)) (stages : List (Stage (PhysOperator H)))
-    (basin : Basin K) (lane : Lane (PhysOperator H) K) : Type 0 where
+    (target : SinkStage K) (lane : Lane (PhysOperator H) K) : Type 0 where
   pub took : List (Option SeatMarks)
   pub seats : before ≡ all_back took after'
   pub each : AreOpen ss took stages lane.stages.items
-  pub own : IsSplit sink basin.sink lane.basin.sink
-  pub node : lane.basin.node ≡ basin.node
-  pub given : lane.basin.given ≡ 0
+  pub own : IsSplit sink target.sink lane.target.sink
+  pub node : lane.target.node ≡ target.node
+  pub given : lane.target.given ≡ 0
   pub flushers : lane.flushers.items ≡ []
   pub entries : lane.entries.items ≡ []
   pub calm : IsCalm lane
 
 -- such lanes, one after another
 abbrev pub LanesOpened : {H K B C : Type 0} → SinkWords K B C → List (Slot H) →
-    (before after' : List (List SeatMarks)) → List (Stage (PhysOperator H)) → Basin K →
+    (before after' : List (List SeatMarks)) → List (Stage (PhysOperator H)) → SinkStage K →
     List (Lane (PhysOperator H) K) → Type 0
-LanesOpened sink ss before after' stages basin [] = before ≡ after'
-LanesOpened sink ss before after' stages basin (x ∷ lanes) =
-    (mid : List (List SeatMarks)) × LaneOpened sink ss before mid stages basin x
-    × LanesOpened sink ss mid after' stages basin lanes
+LanesOpened sink ss before after' stages target [] = before ≡ after'
+LanesOpened sink ss before after' stages target (x ∷ lanes) =
+    (mid : List (List SeatMarks)) × LaneOpened sink ss before mid stages target x
+    × LanesOpened sink ss mid after' stages target lanes
 
 -- ---- what seats did
 
@@ -205,7 +205,7 @@ pub record LaneOff {H K : Type 0} (old new : Lane (PhysOperator H) K) : Type 0 w
   pub stage : Stage (PhysOperator H)
   pub stages : old.stages.items ≡ stage ∷ new.stages.items
   pub flushers : new.flushers.items ≡ old.flushers.items ++ stage_with None stage ∷ []
-  pub basin : new.basin ≡ old.basin
+  pub target : new.target ≡ old.target
   pub entries : new.entries.items ≡ old.entries.items
   pub refused : new.refused ≡ old.refused
 
@@ -222,7 +222,7 @@ pub record LaneLeft {H K : Type 0} (before after' : List SeatMarks)
   pub stages : old.stages.items ≡ stage ∷ new.stages.items
   pub seats : after' ≡ before ++ seats_in (seat_of stage.operator)
   pub flushers : new.flushers.items ≡ old.flushers.items ++ stage_with None stage ∷ []
-  pub basin : new.basin ≡ old.basin
+  pub target : new.target ≡ old.target
   pub entries : new.entries.items ≡ old.entries.items
   pub refused : new.refused ≡ old.refused
 

@@ -10,7 +10,7 @@ use Rattle.pipe_chain.specs.Flow.{Work, Acts, added}
 use Rattle.pipe_chain.specs.declared.operator.Operator.{Ghosts as OperatorWords}
 use Rattle.pipe_run.specs.declared.entry.Entry.{Entry}
 use Rattle.pipe_run.specs.declared.lane.Lane.{Lane}
-use Rattle.pipe_run.specs.declared.stage.Basin.{Basin}
+use Rattle.pipe_run.specs.declared.stage.SinkStage.{SinkStage}
 use Rattle.pipe_run.specs.declared.stage.Stage.{Stage}
 use Rattle.pipe_run.specs.Dealt.{AreAlike, DoTheSame, WentAll, works_in, nodes_in, acts_in, counts_in}
 use Rattle.pipe_run.specs.Flushes.{rows_of_parts}
@@ -119,20 +119,20 @@ pub record HasLeft {H K B C : Type 0} (hash_of : H → List ℕ → ℕ) (sink :
 
 -- lanes that were opened: they have done nothing, and do what these stages do
 pub record HasOpened {H K B C : Type 0} (hash_of : H → List ℕ → ℕ) (sink : SinkWords K B C)
-    (limit : ℕ) (stages : List (Stage (PhysOperator H))) (basin : Basin K) (ss : List (Slot H))
+    (limit : ℕ) (stages : List (Stage (PhysOperator H))) (target : SinkStage K) (ss : List (Slot H))
     (before after' : List (List SeatMarks)) (lanes : List (Lane (PhysOperator H) K)) : Type 0 where
   pub passing : (from : List Field) →
-      IsChain (phys_words hash_of) from (operators_of stages) (sink.schema basin.sink) →
+      IsChain (phys_words hash_of) from (operators_of stages) (sink.schema target.sink) →
       IsPassing hash_of sink limit from lanes ss after'
   pub works : (from : List Field) → works_in (phys_words hash_of) from ss lanes
       ≡ works_of (phys_words hash_of) from (operators_of stages) ss
-  pub nodes : nodes_in lanes ≡ nodes_of stages basin
+  pub nodes : nodes_in lanes ≡ nodes_of stages target
   pub acts : AllSameActs (map sum_of before) (acts_now hash_of lanes after')
   pub within : AllWithin 0 (counts_in lanes)
   pub empty : flat_map (held_in sink.held) lanes ≡ []
-  pub settings : All (IsSet sink.setting (sink.setting basin.sink)) lanes
-  pub schemas : All (IsSet sink.schema (sink.schema basin.sink)) lanes
-  pub gives : All (IsSet sink.gives (sink.gives basin.sink)) lanes
+  pub settings : All (IsSet sink.setting (sink.setting target.sink)) lanes
+  pub schemas : All (IsSet sink.schema (sink.schema target.sink)) lanes
+  pub gives : All (IsSet sink.gives (sink.gives target.sink)) lanes
   pub noted_none : AllByRecursion HasNothing lanes
   pub gives_all : (from : List Field) →
       All (GivesSchemas from (schemas_of from (operators_of stages))) lanes

@@ -10,8 +10,8 @@ use Rattle.pipe_chain.specs.Flow.{Acts}
 use Rattle.pipe_chain.specs.Keys.{SameKeys}
 use Rattle.pipe_outer.specs.Marking.{won_key}
 use Rattle.pipe_run.specs.declared.lane.Lane.{Lane}
-use Rattle.pipe_run.specs.declared.stage.Refusal.{Refusal}
-use Rattle.pipe_run.specs.declared.stage.Refusal.TheVariants.{TooMany, Memory}
+use Rattle.pipe_run.specs.declared.stage.LaneFault.{LaneFault}
+use Rattle.pipe_run.specs.declared.stage.LaneFault.TheVariants.{TooMany, Memory}
 use Rattle.pipe_run.specs.Dealt.{DoTheSame, IsOverIn}
 use Rattle.pipe_run.specs.Flushes.{rows_of_parts}
 use Rattle.pipe_run.specs.Lanes.{lane_operators}
@@ -81,7 +81,7 @@ pub record HasBroken {H K B C : Type 0} (hash_of : H → List ℕ → ℕ) (sink
 
 abbrev pub BreaksOff : {H K B C : Type 0} → (hash_of : H → List ℕ → ℕ) → SinkWords K B C →
     (limit : ℕ) → (from : List Field) → (old new : List (Lane (PhysOperator H) K)) →
-    (ss ss' : List (Slot H)) → (free free' : List (List SeatMarks)) → Refusal → Type 0
+    (ss ss' : List (Slot H)) → (free free' : List (List SeatMarks)) → LaneFault → Type 0
 BreaksOff hash_of sink limit from old new ss ss' free free' (TooMany node) =
     HasBroken hash_of sink limit from old new ss ss' free free' node
 BreaksOff hash_of sink limit from old new ss ss' free free' Memory = Unit {0}

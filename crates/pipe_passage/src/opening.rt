@@ -15,7 +15,7 @@ use pipe_chain::{FlagSeat, Operator};
 use pipe_index::HashesKeys;
 use pipe_ops::Sink;
 use pipe_rows::KeyHasher;
-use pipe_run::{Basin, Lane, Stage};
+use pipe_run::{Lane, SinkStage, Stage};
 use pipe_schema::List;
 use pipe_slots::{CallBack, PhysOperator, PlaceHolder, Slot};
 use std::alloc::{AllocError, Global};
@@ -167,24 +167,24 @@ fn open_lane<H: KeyHasher, K: Sink + Drop>(
     shared: &[Slot<H>],
     free: &mut [List<FlagSeat>],
     stages: &[Stage<PhysOperator<H>>],
-    basin: &Basin<K>,
+    target: &SinkStage<K>,
     thread_no: usize,
 ) -> Result<Lane<PhysOperator<H>, K>, AllocError>
     requires planned { ArePlanned shared.now stages.now }
     requires rest { AllRest thread_no shared.now free.old }
     requires more { AllByRecursion (HasMore thread_no) shared.now }
-    ensures opened { IfOk result (LaneOpened K.Sink shared.now free.old free.new stages.now basin.now) }
+    ensures opened { IfOk result (LaneOpened K.Sink shared.now free.old free.new stages.now target.now) }
     ensures rest { OnOk result (AllRest (thread_no + 1) shared.now free.new) }
 {
     let mut own = Vec::with_capacity(alloc, stages.len())?;
     open_stages(alloc, shared, free, stages, thread_no, &mut own)?;
-    let sink = basin.sink.split(alloc, thread_no)?;
+    let sink = target.sink.split(alloc, thread_no)?;
     Ok(Lane {
         stages: VecDeque::from_vec(own),
         flushers: Vec::new(alloc),
-        basin: Basin {
+        target: SinkStage {
             sink,
-            node: basin.node,
+            node: target.node,
             given: 0,
         },
         seat: None,
@@ -200,7 +200,7 @@ fn open_lanes<H: KeyHasher, K: Sink + Drop>(
     shared: &[Slot<H>],
     free: &mut [List<FlagSeat>],
     stages: &[Stage<PhysOperator<H>>],
-    basin: &Basin<K>,
+    target: &SinkStage<K>,
     lanes: u32,
 ) -> Result<Vec<Lane<PhysOperator<H>, K>>, AllocError>
     requires some { 0 < lanes }
@@ -210,11 +210,11 @@ fn open_lanes<H: KeyHasher, K: Sink + Drop>(
     requires seats { AllByRecursion (HasSeats lanes) shared.now }
     ensures len { IfOk result (λ made. length made.items ≡ lanes) }
     ensures opened { IfOk result (λ made. (limit : ℕ) → HasOpened H.hash_of K.Sink limit stages.now
-        basin.now shared.now free.old free.new made.items) }
+        target.now shared.now free.old free.new made.items) }
 {
     let mut made = Vec::with_capacity(alloc, lanes as usize)?;
     for thread_no in 0..lanes {
-        let lane = open_lane(alloc, shared, free, stages, basin, thread_no as usize)?;
+        let lane = open_lane(alloc, shared, free, stages, target, thread_no as usize)?;
         made.push(lane)?;
     }
     Ok(made)
@@ -227,7 +227,7 @@ pub fn open_passage<H: KeyHasher, K: Sink + Drop>(
     shared: Vec<Slot<H>>,
     mut seats: Vec<List<FlagSeat>>,
     stages: &[Stage<PhysOperator<H>>],
-    basin: &Basin<K>,
+    target: &SinkStage<K>,
     lanes: u32,
 ) -> Result<Passage<H, K>, AllocError>
     requires some { 0 < lanes }
@@ -238,10 +238,10 @@ pub fn open_passage<H: KeyHasher, K: Sink + Drop>(
     ensures len { IfOk result (λ p. length p.lanes.items ≡ lanes) }
     ensures shared { IfOk result (λ p. p.shared.items ≡ shared.items) }
     ensures opened { IfOk result (λ p. (limit : ℕ) → HasOpened H.hash_of K.Sink limit stages.now
-        basin.now shared.items seats.items p.seats.items p.lanes.items) }
+        target.now shared.items seats.items p.seats.items p.lanes.items) }
 {
     let free = seats.as_mut_slice();
-    let made = open_lanes(alloc, shared.as_slice(), free, stages, basin, lanes)?;
+    let made = open_lanes(alloc, shared.as_slice(), free, stages, target, lanes)?;
     Ok(Passage {
         lanes: made,
         shared: VecDeque::from_vec(shared),

@@ -12,7 +12,7 @@ use crate::passage::Passage;
 use pipe_index::HashesKeys;
 use pipe_ops::{PExecutionContext, Sink};
 use pipe_rows::KeyHasher;
-use pipe_run::{Note, Refusal, noted_flush};
+use pipe_run::{LaneFault, Note, noted_flush};
 use pipe_schema::Gate;
 use std::alloc::Global;
 use std::thread::Threads;
@@ -28,7 +28,7 @@ pub fn settle_first<R: Threads + Sync, H: KeyHasher, K: Sink + Drop, G: Gate + S
     passage: &mut Passage<H, K>,
     gate: &G,
     notes: &mut Vec<Note>,
-) -> Result<u32, Refusal>
+) -> Result<u32, LaneFault>
     requires stages { AllByRecursion HasStage passage.old.lanes.items }
     requires shared { 0 < length passage.old.shared.items }
     requires seats { 0 < length passage.old.seats.items }
@@ -48,7 +48,7 @@ pub fn settle_first<R: Threads + Sync, H: KeyHasher, K: Sink + Drop, G: Gate + S
         passage.new.shared.items passage.old.seats.items passage.new.seats.items refusal) }
 {
     let Ok((slot, seats)) = leave_stage(passage) else {
-        return Err(Refusal::Memory);
+        return Err(LaneFault::Memory);
     };
     let kept = slot.closed(seats);
     let parts = kept.part_count();

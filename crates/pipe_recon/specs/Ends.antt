@@ -11,7 +11,7 @@ use Rattle.pipe_recon.specs.Refusals.{recon_fault}
 use Rattle.pipe_recon.specs.declared.recon_spec.ReconSpec.{ReconSpec}
 
 -- the numbers are good, and so is the key
-pub record IsSound (left right : Table) (spec : ReconSpec) (config : PipeConfig) : Type 0 where
+pub record IsSoundReconciliation (left right : Table) (spec : ReconSpec) (config : PipeConfig) : Type 0 where
   pub numbers : IsConfig config
   pub good : recon_fault left right spec.on ≡ None
 
@@ -34,28 +34,28 @@ pub record HasFault (left right : Table) (spec : ReconSpec) (config : PipeConfig
   pub told : recon_fault left right spec.on ≡ Some e
 
 -- what an error says of a sound reconciliation: a table or the full join has too many rows, a stop, or no memory
-abbrev pub EndsWith : ℕ → Table → Table → ReconSpec → PipeError → Type 0
-EndsWith limit left right spec error.BadConfig = ⊥
-EndsWith limit left right spec (error.BadNode n) = ⊥
-EndsWith limit left right spec (error.UnknownColumn n name) = ⊥
-EndsWith limit left right spec (error.DuplicateName n name) = ⊥
-EndsWith limit left right spec (error.TypeMismatch n) = ⊥
-EndsWith limit left right spec (error.BadJoin n) = ⊥
-EndsWith limit left right spec (error.BadSort n) = ⊥
-EndsWith limit left right spec (error.TooMany n) = HasTooMany limit left right spec n
-EndsWith limit left right spec error.Stopped = Unit {0}
-EndsWith limit left right spec error.Memory = Unit {0}
+abbrev pub ReconciliationEndsWith : ℕ → Table → Table → ReconSpec → PipeError → Type 0
+ReconciliationEndsWith limit left right spec error.BadConfig = ⊥
+ReconciliationEndsWith limit left right spec (error.BadNode n) = ⊥
+ReconciliationEndsWith limit left right spec (error.UnknownColumn n name) = ⊥
+ReconciliationEndsWith limit left right spec (error.DuplicateName n name) = ⊥
+ReconciliationEndsWith limit left right spec (error.TypeMismatch n) = ⊥
+ReconciliationEndsWith limit left right spec (error.BadJoin n) = ⊥
+ReconciliationEndsWith limit left right spec (error.BadSort n) = ⊥
+ReconciliationEndsWith limit left right spec (error.TooMany n) = HasTooMany limit left right spec n
+ReconciliationEndsWith limit left right spec error.Stopped = Unit {0}
+ReconciliationEndsWith limit left right spec error.Memory = Unit {0}
 
-pub record Fails (left right : Table) (spec : ReconSpec) (config : PipeConfig) (e : PipeError) : Type 0 where
-  pub sound : IsSound left right spec config
-  pub ends : EndsWith config.row_limit left right spec e
+pub record ReconciliationFails (left right : Table) (spec : ReconSpec) (config : PipeConfig) (e : PipeError) : Type 0 where
+  pub sound : IsSoundReconciliation left right spec config
+  pub ends : ReconciliationEndsWith config.row_limit left right spec e
 
 -- the error by which two tables and their key are refused
-abbrev pub IsRefused : Table → Table → ReconSpec → PipeConfig → PipeError → Type 0
-IsRefused left right spec config e = HasBadNumber config e ⊎ HasFault left right spec config e
+abbrev pub IsRefusedReconciliation : Table → Table → ReconSpec → PipeConfig → PipeError → Type 0
+IsRefusedReconciliation left right spec config e = HasBadNumber config e ⊎ HasFault left right spec config e
 
 -- what an error says: want of memory, why they are refused, or how a sound reconciliation ends
 abbrev pub ReconCauses : Table → Table → ReconSpec → PipeConfig → PipeError → Type 0
 ReconCauses left right spec config e =
     (e ≡ error.Memory)
-    ⊎ (IsRefused left right spec config e ⊎ Fails left right spec config e)
+    ⊎ (IsRefusedReconciliation left right spec config e ⊎ ReconciliationFails left right spec config e)

@@ -18,7 +18,7 @@ use Rattle.pipe_plan.specs.declared.config.PipeConfig.{PipeConfig}
 use Rattle.pipe_plan.specs.declared.error.PipeError.{PipeError}
 use Rattle.pipe_plan.specs.declared.error.PipeError.TheVariants as error
 use Rattle.pipe_recon.specs.Codes.{Code, HasTypedKey, code_of, codes_of, partner_among, recon_by}
-use Rattle.pipe_recon.specs.Ends.{AreCodes, EndsWith, Fails, HasBadNumber, HasFault, IsRefused, IsSound, ReconCauses}
+use Rattle.pipe_recon.specs.Ends.{AreCodes, ReconciliationEndsWith, ReconciliationFails, HasBadNumber, HasFault, IsRefusedReconciliation, IsSoundReconciliation, ReconCauses}
 use Rattle.pipe_recon.specs.FullJoin.{IsWithin, height_at}
 use Rattle.pipe_recon.specs.JoinPlan.{join_plan, join_root}
 use Rattle.pipe_recon.specs.Least.{AreLeastIn}
@@ -95,7 +95,7 @@ never_many left right spec limit within (suc zero) h = omega (arith, h, within.r
 never_many left right spec limit within (suc (suc zero)) h = omega (arith, h, within.join_rows)
 never_many left right spec limit within (suc (suc (suc n))) h = omega (arith, h)
 
-ended_memory : (left right : Table) (spec : ReconSpec) (limit : ℕ) (e : PipeError) → IsWithin limit left right spec → EndsWith limit left right spec e → (e ≡ error.Stopped → ⊥) → e ≡ error.Memory
+ended_memory : (left right : Table) (spec : ReconSpec) (limit : ℕ) (e : PipeError) → IsWithin limit left right spec → ReconciliationEndsWith limit left right spec e → (e ≡ error.Stopped → ⊥) → e ≡ error.Memory
 ended_memory left right spec limit error.BadConfig within h alone = absurd h
 ended_memory left right spec limit (error.BadNode n) within h alone = absurd h
 ended_memory left right spec limit (error.UnknownColumn n name) within h alone = absurd h
@@ -110,7 +110,7 @@ ended_memory left right spec limit error.Memory within h alone = refl
 fault_none : (fault : Option PipeError) (e : PipeError) → fault ≡ None → fault ≡ Some e → ⊥
 fault_none fault e none some = none-some e (sym none ∙ some)
 
-pub early_memory : (left right : Table) (spec : ReconSpec) (config : PipeConfig) (e : PipeError) → ReconCauses left right spec config e → (e ≡ error.Stopped → ⊥) → IsSound left right spec config → IsWithin config.row_limit left right spec → e ≡ error.Memory
+pub early_memory : (left right : Table) (spec : ReconSpec) (config : PipeConfig) (e : PipeError) → ReconCauses left right spec config e → (e ≡ error.Stopped → ⊥) → IsSoundReconciliation left right spec config → IsWithin config.row_limit left right spec → e ≡ error.Memory
 early_memory left right spec config e (inl memory) alone sound within = memory
 early_memory left right spec config e (inr (inl (inl bad))) alone sound within = absurd (bad.bad sound.numbers)
 early_memory left right spec config e (inr (inl (inr fault))) alone sound within = absurd (fault_none (recon_fault left right spec.on) e sound.good fault.told)
@@ -140,7 +140,7 @@ module _ (left right : Table) (spec : ReconSpec) (config : PipeConfig) (lefts ri
   within_is (Ok recon) h = within_are left right spec lefts rights coded config.row_limit h
   within_is (Err e) h = tt
 
-  pub causes_are : (r : Result Recon PipeError) → IsSound left right spec config → IfErr r (plans.EndsWith config.row_limit (join_plan lefts rights) join_root) → IfErr r (ReconCauses left right spec config)
+  pub causes_are : (r : Result Recon PipeError) → IsSoundReconciliation left right spec config → IfErr r (plans.PlanEndsWith config.row_limit (join_plan lefts rights) join_root) → IfErr r (ReconCauses left right spec config)
   causes_are (Ok recon) sound h = tt
   causes_are (Err e) sound h = inr (inr (record { sound = sound; ends = ends_are left right spec lefts rights coded config.row_limit e h }))
 

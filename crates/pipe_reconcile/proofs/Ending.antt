@@ -16,7 +16,7 @@ use Rattle.pipe_plan.specs.declared.config.PipeConfig.{PipeConfig}
 use Rattle.pipe_plan.specs.declared.error.PipeError.{PipeError}
 use Rattle.pipe_plan.specs.declared.error.PipeError.TheVariants as error
 use Rattle.pipe_recon.specs.Codes.{Code, HasTypedKey, codes_of, key_types}
-use Rattle.pipe_recon.specs.Ends.{AreCodes, EndsWith}
+use Rattle.pipe_recon.specs.Ends.{AreCodes, ReconciliationEndsWith}
 use Rattle.pipe_recon.specs.FullJoin.{IsWithin, full_rows, height_at}
 use Rattle.pipe_recon.specs.JoinPlan.{join_plan, join_root}
 use Rattle.pipe_recon.specs.declared.recon_spec.ReconSpec.{ReconSpec}
@@ -53,7 +53,7 @@ module _ (left right : Table) (spec : ReconSpec) (lefts rights : List Code) (cod
   under_height : (n : ℕ) → is_under (join_plan lefts rights).nodes join_root n ≡ true → length (rows_of (join_plan lefts rights) n) ≡ height_at left right spec n
   under_height n under = heights_are n (one_of n (sym (under_is lefts rights n) ∙ under))
 
-  pub ends_are : (limit : ℕ) (e : PipeError) → plans.EndsWith limit (join_plan lefts rights) join_root e → EndsWith limit left right spec e
+  pub ends_are : (limit : ℕ) (e : PipeError) → plans.PlanEndsWith limit (join_plan lefts rights) join_root e → ReconciliationEndsWith limit left right spec e
   ends_are limit error.BadConfig h = absurd h
   ends_are limit (error.BadNode n) h = absurd h
   ends_are limit (error.UnknownColumn n name) h = absurd h

@@ -6,9 +6,9 @@ use Rattle.pipe_frame.specs.Frame.{Table}
 use Rattle.pipe_schema.specs.Rows.{Row, Same}
 use Rattle.pipe_schema.specs.declared.field.Field.{Field}
 use Rattle.pipe_driver.specs.Within.{AllWithin}
-use Rattle.pipe_exec.specs.Evaluated.{EndsWith}
+use Rattle.pipe_exec.specs.Evaluated.{PlanEndsWith}
 use Rattle.pipe_exec.specs.Runs.{RunCauses}
-use Rattle.pipe_exec.specs.Sound.{IsSound}
+use Rattle.pipe_exec.specs.Sound.{IsSoundRun}
 use Rattle.pipe_exec.proofs.Complete.{sound_refused}
 use Rattle.pipe_plan.specs.Config.{IsConfig}
 use Rattle.pipe_plan.specs.Faults.{IsWellFormed}
@@ -23,18 +23,18 @@ use Rattle.pipe_recon.specs.JoinPlan.{join_fields, join_plan, join_root}
 use Rattle.pipe_recon.proofs.JoinRows.{fields_are}
 
 -- a sound job isn't refused
-pub sound_ends : (plan : Plan) (root : ℕ) (config : PipeConfig) (e : PipeError) → IsSound plan root config → RunCauses plan root config e → EndsWith config.row_limit plan root e
+pub sound_ends : (plan : Plan) (root : ℕ) (config : PipeConfig) (e : PipeError) → IsSoundRun plan root config → RunCauses plan root config e → PlanEndsWith config.row_limit plan root e
 sound_ends plan root config e sound (inl (inl memory)) = rw memory tt
 sound_ends plan root config e sound (inl (inr refused)) = absurd (sound_refused plan root config e sound refused)
 sound_ends plan root config e sound (inr fails) = fails.ends
 
 -- ---- a plan that equals the join's
 
-pub join_sound : (plan other : Plan) (config : PipeConfig) → plan ≡ other → IsWellFormed other join_root → IsConfig config → IsSound plan join_root config
-join_sound plan other config same formed numbers = subst (λ (p : Plan). IsSound p join_root config) (sym same) (record { numbers = numbers; formed = formed })
+pub join_sound : (plan other : Plan) (config : PipeConfig) → plan ≡ other → IsWellFormed other join_root → IsConfig config → IsSoundRun plan join_root config
+join_sound plan other config same formed numbers = subst (λ (p : Plan). IsSoundRun p join_root config) (sym same) (record { numbers = numbers; formed = formed })
 
-pub join_ends : (limit : ℕ) (plan other : Plan) (e : PipeError) → EndsWith limit plan join_root e → plan ≡ other → EndsWith limit other join_root e
-join_ends limit plan other e h same = subst (λ (p : Plan). EndsWith limit p join_root e) same h
+pub join_ends : (limit : ℕ) (plan other : Plan) (e : PipeError) → PlanEndsWith limit plan join_root e → plan ≡ other → PlanEndsWith limit other join_root e
+join_ends limit plan other e h same = subst (λ (p : Plan). PlanEndsWith limit p join_root e) same h
 
 pub join_within : (limit : ℕ) (plan other : Plan) → AllWithin limit plan join_root → plan ≡ other → AllWithin limit other join_root
 join_within limit plan other h same = subst (λ (p : Plan). AllWithin limit p join_root) same h
@@ -46,7 +46,7 @@ pub join_rows : (plan other : Plan) (rows : List Row) → Same rows (rows_of pla
 join_rows plan other rows h same = subst (λ (p : Plan). Same rows (rows_of p join_root)) same h
 
 -- no memory for the plan
-pub memory_ends : {T : Type 0} (limit : ℕ) (plan : Plan) (r : Result T PipeError) → IsErrAnd r (λ e. e ≡ error.Memory) → IfErr r (EndsWith limit plan join_root)
+pub memory_ends : {T : Type 0} (limit : ℕ) (plan : Plan) (r : Result T PipeError) → IsErrAnd r (λ e. e ≡ error.Memory) → IfErr r (PlanEndsWith limit plan join_root)
 memory_ends limit plan (Ok x) k = absurd k
 memory_ends limit plan (Err e) k = rw k tt
 

@@ -2,9 +2,9 @@
 
 ghost use Rattle.std.specs.Prelude.{◌≡◌, ◌≤◌, Err, IfErr, IfOk, OnOk, length, true};
 ghost use Rattle.pipe_driver.specs.Within.{AllWithin};
-ghost use Rattle.pipe_exec.specs.Evaluated.{EndsWith, stops};
+ghost use Rattle.pipe_exec.specs.Evaluated.{PlanEndsWith, stops};
 ghost use Rattle.pipe_exec.specs.Runs.{IsMemory, Stays};
-ghost use Rattle.pipe_exec.specs.Sound.{IsSound};
+ghost use Rattle.pipe_exec.specs.Sound.{IsSoundRun};
 ghost use Rattle.pipe_schema.specs.Counts.{Counts, Rises};
 ghost use Rattle.pipe_schema.specs.Rows.{Same};
 ghost use Rattle.pipe_plan.specs.Config.{IsConfig};
@@ -35,13 +35,13 @@ fn run_join<R: Threads + Sync, C: StopCheck, G: Gate + Sync>(
     stop: &mut C,
     gate: &G,
 ) -> Result<DataFrame, PipeError>
-    requires sound { IsSound (plan_of arena.now) join_root config.now }
+    requires sound { IsSoundRun (plan_of arena.now) join_root config.now }
     ensures schema { let plan = plan_of arena.now in
         IfOk result (λ frame. frame.schema ≡ schema_of plan join_root) }
     ensures rows { let plan = plan_of arena.now in
         IfOk result (λ frame. Same frame.rows (rows_of plan join_root)) }
     ensures within { OnOk result (AllWithin config.now.row_limit (plan_of arena.now) join_root) }
-    ensures err { IfErr result (EndsWith config.now.row_limit (plan_of arena.now) join_root) }
+    ensures err { IfErr result (PlanEndsWith config.now.row_limit (plan_of arena.now) join_root) }
     ensures asked { OnOk result (Rises (C.asked stop.old) (C.asked stop.new)) }
     ensures yes { Counts (stops result) (C.yes stop.old) (C.yes stop.new) }
     ensures last { result ≡ Err PipeError.Stopped → C.last_answer stop.new ≡ true }
@@ -72,7 +72,7 @@ pub(crate) fn join_frame<R: Threads + Sync, C: StopCheck, G: Gate + Sync>(
     ensures within { OnOk result
         (AllWithin config.now.row_limit (join_plan lefts rights) join_root) }
     ensures err { IfErr result
-        (EndsWith config.now.row_limit (join_plan lefts rights) join_root) }
+        (PlanEndsWith config.now.row_limit (join_plan lefts rights) join_root) }
     ensures asked { OnOk result (Rises (C.asked stop.old) (C.asked stop.new)) }
     ensures yes { Counts (stops result) (C.yes stop.old) (C.yes stop.new) }
     ensures last { result ≡ Err PipeError.Stopped → C.last_answer stop.new ≡ true }

@@ -7,7 +7,7 @@ use Rattle.pipe_plan.specs.PlanRows.{rows_of}
 use Rattle.pipe_plan.specs.Faults.{plan_fault}
 use Rattle.pipe_events.specs.Worlds.{Event, World, start}
 use Rattle.pipe_events.specs.Schedules.{run}
-use Rattle.pipe_events.specs.PlanStages.{stages_of, IsSound}
+use Rattle.pipe_events.specs.PlanStages.{stages_of, IsSoundPlan}
 use Rattle.pipe_events.proofs.PlanLemmas.{every_of_a_plan}
 use Rattle.pipe_events.proofs.Deciding.{lists_decided, completeness_decided}
 use Rattle.pipe_events.proofs.Unfaulted.{without_fault}
@@ -18,7 +18,7 @@ use Rattle.pipe_replay.specs.Replayed.{IsPlayed}
 use Rattle.pipe_replay.specs.Ends.{HasTheRows}
 
 module _ (hash_of : List ℕ → ℕ) (plan : Plan) (root workers parts : ℕ) (some : 0 < parts) (none : plan_fault plan root ≡ None) (fit : FramesFit plan) where
-  sound : IsSound plan root (setting_by hash_of workers parts)
+  sound : IsSoundPlan plan root (setting_by hash_of workers parts)
   sound = let there = without_fault plan root none in record {
     rooted = there.0;
     smaller = there.1;

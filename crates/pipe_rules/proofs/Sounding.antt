@@ -19,7 +19,7 @@ use Rattle.pipe_rules.specs.Placed.{placing_at}
 use Rattle.pipe_rules.specs.Conjuncts.{conjuncts_of}
 use Rattle.pipe_rules.proofs.Filters.{all-of}
 use Rattle.pipe_rules.specs.Low.{is_filter, Stays, IsLow}
-use Rattle.pipe_rules.specs.Grown.{over, Grows, IsSound, AreSound, IsFree}
+use Rattle.pipe_rules.specs.Grown.{over, Grows, IsSoundNode, AreSound, IsFree}
 use Rattle.pipe_rules.proofs.Renumber.{two}
 use Rattle.pipe_rules.proofs.Growing.{node-before, node-new, schema-stays}
 
@@ -84,7 +84,7 @@ module _ (frames : List Table) (old middle new : List Node) (grows : Grows middl
   schema-same m lt = ap (λ l. schema_of (over frames l) m) grows.grown ∙ schema-stays frames middle grows.more m lt
 
   module _ (first : AreSound frames old middle) where
-    each-stays : (m : ℕ) → length old ≤ m → m < length middle → IsSound frames new m
+    each-stays : (m : ℕ) → length old ≤ m → m < length middle → IsSoundNode frames new m
     each-stays m above lt =
         let x = node_at middle m in
         let s = schema_of (over frames middle) in
@@ -124,7 +124,7 @@ module _ (frames : List Table) (old middle new : List Node) (grows : Grows middl
                 ] in inner (cases_lt j (length middle)))
           ] in split (cases_lt m (length middle)));
       each = λ m above below. (
-          let split : (m < length middle) ⊎ (length middle ≤ m) → IsSound frames new m = elim [
+          let split : (m < length middle) ⊎ (length middle ≤ m) → IsSoundNode frames new m = elim [
             | inl l ↦ each-stays m above l
             | inr g ↦ second.each m g below
           ] in split (cases_lt m (length middle)));
@@ -170,7 +170,7 @@ module _ (frames : List Table) (old new : List Node) (x : Node) (ks : List ℕ) 
   read-by : (i : ℕ) → has_input (new ++ x ∷ []) i (length new) ≡ member i ks
   read-by i = ap (λ y. member i (inputs_of y)) (node-new new x []) ∙ ap (member i) inputs
 
-  pub one-sound : IsSound frames (new ++ x ∷ []) (length new) → AreSound frames old (new ++ x ∷ [])
+  pub one-sound : IsSoundNode frames (new ++ x ∷ []) (length new) → AreSound frames old (new ++ x ∷ [])
   one-sound own_sound = record {
     own = λ m i above below reads. (
         let split : (m < length new) ⊎ (length new ≤ m) → (length old ≤ i) × (i < m) = elim [
@@ -190,8 +190,8 @@ module _ (frames : List Table) (old new : List Node) (x : Node) (ks : List ℕ) 
               reads-same frames old new (new ++ x ∷ []) more j i j_lt ∙ f.unread j above j_lt)
         ] in split (cases_lt m (length new)));
     each = λ m above below. (
-        let split : (m < length new) ⊎ (length new ≤ m) → IsSound frames (new ++ x ∷ []) m = elim [
+        let split : (m < length new) ⊎ (length new ≤ m) → IsSoundNode frames (new ++ x ∷ []) m = elim [
           | inl l ↦ each-stays frames old new (new ++ x ∷ []) more sound m above l
-          | inr g ↦ subst (IsSound frames (new ++ x ∷ [])) (let e = one in omega arith) own_sound
+          | inr g ↦ subst (IsSoundNode frames (new ++ x ∷ [])) (let e = one in omega arith) own_sound
         ] in split (cases_lt m (length new)));
   }

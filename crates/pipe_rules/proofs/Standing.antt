@@ -23,7 +23,7 @@ use Rattle.pipe_rules.specs.Parted.{Parts, parted}
 use Rattle.pipe_rules.proofs.Filters.{all-of}
 use Rattle.pipe_rules.specs.Renumbered.{with_inputs}
 use Rattle.pipe_rules.specs.Low.{is_and, is_filter, Stays, IsConjunct, IsLow}
-use Rattle.pipe_rules.specs.Grown.{over, IsSound, AreSound, IsFree, AreRewritten}
+use Rattle.pipe_rules.specs.Grown.{over, IsSoundNode, AreSound, IsFree, AreRewritten}
 use Rattle.pipe_rules.proofs.Growing.{node-before, node-new, schema-stays, schema-new}
 use Rattle.pipe_rules.proofs.Granted.{granted, ready}
 use Rattle.pipe_rules.proofs.Renumber.{schema-renumbered}
@@ -77,7 +77,7 @@ module _ (plan : Plan) (root : ℕ) (good : IsWellFormed plan root) (n : ℕ) (u
       ∙ sym (granted plan root n good under).made
 
   module _ (plain : is_filter x ≡ false) where
-    copy-one : IsSound plan.frames made (length new)
+    copy-one : IsSoundNode plan.frames made (length new)
     copy-one =
         let g = granted plan root n good under in
         let at = node-new new y [] in
@@ -118,7 +118,7 @@ module _ (plan : Plan) (root : ℕ) (good : IsWellFormed plan root) (n : ℕ) (u
           ∙ placing-renumbered plan.frames (schema_of (over plan.frames new)) (schema_of plan) x ks inputs.schemas c
           ∙ k.stays
 
-      filter-one : IsSound plan.frames whole (length made)
+      filter-one : IsSoundNode plan.frames whole (length made)
       filter-one =
           let g = granted plan root n good under in
           let at : node_at whole (length made) ≡ f = node-new made f [] in

@@ -28,7 +28,7 @@ pub record Grows (old new : List Node) : Type 0 where
   pub grown : new ≡ old ++ more
 
 -- a node has no fault of its own, and stands low where it is a filter
-pub record IsSound (frames : List Table) (nodes : List Node) (m : ℕ) : Type 0 where
+pub record IsSoundNode (frames : List Table) (nodes : List Node) (m : ℕ) : Type 0 where
   pub once : repeats (inputs_of (node_at nodes m)) ≡ false
   pub whole : is_void frames (node_at nodes m) ≡ false
   pub faultless : fault_with false frames (schema_of (over frames nodes)) m (node_at nodes m) ≡ None
@@ -40,7 +40,7 @@ pub record AreSound (frames : List Table) (old new : List Node) : Type 0 where
       → (length old ≤ i) × (i < m)
   pub apart : (m j i : ℕ) → length old ≤ j → j < m → m < length new → has_input new i m ≡ true
       → has_input new i j ≡ false
-  pub each : (m : ℕ) → length old ≤ m → m < length new → IsSound frames new m
+  pub each : (m : ℕ) → length old ≤ m → m < length new → IsSoundNode frames new m
 
 -- each node under a root has at most so many rows
 abbrev pub AreWithin : Plan → ℕ → ℕ → Type 0

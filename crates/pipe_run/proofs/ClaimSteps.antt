@@ -12,8 +12,8 @@ use Rattle.pipe_ops.specs.declared.source.Morsel.{Morsel}
 use Rattle.pipe_chain.specs.Claims.{SeatClaims}
 use Rattle.pipe_chain.specs.Sums.{total}
 use Rattle.pipe_run.specs.declared.entry.Entry.{Entry}
-use Rattle.pipe_run.specs.declared.stage.Refusal.{Refusal}
-use Rattle.pipe_run.specs.declared.stage.Refusal.TheVariants.{Memory}
+use Rattle.pipe_run.specs.declared.stage.LaneFault.{LaneFault}
+use Rattle.pipe_run.specs.declared.stage.LaneFault.TheVariants.{Memory}
 use Rattle.pipe_run.specs.declared.lane.Lane.{Lane}
 use Rattle.pipe_run.specs.Claimed.{rows_in, rows_at, entries_for, entries_at, schema_in, IsOfSchema, drawn_at, drawn_in, past, Lot, Took}
 use Rattle.std.specs.Option.{is_some}
@@ -171,7 +171,7 @@ pub schema-there : (ms : List Morsel) (n : ℕ) (m : Morsel) → All (IsOfSchema
 schema-there ms n m all less is = ap (λ (x : Morsel). x.chunk.frame.schema) is ∙ all n m less
 
 -- nothing was refused
-pub calm-by : (o : Option Refusal) (b : Bool) → b ≡ is_some o → b ≡ false → o ≡ None
+pub calm-by : (o : Option LaneFault) (b : Bool) → b ≡ is_some o → b ≡ false → o ≡ None
 calm-by None b e f = refl
 calm-by (Some r) b e f = absurd (let no : true ≡ false = sym e ∙ f in cc)
 

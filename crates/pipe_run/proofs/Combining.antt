@@ -31,15 +31,15 @@ module _ {O K : Type 0} (held : K → List Row) where
     holds = subst (λ (rows : List Row). Same old rows) (sym (append-nil old)) (rows-refl old);
   }
 
-  combined-next : (combined : List (Lane O K)) (lane : Lane O K) → flat_map (held_in held) combined ++ held lane.basin.sink ≡ flat_map (held_in held) (combined ++ lane ∷ [])
+  combined-next : (combined : List (Lane O K)) (lane : Lane O K) → flat_map (held_in held) combined ++ held lane.target.sink ≡ flat_map (held_in held) (combined ++ lane ∷ [])
   combined-next combined lane =
-      ap (λ l. flat_map (held_in held) combined ++ l) (sym (append-nil (held lane.basin.sink))) ∙ sym (flat_map-append (held_in held) combined (lane ∷ []))
+      ap (λ l. flat_map (held_in held) combined ++ l) (sym (append-nil (held lane.target.sink))) ∙ sym (flat_map-append (held_in held) combined (lane ∷ []))
 
   -- the last of the reversed ones is the first that is left
   first-left : (left front : List (Lane O K)) (lane : Lane O K) → front ++ lane ∷ [] ≡ reverse left → left ≡ lane ∷ reverse front
   first-left left front lane e = sym (reverse-reverse left) ∙ ap reverse (sym e) ∙ reverse-append front (lane ∷ [])
 
-  pub gathering-next : (lanes reversed front : List (Lane O K)) (lane : Lane O K) (asked_old asked_mid asked_new : ℕ) (old mid new : List Row) → reversed ≡ front ++ lane ∷ [] → asked_new ≡ counted 1 asked_mid → Same new (mid ++ held lane.basin.sink) → Gathering lanes reversed asked_old asked_mid old mid → Gathering lanes front asked_old asked_new old new
+  pub gathering-next : (lanes reversed front : List (Lane O K)) (lane : Lane O K) (asked_old asked_mid asked_new : ℕ) (old mid new : List Row) → reversed ≡ front ++ lane ∷ [] → asked_new ≡ counted 1 asked_mid → Same new (mid ++ held lane.target.sink) → Gathering lanes reversed asked_old asked_mid old mid → Gathering lanes front asked_old asked_new old new
   gathering-next lanes reversed front lane asked_old asked_mid asked_new old mid new popped asked joined known =
       let first = first-left known.left front lane (sym popped ∙ known.turned) in
       let rows = flat_map (held_in held) known.combined in
@@ -49,7 +49,7 @@ module _ {O K : Type 0} (held : K → List Row) where
         in_order = known.in_order ∙ ap (λ l. known.combined ++ l) first ∙ sym (append_assoc known.combined (lane ∷ []) (reverse front));
         turned = sym (reverse-reverse front);
         asked = subst (λ n. Counts n asked_old asked_new) (sym (length-append known.combined (lane ∷ []))) (counts-next (length known.combined) 1 asked_old asked_mid asked_new known.asked asked);
-        holds = rows-trans joined (subst (λ (all : List Row). Same (mid ++ held lane.basin.sink) all) (append_assoc old rows (held lane.basin.sink) ∙ ap (λ l. old ++ l) (combined-next known.combined lane)) (rows-append known.holds (rows-refl (held lane.basin.sink))));
+        holds = rows-trans joined (subst (λ (all : List Row). Same (mid ++ held lane.target.sink) all) (append_assoc old rows (held lane.target.sink) ∙ ap (λ l. old ++ l) (combined-next known.combined lane)) (rows-append known.holds (rows-refl (held lane.target.sink))));
       }
 
   pub gathering-stopped : (lanes reversed : List (Lane O K)) (asked_old asked_mid asked_new : ℕ) (old new : List Row) → asked_new ≡ counted 1 asked_mid → Gathering lanes reversed asked_old asked_mid old new → FirstCombined held lanes asked_old asked_new old new

@@ -12,7 +12,7 @@ use Rattle.pipe_chain.specs.Claims.{SeatClaims, fresh_claimant}
 use Rattle.pipe_chain.specs.declared.operator.Operator.{Ghosts as OperatorWords}
 use Rattle.pipe_run.specs.declared.entry.Entry.{Entry}
 use Rattle.pipe_run.specs.declared.lane.Lane.{Lane}
-use Rattle.pipe_run.specs.declared.stage.Refusal.TheVariants.{Memory}
+use Rattle.pipe_run.specs.declared.stage.LaneFault.TheVariants.{Memory}
 use Rattle.pipe_run.specs.declared.stage.Stage.{Stage}
 use Rattle.pipe_run.specs.Flushes.{flushed_at, flushed_by, IsFlusher, HasFlusher, IsFlushFit, IsOwnFit}
 use Rattle.pipe_run.specs.Seats.{seated, unseated}

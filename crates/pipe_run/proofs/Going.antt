@@ -14,8 +14,8 @@ use Rattle.pipe_chain.specs.Counts.{AllWithin, Went}
 use Rattle.pipe_chain.specs.Flow.{Work, Acts}
 use Rattle.pipe_chain.specs.declared.operator.Operator.{Ghosts as OperatorWords}
 use Rattle.pipe_chain.proofs.Weighing.{within-by}
-use Rattle.pipe_run.specs.declared.stage.Refusal.{Refusal}
-use Rattle.pipe_run.specs.declared.stage.Refusal.TheVariants.{Memory}
+use Rattle.pipe_run.specs.declared.stage.LaneFault.{LaneFault}
+use Rattle.pipe_run.specs.declared.stage.LaneFault.TheVariants.{Memory}
 use Rattle.pipe_run.specs.declared.lane.Lane.{Lane}
 use Rattle.pipe_run.specs.Stages.{IsOver}
 use Rattle.pipe_run.specs.Lanes.{lane_operators, held_in, IsCalm, IsFit}
@@ -160,7 +160,7 @@ module _ {O S K B C : Type 0} (op : OperatorWords O S) (sink : SinkWords K B C) 
         through-within = rw others-on (within-by (λ w. omega (arith, total-append w through-on (left_rows left'))))
 
         -- a refusal of a round
-        pub going-over : (lanes' : List (Lane O K)) (r : Refusal) → IsOverIn op ss context.row_limit (schema_in ms) (rows_of_all ms) lanes lanes' r → IsOverIn op ss context.row_limit from (left_rows left₀) lanes₀ lanes' r
+        pub going-over : (lanes' : List (Lane O K)) (r : LaneFault) → IsOverIn op ss context.row_limit (schema_in ms) (rows_of_all ms) lanes lanes' r → IsOverIn op ss context.row_limit from (left_rows left₀) lanes₀ lanes' r
         going-over lanes' r h =
             let here : IsOverIn op ss context.row_limit from (rows_of_all ms) lanes lanes' r = subst (λ (f : List Field). IsOverIn op ss context.row_limit f (rows_of_all ms) lanes lanes' r) given-schema h in
             let now : IsOver context.row_limit works (acts_in op lanes) (acts_in op lanes') (counts_in lanes) (nodes_in lanes₀) (rows_of_all ms) r = rw (works-on, nodes-on) at here in

@@ -9,7 +9,7 @@ use Rattle.pipe_chain.specs.Chain.{works_of, acts_of, IsChain, AllServe, SameWor
 use Rattle.pipe_chain.specs.Counts.{AllWithin, plus, Went}
 use Rattle.pipe_chain.specs.declared.operator.Operator.{Ghosts as OperatorWords}
 use Rattle.pipe_run.specs.declared.lane.Lane.{Lane}
-use Rattle.pipe_run.specs.declared.stage.Refusal.TheVariants.{Memory}
+use Rattle.pipe_run.specs.declared.stage.LaneFault.TheVariants.{Memory}
 use Rattle.pipe_run.specs.Stages.{operators_of, nodes_of, counts}
 use Rattle.pipe_run.specs.Lanes.{lane_operators, lane_works, lane_acts, lane_counts, lane_nodes, held_in, IsCalm, IsFit, SameLane}
 use Rattle.pipe_run.specs.Claimed.{Lot}
@@ -23,14 +23,14 @@ module _ {O K : Type 0} where
   same_operators x y k = ap (λ s. operators_of s.items) k.stages
 
   same_counts : (x y : Lane O K) → IsKept x y → lane_counts y ≡ lane_counts x
-  same_counts x y k = ap (λ s. counts s.items y.basin) k.stages ∙ ap (λ b. counts x.stages.items b) k.basin
+  same_counts x y k = ap (λ s. counts s.items y.target) k.stages ∙ ap (λ b. counts x.stages.items b) k.target
 
   same_nodes : (x y : Lane O K) → IsKept x y → lane_nodes y ≡ lane_nodes x
-  same_nodes x y k = ap (λ s. nodes_of s.items y.basin) k.stages ∙ ap (λ b. nodes_of x.stages.items b) k.basin
+  same_nodes x y k = ap (λ s. nodes_of s.items y.target) k.stages ∙ ap (λ b. nodes_of x.stages.items b) k.target
 
   pub all_kept : (lanes : List (Lane O K)) → AllKept lanes lanes
   all_kept [] = tt
-  all_kept (x ∷ lanes) = (record { stages = refl; flushers = refl; basin = refl; seat = refl; refused = refl }, all_kept lanes)
+  all_kept (x ∷ lanes) = (record { stages = refl; flushers = refl; target = refl; seat = refl; refused = refl }, all_kept lanes)
 
   pub kept_head : (lanes others : List (Lane O K)) (x y : Lane O K) → lanes ≡ x ∷ others → IsKept x y → AllKept lanes (y ∷ others)
   kept_head lanes others x y e k = subst (λ l. AllKept l (y ∷ others)) (sym e) (k, all_kept others)
@@ -63,7 +63,7 @@ module _ {O K : Type 0} where
   kept_held held [] (y ∷ new) h = absurd h
   kept_held held (x ∷ old) [] h = absurd h
   kept_held held (x ∷ old) (y ∷ new) h =
-      ap (λ b. held b.sink ++ flat_map (held_in held) new) h.0.basin ∙ ap (λ l. held x.basin.sink ++ l) (kept_held held old new h.1)
+      ap (λ b. held b.sink ++ flat_map (held_in held) new) h.0.target ∙ ap (λ l. held x.target.sink ++ l) (kept_held held old new h.1)
 
   -- a fact of one lane that is kept holds of all
   pub kept_all : (P : Lane O K → Type 0) → ((x y : Lane O K) → IsKept x y → P x → P y) → (old new : List (Lane O K)) → AllKept old new → All P old → All P new
@@ -89,10 +89,10 @@ module _ {O K : Type 0} where
         let numbers = same_counts x y k in
         record {
           serve = subst (λ os. AllServe op os ss) (sym ops) fit.serve;
-          chain = subst (λ b. IsChain op from (lane_operators y) (sink.schema b.sink)) (sym k.basin) (subst (λ os. IsChain op from os (sink.schema x.basin.sink)) (sym ops) fit.chain);
+          chain = subst (λ b. IsChain op from (lane_operators y) (sink.schema b.sink)) (sym k.target) (subst (λ os. IsChain op from os (sink.schema x.target.sink)) (sym ops) fit.chain);
           still = λ calm. subst (λ os. AllByRecursion op.idle os) (sym ops) (fit.still (sym k.refused ∙ calm));
           within = λ calm. subst (λ c. AllWithin limit c) (sym numbers) (fit.within (sym k.refused ∙ calm));
-          room = λ calm. subst (λ b. length (sink.held b.sink) ≤ b.given) (sym k.basin) (fit.room (sym k.refused ∙ calm));
+          room = λ calm. subst (λ b. length (sink.held b.sink) ≤ b.given) (sym k.target) (fit.room (sym k.refused ∙ calm));
         }
 
     pub kept_fit : (limit : ℕ) (from : List Field) (old new : List (Lane O K)) → AllKept old new → All (IsFit op sink ss limit from) old → All (IsFit op sink ss limit from) new
@@ -111,9 +111,9 @@ module _ {O K : Type 0} where
     same_kept x y z k same = record {
       work = subst (λ os. SameWork op (lane_operators x) os) (sym (same_operators y z k)) same.work;
       nodes = same_nodes y z k ∙ same.nodes;
-      setting = ap (λ b. sink.setting b.sink) k.basin ∙ same.setting;
-      schema = ap (λ b. sink.schema b.sink) k.basin ∙ same.schema;
-      gives = ap (λ b. sink.gives b.sink) k.basin ∙ same.gives;
+      setting = ap (λ b. sink.setting b.sink) k.target ∙ same.setting;
+      schema = ap (λ b. sink.schema b.sink) k.target ∙ same.schema;
+      gives = ap (λ b. sink.gives b.sink) k.target ∙ same.gives;
     }
 
     all_same_kept : (old mid new : List (Lane O K)) → AllKept mid new → AllSame op sink old mid → AllSame op sink old new

@@ -14,7 +14,7 @@ use Rattle.pipe_chain.specs.Chain.{IsChain, AllServe, SameWork}
 use Rattle.pipe_chain.specs.Counts.{AllWithin, Went}
 use Rattle.pipe_chain.specs.declared.operator.Operator.{Ghosts as OperatorWords}
 use Rattle.pipe_chain.proofs.Weighing.{weighs, rows-by, rows-length}
-use Rattle.pipe_run.specs.declared.stage.Refusal.{Refusal}
+use Rattle.pipe_run.specs.declared.stage.LaneFault.{LaneFault}
 use Rattle.pipe_run.specs.declared.lane.Lane.{Lane}
 use Rattle.pipe_run.specs.Lanes.{lane_operators, lane_works, lane_counts, held_in, IsCalm, IsFit, SameLane, Stopped, Ran}
 use Rattle.pipe_run.proofs.Work.{work-refl, work-trans, work-works, work-chain, work-serve, acts-length}
@@ -46,17 +46,17 @@ module _ {O S K B C : Type 0} (op : OperatorWords O S) (sink : SinkWords K B C) 
   Did rows old new = Ran op sink ss limit from rows old new
 
   -- a lane after a chunk
-  pub fit-after : (old new : Lane O K) → Fit old → SameWork op (lane_operators old) (lane_operators new) → sink.schema new.basin.sink ≡ sink.schema old.basin.sink
-      → (IsCalm new → AllByRecursion op.idle (lane_operators new)) → (IsCalm new → AllWithin limit (lane_counts new)) → (IsCalm new → length (sink.held new.basin.sink) ≤ new.basin.given) → Fit new
+  pub fit-after : (old new : Lane O K) → Fit old → SameWork op (lane_operators old) (lane_operators new) → sink.schema new.target.sink ≡ sink.schema old.target.sink
+      → (IsCalm new → AllByRecursion op.idle (lane_operators new)) → (IsCalm new → AllWithin limit (lane_counts new)) → (IsCalm new → length (sink.held new.target.sink) ≤ new.target.given) → Fit new
   fit-after old new fit work same still within room = record {
     serve = work-serve op (lane_operators old) (lane_operators new) ss work fit.serve;
-    chain = subst (λ (end : List Field). IsChain op from (lane_operators new) end) (sym same) (work-chain op (lane_operators old) (lane_operators new) from (sink.schema old.basin.sink) work fit.chain);
+    chain = subst (λ (end : List Field). IsChain op from (lane_operators new) end) (sym same) (work-chain op (lane_operators old) (lane_operators new) from (sink.schema old.target.sink) work fit.chain);
     still = still;
     within = within;
     room = room;
   }
 
-  stopped-later : (works : List Work) (x y z : List Acts) (n m nodes : List ℕ) (rows more h h' : List Row) (o : Option Refusal) → Went works x y n m rows h h' → Stopped limit works y z m nodes more o → Stopped limit works x z n nodes (rows ++ more) o
+  stopped-later : (works : List Work) (x y z : List Acts) (n m nodes : List ℕ) (rows more h h' : List Row) (o : Option LaneFault) → Went works x y n m rows h h' → Stopped limit works y z m nodes more o → Stopped limit works x z n nodes (rows ++ more) o
   stopped-later works x y z n m nodes rows more h h' None went s = tt
   stopped-later works x y z n m nodes rows more h h' (Some r) went s = over-later limit works x y z n m nodes rows more h h' r went s
 
@@ -72,7 +72,7 @@ module _ {O S K B C : Type 0} (op : OperatorWords O S) (sink : SinkWords K B C) 
         kept = λ go. h.kept on;
       }
 
-  stopped-none : (works : List Work) (x y : List Acts) (n nodes : List ℕ) (rows : List Row) (o : Option Refusal) → o ≡ None → Stopped limit works x y n nodes rows o
+  stopped-none : (works : List Work) (x y : List Acts) (n nodes : List ℕ) (rows : List Row) (o : Option LaneFault) → o ≡ None → Stopped limit works x y n nodes rows o
   stopped-none works x y n nodes rows None e = tt
   stopped-none works x y n nodes rows (Some r) e = cc
 
@@ -80,18 +80,18 @@ module _ {O S K B C : Type 0} (op : OperatorWords O S) (sink : SinkWords K B C) 
   pub ran-none : (a : Lane O K) → AllServe op (lane_operators a) ss → Did [] a a
   ran-none a serve = record {
     same = lane-refl op sink a;
-    went = λ go. went-none _ _ _ _ (acts-length op _ from ss serve) (counts-length op from a.stages.items a.basin ss serve);
+    went = λ go. went-none _ _ _ _ (acts-length op _ from ss serve) (counts-length op from a.stages.items a.target ss serve);
     stopped = λ start. stopped-none _ _ _ _ _ _ a.refused start;
     kept = λ go. go;
   }
 
 module _ {O K : Type 0} (held : K → List Row) where
-  popped : (lanes front : List (Lane O K)) (lane : Lane O K) → lanes ≡ front ++ lane ∷ [] → flat_map (held_in held) lanes ≡ flat_map (held_in held) front ++ held lane.basin.sink
+  popped : (lanes front : List (Lane O K)) (lane : Lane O K) → lanes ≡ front ++ lane ∷ [] → flat_map (held_in held) lanes ≡ flat_map (held_in held) front ++ held lane.target.sink
   popped lanes front lane e =
-      ap (flat_map (held_in held)) e ∙ flat_map-append (held_in held) front (lane ∷ []) ∙ ap (λ l. flat_map (held_in held) front ++ l) (append-nil (held lane.basin.sink))
+      ap (flat_map (held_in held)) e ∙ flat_map-append (held_in held) front (lane ∷ []) ∙ ap (λ l. flat_map (held_in held) front ++ l) (append-nil (held lane.target.sink))
 
   -- one lane's sink joins the others
-  pub gathered-in : (sink more : K) (lanes front : List (Lane O K)) (lane : Lane O K) (goal : List Row) → lanes ≡ front ++ lane ∷ [] → Same (held more) (held sink ++ held lane.basin.sink) → Same (held sink ++ flat_map (held_in held) lanes) goal → Same (held more ++ flat_map (held_in held) front) goal
+  pub gathered-in : (sink more : K) (lanes front : List (Lane O K)) (lane : Lane O K) (goal : List Row) → lanes ≡ front ++ lane ∷ [] → Same (held more) (held sink ++ held lane.target.sink) → Same (held sink ++ flat_map (held_in held) lanes) goal → Same (held more ++ flat_map (held_in held) front) goal
   gathered-in sink more lanes front lane goal e joined known = rows-by (λ w. omega (
     arith,
     weighs known w,
@@ -99,11 +99,11 @@ module _ {O K : Type 0} (held : K → List Row) where
     ap (total w) (popped lanes front lane e),
     total-append w (held sink) (flat_map (held_in held) lanes),
     total-append w (held more) (flat_map (held_in held) front),
-    total-append w (held sink) (held lane.basin.sink),
-    total-append w (flat_map (held_in held) front) (held lane.basin.sink),
+    total-append w (held sink) (held lane.target.sink),
+    total-append w (flat_map (held_in held) front) (held lane.target.sink),
   ))
 
-  pub gather-room : (sink : K) (lanes front : List (Lane O K)) (lane : Lane O K) (goal : List Row) (n : ℕ) → lanes ≡ front ++ lane ∷ [] → Same (held sink ++ flat_map (held_in held) lanes) goal → length goal ≤ n → length (held sink) + length (held lane.basin.sink) ≤ n
+  pub gather-room : (sink : K) (lanes front : List (Lane O K)) (lane : Lane O K) (goal : List Row) (n : ℕ) → lanes ≡ front ++ lane ∷ [] → Same (held sink ++ flat_map (held_in held) lanes) goal → length goal ≤ n → length (held sink) + length (held lane.target.sink) ≤ n
   gather-room sink lanes front lane goal n e known room =
       omega (
         arith,
@@ -111,7 +111,7 @@ module _ {O K : Type 0} (held : K → List Row) where
         rows-length known,
         ap length (popped lanes front lane e),
         length-append (held sink) (flat_map (held_in held) lanes),
-        length-append (flat_map (held_in held) front) (held lane.basin.sink),
+        length-append (flat_map (held_in held) front) (held lane.target.sink),
       )
 
   -- in any order of the lanes

@@ -13,8 +13,8 @@ use Rattle.pipe_chain.specs.Parts.{Parts}
 use Rattle.pipe_chain.specs.Counts.{counts_of, plus, Went, Broke, Going}
 use Rattle.pipe_chain.proofs.Weighing.{weighs, rows-by, rows-refl, rows-length, fewer, within-by, within-length, keys-weigh, keys-by, keys-refl, keys-fewer, keys-within, length-both}
 use Rattle.pipe_chain.proofs.FlowLemmas.{made-both, made-same, flows-same, flows-both, flows-none, flows-length, grown-none, grown-one, grown-trans, grown-length, grown-beside, rows-more, rows-beside, few-both, few-none, few-added}
-use Rattle.pipe_run.specs.declared.stage.Refusal.{Refusal}
-use Rattle.pipe_run.specs.declared.stage.Refusal.TheVariants.{TooMany, Memory}
+use Rattle.pipe_run.specs.declared.stage.LaneFault.{LaneFault}
+use Rattle.pipe_run.specs.declared.stage.LaneFault.TheVariants.{TooMany, Memory}
 use Rattle.pipe_run.specs.Stages.{Tells, IsOver, IsOverAbove}
 use Rattle.pipe_run.proofs.Sums.{tells-left, tells-right}
 
@@ -265,7 +265,7 @@ module _ (w : Work) (ws : List Work) (a : Acts) (olds : List Acts) (before : Lis
   some-keys x y z h = keys-within (λ f. omega (arith, keys-weigh h f, total-append f x y))
 
   -- a piece went a part of its way
-  over-above : (limit : ℕ) (nodes : List ℕ) (r : Refusal) (given piece left : List Row) (keys : List ℕ) (mid : List ℕ) (more : Acts) (c : Acts) (news newers : List Acts) (held' : List Row) → Grown a c more → SameKeys (more.marked ++ keys) (flat_map w.asks rows) → Same ((given ++ piece) ++ left) (made w more.won rows) → Few more
+  over-above : (limit : ℕ) (nodes : List ℕ) (r : LaneFault) (given piece left : List Row) (keys : List ℕ) (mid : List ℕ) (more : Acts) (c : Acts) (news newers : List Acts) (held' : List Row) → Grown a c more → SameKeys (more.marked ++ keys) (flat_map w.asks rows) → Same ((given ++ piece) ++ left) (made w more.won rows) → Few more
       → Went ws olds news before mid given held held' → IsOver limit ws news newers mid nodes piece r → IsOverAbove limit (w ∷ ws) (a ∷ olds) (c ∷ newers) before nodes rows r
   over-above limit nodes r given piece left keys mid more c news newers held' grown marked paid few went q = record {
     tally = plus (counts_of ws went.acts given) q.tally;
@@ -284,12 +284,12 @@ module _ (w : Work) (ws : List Work) (a : Acts) (olds : List Acts) (before : Lis
   }
 
   module _ (limit : ℕ) (nodes : List ℕ) (b c : Acts) (news : List Acts) (mid : List ℕ) (held' : List Row) (owed left : Owed) (g : Going w ws a b olds news before mid rows owed held held') where
-    pub above-more : (piece : DataChunk) (newers : List Acts) (r : Refusal) → Executed w b c owed left (HaveMoreOutPut piece) → IsOver limit ws news newers mid nodes piece.frame.rows r → IsOverAbove limit (w ∷ ws) (a ∷ olds) (c ∷ newers) before nodes rows r
+    pub above-more : (piece : DataChunk) (newers : List Acts) (r : LaneFault) → Executed w b c owed left (HaveMoreOutPut piece) → IsOver limit ws news newers mid nodes piece.frame.rows r → IsOverAbove limit (w ∷ ws) (a ∷ olds) (c ∷ newers) before nodes rows r
     above-more piece newers r e q = over-above limit nodes r g.given piece.frame.rows left.rows left.keys mid (both_acts g.more e.more) c news newers held' (grown-one a b c g.more e.more g.grown e.grown)
         (keys-on g.more.marked owed.keys e.more.marked left.keys _ g.keys e.keys) (paid-more g.given owed.rows piece.frame.rows left.rows g.more.won e.more.won g.paid e.rows)
         (few-both g.more e.more g.few e.few) g.went q
 
-    pub above-last : (piece : DataChunk) (newers : List Acts) (r : Refusal) → Executed w b c owed left (Finished piece) → IsOver limit ws news newers mid nodes piece.frame.rows r → IsOverAbove limit (w ∷ ws) (a ∷ olds) (c ∷ newers) before nodes rows r
+    pub above-last : (piece : DataChunk) (newers : List Acts) (r : LaneFault) → Executed w b c owed left (Finished piece) → IsOver limit ws news newers mid nodes piece.frame.rows r → IsOverAbove limit (w ∷ ws) (a ∷ olds) (c ∷ newers) before nodes rows r
     above-last piece newers r e q = over-above limit nodes r g.given piece.frame.rows [] [] mid (both_acts g.more e.more) c news newers held' (grown-one a b c g.more e.more g.grown e.grown)
         (keys-on g.more.marked owed.keys e.more.marked [] _ g.keys e.keys) (paid-more g.given owed.rows piece.frame.rows [] g.more.won e.more.won g.paid e.rows)
         (few-both g.more e.more g.few e.few) g.went q
@@ -337,11 +337,11 @@ went-first w ws a b before after' rows held held' n m e r = from r.acts r.grown 
         let rest : after' ≡ plus before (counts_of ws ds (made w d.won rows)) = cc in
         record { acts = d ∷ ds; out = r.out; grown = g; few = few; flows = f; sunk = r.sunk; tally = rw (e, ← rest) refl }
 
-told-later : (limit : ℕ) (ns nodes : List ℕ) (n st : ℕ) (r : Refusal) → Tells limit ns nodes r → Tells limit (n ∷ ns) (st ∷ nodes) r
+told-later : (limit : ℕ) (ns nodes : List ℕ) (n st : ℕ) (r : LaneFault) → Tells limit ns nodes r → Tells limit (n ∷ ns) (st ∷ nodes) r
 told-later limit ns nodes n st (TooMany node) h = inr h
 told-later limit ns nodes n st Memory h = tt
 
-pub over-first : (limit : ℕ) (ws : List Work) (a b : List Acts) (before nodes : List ℕ) (rows : List Row) (n st : ℕ) (r : Refusal) → IsOverAbove limit ws a b before nodes rows r → IsOver limit ws a b (n ∷ before) (st ∷ nodes) rows r
+pub over-first : (limit : ℕ) (ws : List Work) (a b : List Acts) (before nodes : List ℕ) (rows : List Row) (n st : ℕ) (r : LaneFault) → IsOverAbove limit ws a b before nodes rows r → IsOver limit ws a b (n ∷ before) (st ∷ nodes) rows r
 over-first limit ws a b before nodes rows n st r q = record { tally = length rows ∷ q.tally; broke = q.broke; told = told-later limit _ nodes _ st r q.told }
 
 pub over-here : (limit : ℕ) (w : Work) (ws : List Work) (acts : List Acts) (before nodes : List ℕ) (rows : List Row) (n st : ℕ) → length acts ≡ length ws + 1 → limit < n + length rows → IsOver limit (w ∷ ws) acts acts (n ∷ before) (st ∷ nodes) rows (TooMany st)
@@ -367,7 +367,7 @@ went-end rows held held' n m e is = record { acts = []; out = rows; grown = tt; 
 -- ---- rows that went through, and then others that broke off
 
 -- all rows went through, and a count is past the limit, or memory runs out
-pub over-whole : (limit : ℕ) (ws : List Work) (a b : List Acts) (n m nodes : List ℕ) (xs h h' : List Row) (r : Refusal) → Went ws a b n m xs h h' → Tells limit m nodes r → IsOver limit ws a b n nodes xs r
+pub over-whole : (limit : ℕ) (ws : List Work) (a b : List Acts) (n m nodes : List ℕ) (xs h h' : List Row) (r : LaneFault) → Went ws a b n m xs h h' → Tells limit m nodes r → IsOver limit ws a b n nodes xs r
 over-whole limit ws a b n m nodes xs h h' r went told = record {
   tally = counts_of ws went.acts xs;
   broke = record { acts = went.acts; grown = went.grown; parts = parts-flows ws went.acts xs went.out went.flows went.few };
@@ -378,7 +378,7 @@ over-whole limit ws a b n m nodes xs h h' r went told = record {
 pub over-none : (limit : ℕ) (ws : List Work) (acts : List Acts) (n nodes : List ℕ) (xs : List Row) → length acts ≡ length ws → IsOver limit ws acts acts n nodes xs Memory
 over-none limit ws acts n nodes xs e = record { tally = zeros ws; broke = record { acts = nothing ws; grown = grown-none ws acts e; parts = parts-none ws xs }; told = tt }
 
-pub over-later : (limit : ℕ) (ws : List Work) (a b c : List Acts) (n m nodes : List ℕ) (xs ys h h' : List Row) (r : Refusal) → Went ws a b n m xs h h' → IsOver limit ws b c m nodes ys r → IsOver limit ws a c n nodes (xs ++ ys) r
+pub over-later : (limit : ℕ) (ws : List Work) (a b c : List Acts) (n m nodes : List ℕ) (xs ys h h' : List Row) (r : LaneFault) → Went ws a b n m xs h h' → IsOver limit ws b c m nodes ys r → IsOver limit ws a c n nodes (xs ++ ys) r
 over-later limit ws a b c n m nodes xs ys h h' r went q = record {
   tally = plus (counts_of ws went.acts xs) q.tally;
   broke = record {
@@ -394,7 +394,7 @@ over-later limit ws a b c n m nodes xs ys h h' r went q = record {
 pub sum-more : (given owed piece left all : List Row) → Same (given ++ owed) all → Same owed (piece ++ left) → Same ((given ++ piece) ++ left) all
 sum-more given owed piece left all h k = rows-by (λ f. omega (arith, weighs h f, weighs k f, total-append f given owed, total-append f piece left, total-append f (given ++ piece) left, total-append f given piece))
 
-pub over-part : (limit : ℕ) (ws : List Work) (a b : List Acts) (n nodes : List ℕ) (some all : List Row) (r : Refusal) → Within some all → IsOver limit ws a b n nodes some r → IsOver limit ws a b n nodes all r
+pub over-part : (limit : ℕ) (ws : List Work) (a b : List Acts) (n nodes : List ℕ) (some all : List Row) (r : LaneFault) → Within some all → IsOver limit ws a b n nodes some r → IsOver limit ws a b n nodes all r
 over-part limit ws a b n nodes some all r h q = record {
   tally = q.tally;
   broke = record { acts = q.broke.acts; grown = q.broke.grown; parts = parts-within ws q.broke.acts q.tally some all h q.broke.parts };
@@ -427,7 +427,7 @@ module _ (ws : List Work) (a : List Acts) (n : List ℕ) (all held : List Row) w
     pub drained-none : owed ≡ [] → Went ws a b n m all held held'
     drained-none e = went-same ws a b n m _ _ _ _ (rw (e, append-nil) at d.paid) d.went
 
-    pub drained-over : (limit : ℕ) (nodes : List ℕ) (c : List Acts) (piece left : List Row) (r : Refusal) → Same owed (piece ++ left) → IsOver limit ws b c m nodes piece r → IsOver limit ws a c n nodes all r
+    pub drained-over : (limit : ℕ) (nodes : List ℕ) (c : List Acts) (piece left : List Row) (r : LaneFault) → Same owed (piece ++ left) → IsOver limit ws b c m nodes piece r → IsOver limit ws a c n nodes all r
     drained-over limit nodes c piece left r e q =
         over-part limit ws a c n nodes (d.given ++ piece) all r (within-by (λ f. omega (arith, weighs (sum-more d.given owed piece left all d.paid e) f, total-append f (d.given ++ piece) left))) (over-later limit ws a b c n m nodes d.given piece held held' r d.went q)
 
@@ -497,7 +497,7 @@ pub record Part (ws : List Work) (a b : List Acts) (xs : List Row) : Type 0 wher
 pub part-went : (ws : List Work) (a b : List Acts) (n m : List ℕ) (xs h h' : List Row) → Went ws a b n m xs h h' → Part ws a b xs
 part-went ws a b n m xs h h' r = record { tally = counts_of ws r.acts xs; broke = record { acts = r.acts; grown = r.grown; parts = parts-flows ws r.acts xs r.out r.flows r.few } }
 
-pub part-over : (limit : ℕ) (ws : List Work) (a b : List Acts) (n nodes : List ℕ) (xs : List Row) (r : Refusal) → IsOver limit ws a b n nodes xs r → Part ws a b xs
+pub part-over : (limit : ℕ) (ws : List Work) (a b : List Acts) (n nodes : List ℕ) (xs : List Row) (r : LaneFault) → IsOver limit ws a b n nodes xs r → Part ws a b xs
 part-over limit ws a b n nodes xs r q = record { tally = q.tally; broke = q.broke }
 
 broke-beside : (ws : List Work) (a b c d : List Acts) (t u : List ℕ) (xs ys : List Row) → Broke ws a b t xs → Broke ws c d u ys → Broke ws (added a c) (added b d) (plus t u) (xs ++ ys)
@@ -510,7 +510,7 @@ broke-beside ws a b c d t u xs ys p q = record {
 pub part-beside : (ws : List Work) (a b c d : List Acts) (xs ys : List Row) → Part ws a b xs → Part ws c d ys → Part ws (added a c) (added b d) (xs ++ ys)
 part-beside ws a b c d xs ys p q = record { tally = plus p.tally q.tally; broke = broke-beside ws a b c d p.tally q.tally xs ys p.broke q.broke }
 
-module _ (limit : ℕ) (ws : List Work) (a b c d : List Acts) (n k nodes : List ℕ) (xs ys : List Row) (r : Refusal) (e : length n ≡ length ws + 1) (e' : length k ≡ length ws + 1) where
+module _ (limit : ℕ) (ws : List Work) (a b c d : List Acts) (n k nodes : List ℕ) (xs ys : List Row) (r : LaneFault) (e : length n ≡ length ws + 1) (e' : length k ≡ length ws + 1) where
   -- what one lane passes, all pass together
   pub over-left : IsOver limit ws a b n nodes xs r → Part ws c d ys → IsOver limit ws (added a c) (added b d) (plus n k) nodes (xs ++ ys) r
   over-left q p =

@@ -15,8 +15,8 @@ use Rattle.pipe_chain.specs.Flow.{Work, Acts, added}
 use Rattle.pipe_chain.specs.Chain.{AllServe}
 use Rattle.pipe_chain.specs.Counts.{Went}
 use Rattle.pipe_chain.specs.declared.operator.Operator.{Ghosts as OperatorWords}
-use Rattle.pipe_run.specs.declared.stage.Refusal.{Refusal}
-use Rattle.pipe_run.specs.declared.stage.Refusal.TheVariants.{Memory}
+use Rattle.pipe_run.specs.declared.stage.LaneFault.{LaneFault}
+use Rattle.pipe_run.specs.declared.stage.LaneFault.TheVariants.{Memory}
 use Rattle.pipe_run.specs.declared.lane.Lane.{Lane}
 use Rattle.pipe_run.specs.Stages.{Tells, IsOver}
 use Rattle.pipe_run.specs.Lanes.{lane_operators, lane_acts, lane_counts, lane_nodes, held_in, IsCalm, IsFit, IsSet, SameLane, Ran}
@@ -125,7 +125,7 @@ module _ {O S K : Type 0} (op : OperatorWords O S) (ss : List S) (from : List Fi
   Serve lane = AllServe op (lane_operators lane) ss
 
   pub lane-counts-length : (x : Lane O K) → Like x → Serve x → length (lane_counts x) ≡ length works + 1
-  lane-counts-length x like serve = counts-length op from x.stages.items x.basin ss serve ∙ ap (λ (ws : List Work). length ws + 1) like.0
+  lane-counts-length x like serve = counts-length op from x.stages.items x.target ss serve ∙ ap (λ (ws : List Work). length ws + 1) like.0
 
   lane-acts-length : (x : Lane O K) → Like x → Serve x → length (lane_acts op x) ≡ length works
   lane-acts-length x like serve = acts-length op (lane_operators x) from ss serve ∙ ap (λ (ws : List Work). length ws) like.0
@@ -244,7 +244,7 @@ module _ {O S K B C : Type 0} (op : OperatorWords O S) (sink : SinkWords K B C) 
         (went-beside works _ _ _ _ _ _ _ _ _ _ _ _ _ _ (lane-counts-length op ss from works nodes x (like 0 x (omega arith)) (serve 0 x (omega arith))) (counts-in-length op ss from works nodes z old (rest-of op ss from works nodes LikeThese x (z ∷ old) like) (rest-of op ss from works nodes ServeThese x (z ∷ old) serve)) one others)
 
     -- a part of the way, whatever was refused
-    one-part : (ns : List ℕ) (x y : Lane O K) (o : Option Refusal) → y.refused ≡ o → Took op sink ss limit lot ns x y → LikeThese x → IsCalm x → Part works (lane_acts op x) (lane_acts op y) (flat_map (lot.rows) ns)
+    one-part : (ns : List ℕ) (x y : Lane O K) (o : Option LaneFault) → y.refused ≡ o → Took op sink ss limit lot ns x y → LikeThese x → IsCalm x → Part works (lane_acts op x) (lane_acts op y) (flat_map (lot.rows) ns)
     one-part ns x y None e h like calm = part-went works _ _ _ _ _ _ _ (one-went ns x y h like e)
     one-part ns x y (Some r) e h like calm =
         let over : IsOver limit works (lane_acts op x) (lane_acts op y) (lane_counts x) (lane_nodes x) (flat_map (lot.rows) ns) r = rw (like.0, e) at (h.ran.stopped calm) in
@@ -261,16 +261,16 @@ module _ {O S K B C : Type 0} (op : OperatorWords O S) (sink : SinkWords K B C) 
         rw (rows-in-all (lot.rows) ns (n ∷ nss))
         (part-beside works _ _ _ _ _ _ (one-part ns x y y.refused refl h.0 (like 0 x (omega arith)) (calm 0 x (omega arith))) (took-part n nss z v old new h.1 (rest-of op ss from works nodes LikeThese x (z ∷ old) like) (λ i d less. calm (suc i) d (omega arith))))
 
-    one-over : (ns : List ℕ) (x y : Lane O K) (r : Refusal) → y.refused ≡ Some r → Took op sink ss limit lot ns x y → LikeThese x → IsCalm x → IsOver limit works (lane_acts op x) (lane_acts op y) (lane_counts x) nodes (flat_map (lot.rows) ns) r
+    one-over : (ns : List ℕ) (x y : Lane O K) (r : LaneFault) → y.refused ≡ Some r → Took op sink ss limit lot ns x y → LikeThese x → IsCalm x → IsOver limit works (lane_acts op x) (lane_acts op y) (lane_counts x) nodes (flat_map (lot.rows) ns) r
     one-over ns x y r e h like calm = rw (like.0, like.1, e) at (h.ran.stopped calm)
 
     -- why the least lane that stopped did
-    pub took-over : (ns : List ℕ) (nss : List (List ℕ)) (x y : Lane O K) (old new : List (Lane O K)) (r : Refusal) → Takes (ns ∷ nss) (x ∷ old) (y ∷ new) → All LikeThese (x ∷ old) → All ServeThese (x ∷ old) → All IsCalm (x ∷ old) → first_refused (y ∷ new) ≡ Some r
+    pub took-over : (ns : List ℕ) (nss : List (List ℕ)) (x y : Lane O K) (old new : List (Lane O K)) (r : LaneFault) → Takes (ns ∷ nss) (x ∷ old) (y ∷ new) → All LikeThese (x ∷ old) → All ServeThese (x ∷ old) → All IsCalm (x ∷ old) → first_refused (y ∷ new) ≡ Some r
         → IsOver limit works (acts_in op (x ∷ old)) (acts_in op (y ∷ new)) (counts_in (x ∷ old)) nodes (flat_map (lot.rows) (in_all (ns ∷ nss))) r
     took-over ns [] x y [] [] r h like serve calm e =
         rw (added-nil (lane_acts op x), added-nil (lane_acts op y), plus-nil (lane_counts x), append-nil ns) (one-over ns x y r (only y.refused r e) h.0 (like 0 x (omega arith)) (calm 0 x (omega arith)))
       where
-        only : (o : Option Refusal) (r : Refusal) → first_of o None ≡ Some r → o ≡ Some r
+        only : (o : Option LaneFault) (r : LaneFault) → first_of o None ≡ Some r → o ≡ Some r
         only None r e = e
         only (Some q) r e = e
     took-over ns [] x y [] (z ∷ new) r h like serve calm e = absurd h.1
@@ -289,7 +289,7 @@ module _ {O S K B C : Type 0} (op : OperatorWords O S) (sink : SinkWords K B C) 
         (first-or-later y.refused refl (λ is. over-left limit works _ _ _ _ _ _ nodes _ _ r x_long others_long (one-over ns x y r is h.0 x_like x_calm) (took-part n nss z v old new h.1 like' calm'))
         (λ none later. over-right limit works _ _ _ _ _ _ nodes _ _ r x_long others_long (one-part ns x y None none h.0 x_like x_calm) (took-over n nss z v old new r h.1 like' serve' calm' later)))
       where
-        first-or-later : {G : Type 0} (o : Option Refusal) → y.refused ≡ o → (y.refused ≡ Some r → G) → (y.refused ≡ None → first_refused (v ∷ new) ≡ Some r → G) → G
+        first-or-later : {G : Type 0} (o : Option LaneFault) → y.refused ≡ o → (y.refused ≡ Some r → G) → (y.refused ≡ None → first_refused (v ∷ new) ≡ Some r → G) → G
         first-or-later None is f g = g is (let e' : first_of y.refused (first_refused (v ∷ new)) ≡ Some r = e in rw is at e')
         first-or-later (Some q) is f g = f (is ∙ (let e' : first_of y.refused (first_refused (v ∷ new)) ≡ Some r = e in rw is at e'))
 
@@ -299,12 +299,12 @@ module _ {O K : Type 0} where
   calm-all [] e i d less = absurd (omega arith)
   calm-all (x ∷ lanes) e zero d less = first-none x.refused (first_refused lanes) e
     where
-      first-none : (o later : Option Refusal) → first_of o later ≡ None → o ≡ None
+      first-none : (o later : Option LaneFault) → first_of o later ≡ None → o ≡ None
       first-none None later e = refl
       first-none (Some r) later e = cc
   calm-all (x ∷ lanes) e (suc i) d less = calm-all lanes (later-none x.refused (first_refused lanes) e) i d (omega arith)
     where
-      later-none : (o later : Option Refusal) → first_of o later ≡ None → later ≡ None
+      later-none : (o later : Option LaneFault) → first_of o later ≡ None → later ≡ None
       later-none None later e = e
       later-none (Some r) later e = cc
 
@@ -375,10 +375,10 @@ module _ {O K : Type 0} where
   calm-none [] h = refl
   calm-none (x ∷ lanes) h = rw (h 0 x (omega arith), calm-none lanes (λ i d less. h (suc i) d (omega arith))) refl
 
-  pub tells-none : (lanes : List (Lane O K)) (r : Refusal) → All IsCalm lanes → TellsFirst lanes r
+  pub tells-none : (lanes : List (Lane O K)) (r : LaneFault) → All IsCalm lanes → TellsFirst lanes r
   tells-none lanes r h = rw (calm-none lanes h) tt
 
-  pub tells-some : (lanes : List (Lane O K)) (r : Refusal) → first_refused lanes ≡ Some r → TellsFirst lanes r
+  pub tells-some : (lanes : List (Lane O K)) (r : LaneFault) → first_refused lanes ≡ Some r → TellsFirst lanes r
   tells-some lanes r e = rw e refl
 
 -- what follows from a round
@@ -408,14 +408,14 @@ module _ {O S K B C : Type 0} (op : OperatorWords O S) (sink : SinkWords K B C) 
         let rows = rows-all lot.rows lot.count is.no_rows (in_all done.numbers) done.claimed done.once (done.all calm) in
         went-same all_works _ _ _ _ _ _ _ _ rows (went-any done.numbers old new some done.took like serve calm)
 
-    over-any : (nss : List (List ℕ)) (xs ys : List (Lane O K)) (r : Refusal) → 0 < length xs → AllTook op sink ss limit lot nss xs ys → All (IsLike op lot.from ss all_works (nodes_in old)) xs → All (λ (lane : Lane O K). AllServe op (lane_operators lane) ss) xs → All IsCalm xs → first_refused ys ≡ Some r
+    over-any : (nss : List (List ℕ)) (xs ys : List (Lane O K)) (r : LaneFault) → 0 < length xs → AllTook op sink ss limit lot nss xs ys → All (IsLike op lot.from ss all_works (nodes_in old)) xs → All (λ (lane : Lane O K). AllServe op (lane_operators lane) ss) xs → All IsCalm xs → first_refused ys ≡ Some r
         → IsOver limit all_works (acts_in op xs) (acts_in op ys) (counts_in xs) (nodes_in old) (flat_map (lot.rows) (in_all nss)) r
     over-any nss [] ys r lt h l s c e = absurd (omega arith)
     over-any [] (x ∷ xs) ys r lt h l s c e = absurd h
     over-any (ns ∷ nss) (x ∷ xs) [] r lt h l s c e = absurd h
     over-any (ns ∷ nss) (x ∷ xs) (y ∷ ys) r lt h l s c e = took-over op sink ss limit lot all_works (nodes_in old) ns nss x y xs ys r h l s c e
 
-    pub round-over : (r : Refusal) → All IsCalm old → first_refused new ≡ Some r → IsOverIn op ss limit lot.from (rows_of_lot lot) old new r
+    pub round-over : (r : LaneFault) → All IsCalm old → first_refused new ≡ Some r → IsOverIn op ss limit lot.from (rows_of_lot lot) old new r
     round-over r calm e =
         over-part limit all_works _ _ _ _ _ (rows_of_lot lot) r (claimed-within lot.rows lot.count is.no_rows (in_all done.numbers) done.claimed done.once) (over-any done.numbers old new r some done.took like serve calm e)
 
@@ -423,7 +423,7 @@ module _ {O S K B C : Type 0} (op : OperatorWords O S) (sink : SinkWords K B C) 
     round-alike = alike-after op sink lot.from ss old new round-same like
 
     -- a sum that passes the limit
-    pub round-sum-over : (r : Refusal) → All IsCalm new → Tells limit (counts_in new) (nodes_in new) r → IsOverIn op ss limit lot.from (rows_of_lot lot) old new r
+    pub round-sum-over : (r : LaneFault) → All IsCalm new → Tells limit (counts_in new) (nodes_in new) r → IsOverIn op ss limit lot.from (rows_of_lot lot) old new r
     round-sum-over r calm told =
         over-whole limit all_works _ _ _ _ _ _ _ _ r (round-went calm) (rw (same-nodes-in op sink lot.from ss old new round-same) at told)
 
@@ -435,7 +435,7 @@ round-none op ss limit from rows lanes some like serve = over-none limit _ _ _ _
 pub all-chunks-went : {O S K B C : Type 0} (op : OperatorWords O S) (sink : SinkWords K B C) (ss : List S) (ms : List Morsel) (old new : List (Lane O K)) → WentAll op sink ss (schema_in ms) (rows_of_lot (chunks_lot ms)) old new → WentAll op sink ss (schema_in ms) (rows_of_all ms) old new
 all-chunks-went op sink ss ms old new h = subst (λ (rows : List Row). WentAll op sink ss (schema_in ms) rows old new) (chunks-rows ms) h
 
-pub all-chunks-over : {O S K : Type 0} (op : OperatorWords O S) (ss : List S) (limit : ℕ) (ms : List Morsel) (old new : List (Lane O K)) (r : Refusal) → IsOverIn op ss limit (schema_in ms) (rows_of_lot (chunks_lot ms)) old new r → IsOverIn op ss limit (schema_in ms) (rows_of_all ms) old new r
+pub all-chunks-over : {O S K : Type 0} (op : OperatorWords O S) (ss : List S) (limit : ℕ) (ms : List Morsel) (old new : List (Lane O K)) (r : LaneFault) → IsOverIn op ss limit (schema_in ms) (rows_of_lot (chunks_lot ms)) old new r → IsOverIn op ss limit (schema_in ms) (rows_of_all ms) old new r
 all-chunks-over op ss limit ms old new r h = subst (λ (rows : List Row). IsOverIn op ss limit (schema_in ms) rows old new r) (chunks-rows ms) h
 
 -- the rows of all partitions
@@ -443,7 +443,7 @@ module _ {S : Type 0} (parts : S → ℕ) (part_of : S → ℕ → List Row) whe
   pub all-parts-went : {O K B C : Type 0} (op : OperatorWords O S) (sink : SinkWords K B C) (ss : List S) (from : List Field) (s : S) (old new : List (Lane O K)) → WentAll op sink ss from (rows_of_lot (parts_lot parts part_of from s)) old new → WentAll op sink ss from (rows_of_parts parts part_of s) old new
   all-parts-went op sink ss from s old new h = subst (λ (rows : List Row). WentAll op sink ss from rows old new) (parts-rows parts part_of from s) h
 
-  pub all-parts-over : {O K : Type 0} (op : OperatorWords O S) (ss : List S) (limit : ℕ) (from : List Field) (s : S) (old new : List (Lane O K)) (r : Refusal) → IsOverIn op ss limit from (rows_of_lot (parts_lot parts part_of from s)) old new r → IsOverIn op ss limit from (rows_of_parts parts part_of s) old new r
+  pub all-parts-over : {O K : Type 0} (op : OperatorWords O S) (ss : List S) (limit : ℕ) (from : List Field) (s : S) (old new : List (Lane O K)) (r : LaneFault) → IsOverIn op ss limit from (rows_of_lot (parts_lot parts part_of from s)) old new r → IsOverIn op ss limit from (rows_of_parts parts part_of s) old new r
   all-parts-over op ss limit from s old new r h = subst (λ (rows : List Row). IsOverIn op ss limit from rows old new r) (parts-rows parts part_of from s) h
 
 -- what holds in any case

@@ -10,7 +10,7 @@ use Rattle.pipe_chain.specs.Chain.{works_of, acts_of, IsChain, AllServe, AllSuit
 use Rattle.pipe_chain.specs.Counts.{AllWithin, plus}
 use Rattle.pipe_chain.specs.declared.operator.Operator.{Ghosts as OperatorWords}
 use Rattle.pipe_run.specs.declared.lane.Lane.{Lane}
-use Rattle.pipe_run.specs.declared.stage.Basin.{Basin}
+use Rattle.pipe_run.specs.declared.stage.SinkStage.{SinkStage}
 use Rattle.pipe_run.specs.declared.stage.Stage.{Stage}
 use Rattle.pipe_run.specs.Stages.{operators_of, nodes_of, counts}
 use Rattle.pipe_run.specs.Dealt.{AreAlike, works_in, nodes_in, acts_in, counts_in}
@@ -67,13 +67,13 @@ module _ {O S : Type 0} (op : OperatorWords O S) where
   split-acts (x ∷ from) [] h = absurd h
   split-acts (x ∷ from) (y ∷ made) h = rw (h.0.operator.acts, split-acts from made h.1) refl
 
-  split-nodes : {K : Type 0} (from made : List (Stage O)) (a b : Basin K) → AreSplit op from made → b.node ≡ a.node → nodes_of made b ≡ nodes_of from a
+  split-nodes : {K : Type 0} (from made : List (Stage O)) (a b : SinkStage K) → AreSplit op from made → b.node ≡ a.node → nodes_of made b ≡ nodes_of from a
   split-nodes [] [] a b h e = ap (λ (n : ℕ). n ∷ []) e
   split-nodes [] (y ∷ made) a b h e = absurd h
   split-nodes (x ∷ from) [] a b h e = absurd h
   split-nodes (x ∷ from) (y ∷ made) a b h e = rw (h.0.node, split-nodes from made a b h.1 e) refl
 
-  split-within : {K : Type 0} (limit : ℕ) (from made : List (Stage O)) (b : Basin K) → AreSplit op from made → b.given ≡ 0 → AllWithin limit (counts made b)
+  split-within : {K : Type 0} (limit : ℕ) (from made : List (Stage O)) (b : SinkStage K) → AreSplit op from made → b.given ≡ 0 → AllWithin limit (counts made b)
   split-within limit [] [] b h e = (omega (arith, e), tt)
   split-within limit [] (y ∷ made) b h e = absurd h
   split-within limit (x ∷ from) [] b h e = absurd h
@@ -92,33 +92,33 @@ nothing-twice : {X : Type 0} (xs : List X) → added (nothing xs) (nothing xs) �
 nothing-twice [] = refl
 nothing-twice (x ∷ xs) = ap (λ l. no_acts ∷ l) (nothing-twice xs)
 
-module _ {O S K B C : Type 0} (op : OperatorWords O S) (sink : SinkWords K B C) (stages : List (Stage O)) (basin : Basin K) where
+module _ {O S K B C : Type 0} (op : OperatorWords O S) (sink : SinkWords K B C) (stages : List (Stage O)) (target : SinkStage K) where
   abbrev Opened : Lane O K → Type 0
-  Opened lane = IsOpened op sink stages basin lane
+  Opened lane = IsOpened op sink stages target lane
 
-  opened-fit : (ss : List S) (limit : ℕ) (from : List Field) (lane : Lane O K) → Opened lane → AllSuit op (operators_of stages) ss → IsChain op from (operators_of stages) (sink.schema basin.sink) → AllSeated op (lane_operators lane) ss → IsFit op sink ss limit from lane
+  opened-fit : (ss : List S) (limit : ℕ) (from : List Field) (lane : Lane O K) → Opened lane → AllSuit op (operators_of stages) ss → IsChain op from (operators_of stages) (sink.schema target.sink) → AllSeated op (lane_operators lane) ss → IsFit op sink ss limit from lane
   opened-fit ss limit from lane h suits chain seated = record {
     serve = split-serve op stages lane.stages.items ss h.split suits seated;
-    chain = subst (λ (end : List Field). IsChain op from (lane_operators lane) end) (sym h.own.schema) (split-chain op from (sink.schema basin.sink) stages lane.stages.items h.split chain);
+    chain = subst (λ (end : List Field). IsChain op from (lane_operators lane) end) (sym h.own.schema) (split-chain op from (sink.schema target.sink) stages lane.stages.items h.split chain);
     still = λ e. split-idle op stages lane.stages.items h.split;
-    within = λ e. split-within op limit stages lane.stages.items lane.basin h.split h.given;
+    within = λ e. split-within op limit stages lane.stages.items lane.target h.split h.given;
     room = λ e. omega (arith, ap length h.own.empty);
   }
 
-  pub opened-fits : (ss : List S) (limit : ℕ) (lanes : List (Lane O K)) → All Opened lanes → AllSuit op (operators_of stages) ss → (from : List Field) → IsChain op from (operators_of stages) (sink.schema basin.sink) → All (IsFitSeated op sink ss limit from) lanes
+  pub opened-fits : (ss : List S) (limit : ℕ) (lanes : List (Lane O K)) → All Opened lanes → AllSuit op (operators_of stages) ss → (from : List Field) → IsChain op from (operators_of stages) (sink.schema target.sink) → All (IsFitSeated op sink ss limit from) lanes
   opened-fits ss limit lanes h suits from chain = λ i d less. opened-fit ss limit from (get_or lanes i d) (h i d less) suits chain
 
   opened-works : (from : List Field) (ss : List S) (lane : Lane O K) → Opened lane → lane_works op from ss lane ≡ works_of op from (operators_of stages) ss
   opened-works from ss lane h = split-works op from stages lane.stages.items ss h.split
 
-  opened-nodes : (lane : Lane O K) → Opened lane → lane_nodes lane ≡ nodes_of stages basin
-  opened-nodes lane h = split-nodes op stages lane.stages.items basin lane.basin h.split h.node
+  opened-nodes : (lane : Lane O K) → Opened lane → lane_nodes lane ≡ nodes_of stages target
+  opened-nodes lane h = split-nodes op stages lane.stages.items target lane.target h.split h.node
 
   pub opened-first : (ss : List S) (lanes : List (Lane O K)) → 0 < length lanes → All Opened lanes → (from : List Field) → works_in op from ss lanes ≡ works_of op from (operators_of stages) ss
   opened-first ss [] some h from = absurd (omega arith)
   opened-first ss (x ∷ lanes) some h from = opened-works from ss x (h 0 x (omega arith))
 
-  pub opened-first-nodes : (lanes : List (Lane O K)) → 0 < length lanes → All Opened lanes → nodes_in lanes ≡ nodes_of stages basin
+  pub opened-first-nodes : (lanes : List (Lane O K)) → 0 < length lanes → All Opened lanes → nodes_in lanes ≡ nodes_of stages target
   opened-first-nodes [] some h = absurd (omega arith)
   opened-first-nodes (x ∷ lanes) some h = opened-nodes x (h 0 x (omega arith))
 
@@ -134,7 +134,7 @@ module _ {O S K B C : Type 0} (op : OperatorWords O S) (sink : SinkWords K B C) 
   opened-within [] h = tt
   opened-within (x ∷ lanes) h =
       let one = h 0 x (omega arith) in
-      within-plus (lane_counts x) (counts_in lanes) (split-within op 0 stages x.stages.items x.basin one.split one.given) (opened-within lanes (λ i d less. h (suc i) d (omega arith)))
+      within-plus (lane_counts x) (counts_in lanes) (split-within op 0 stages x.stages.items x.target one.split one.given) (opened-within lanes (λ i d less. h (suc i) d (omega arith)))
 
   acts-opened : (x : Lane O K) (lanes : List (Lane O K)) → All Opened (x ∷ lanes) → acts_in op (x ∷ lanes) ≡ nothing stages
   acts-opened x [] h = rw (split-acts op stages x.stages.items (h 0 x (omega arith)).split) (nothing-left stages)
@@ -149,13 +149,13 @@ module _ {O S K B C : Type 0} (op : OperatorWords O S) (sink : SinkWords K B C) 
   opened-empty [] h = refl
   opened-empty (x ∷ lanes) h = rw ((h 0 x (omega arith)).own.empty, opened-empty lanes (λ i d less. h (suc i) d (omega arith))) refl
 
-  pub opened-settings : (lanes : List (Lane O K)) → All Opened lanes → All (IsSet sink.setting (sink.setting basin.sink)) lanes
+  pub opened-settings : (lanes : List (Lane O K)) → All Opened lanes → All (IsSet sink.setting (sink.setting target.sink)) lanes
   opened-settings lanes h = λ i d less. (h i d less).own.setting
 
-  pub opened-schemas : (lanes : List (Lane O K)) → All Opened lanes → All (IsSet sink.schema (sink.schema basin.sink)) lanes
+  pub opened-schemas : (lanes : List (Lane O K)) → All Opened lanes → All (IsSet sink.schema (sink.schema target.sink)) lanes
   opened-schemas lanes h = λ i d less. (h i d less).own.schema
 
-  pub opened-gives : (lanes : List (Lane O K)) → All Opened lanes → All (IsSet sink.gives (sink.gives basin.sink)) lanes
+  pub opened-gives : (lanes : List (Lane O K)) → All Opened lanes → All (IsSet sink.gives (sink.gives target.sink)) lanes
   opened-gives lanes h = λ i d less. (h i d less).own.gives
 
 -- one item more

@@ -3,9 +3,9 @@ use Rattle.std.proofs.Common.{◌≡◌, ℕ, zero, suc, ◌+◌, ◌-◌, ◌<�
 use Rattle.std.specs.List.{All, flat_map}
 use Rattle.pipe_schema.specs.Rows.{Row}
 use Rattle.pipe_run.specs.declared.stage.Stage.{Stage}
-use Rattle.pipe_run.specs.declared.stage.Basin.{Basin}
-use Rattle.pipe_run.specs.declared.stage.Refusal.{Refusal}
-use Rattle.pipe_run.specs.declared.stage.Refusal.TheVariants.{TooMany, Memory}
+use Rattle.pipe_run.specs.declared.stage.SinkStage.{SinkStage}
+use Rattle.pipe_run.specs.declared.stage.LaneFault.{LaneFault}
+use Rattle.pipe_run.specs.declared.stage.LaneFault.TheVariants.{TooMany, Memory}
 use Rattle.pipe_run.specs.declared.lane.Lane.{Lane}
 use Rattle.pipe_chain.specs.Counts.{AllWithin, plus, Over}
 use Rattle.pipe_run.specs.Stages.{nodes_of, counts, Tells}
@@ -29,39 +29,39 @@ length-plus [] (m ∷ ms) e = cc
 length-plus (n ∷ ns) [] e = cc
 length-plus (n ∷ ns) (m ∷ ms) e = omega (arith, length-plus ns ms (omega arith))
 
-pub length-counts : {O K : Type 0} (sts : List (Stage O)) (b : Basin K) → length (counts sts b) ≡ length sts + 1
+pub length-counts : {O K : Type 0} (sts : List (Stage O)) (b : SinkStage K) → length (counts sts b) ≡ length sts + 1
 length-counts [] b = refl
 length-counts (st ∷ sts) b = omega (arith, length-counts sts b)
 
-pub length-nodes : {O K : Type 0} (sts : List (Stage O)) (b : Basin K) → length (nodes_of sts b) ≡ length sts + 1
+pub length-nodes : {O K : Type 0} (sts : List (Stage O)) (b : SinkStage K) → length (nodes_of sts b) ≡ length sts + 1
 length-nodes [] b = refl
 length-nodes (st ∷ sts) b = omega (arith, length-nodes sts b)
 
 pub same-length-of : {O K : Type 0} (lane : Lane O K) → length (lane_counts lane) ≡ length (lane_nodes lane)
-same-length-of lane = length-counts lane.stages.items lane.basin ∙ sym (length-nodes lane.stages.items lane.basin)
+same-length-of lane = length-counts lane.stages.items lane.target ∙ sym (length-nodes lane.stages.items lane.target)
 
 -- the count and the node at a place
-pub count-at : {O K : Type 0} (sts : List (Stage O)) (b : Basin K) (i : ℕ) (d : Stage O) → i < length sts → (get_or sts i d).given ≡ get_or (counts sts b) i 0
+pub count-at : {O K : Type 0} (sts : List (Stage O)) (b : SinkStage K) (i : ℕ) (d : Stage O) → i < length sts → (get_or sts i d).given ≡ get_or (counts sts b) i 0
 count-at [] b i d less = absurd (omega (arith, less))
 count-at (x ∷ sts) b zero d less = refl
 count-at (x ∷ sts) b (suc i) d less = count-at sts b i d (omega (arith, less))
 
-pub node-at : {O K : Type 0} (sts : List (Stage O)) (b : Basin K) (i : ℕ) (d : Stage O) → i < length sts → (get_or sts i d).node ≡ get_or (nodes_of sts b) i 0
+pub node-at : {O K : Type 0} (sts : List (Stage O)) (b : SinkStage K) (i : ℕ) (d : Stage O) → i < length sts → (get_or sts i d).node ≡ get_or (nodes_of sts b) i 0
 node-at [] b i d less = absurd (omega (arith, less))
 node-at (x ∷ sts) b zero d less = refl
 node-at (x ∷ sts) b (suc i) d less = node-at sts b i d (omega (arith, less))
 
-pub count-basin : {O K : Type 0} (sts : List (Stage O)) (b : Basin K) (i : ℕ) → length sts ≤ i → i < length (counts sts b) → b.given ≡ get_or (counts sts b) i 0
-count-basin [] b zero from less = refl
-count-basin [] b (suc i) from less = absurd (omega arith)
-count-basin (x ∷ sts) b zero from less = absurd (omega arith)
-count-basin (x ∷ sts) b (suc i) from less = count-basin sts b i (omega arith) (omega arith)
+pub count-target : {O K : Type 0} (sts : List (Stage O)) (b : SinkStage K) (i : ℕ) → length sts ≤ i → i < length (counts sts b) → b.given ≡ get_or (counts sts b) i 0
+count-target [] b zero from less = refl
+count-target [] b (suc i) from less = absurd (omega arith)
+count-target (x ∷ sts) b zero from less = absurd (omega arith)
+count-target (x ∷ sts) b (suc i) from less = count-target sts b i (omega arith) (omega arith)
 
-pub node-basin : {O K : Type 0} (sts : List (Stage O)) (b : Basin K) (i : ℕ) → length sts ≤ i → i < length (nodes_of sts b) → b.node ≡ get_or (nodes_of sts b) i 0
-node-basin [] b zero from less = refl
-node-basin [] b (suc i) from less = absurd (omega arith)
-node-basin (x ∷ sts) b zero from less = absurd (omega arith)
-node-basin (x ∷ sts) b (suc i) from less = node-basin sts b i (omega arith) (omega arith)
+pub node-target : {O K : Type 0} (sts : List (Stage O)) (b : SinkStage K) (i : ℕ) → length sts ≤ i → i < length (nodes_of sts b) → b.node ≡ get_or (nodes_of sts b) i 0
+node-target [] b zero from less = refl
+node-target [] b (suc i) from less = absurd (omega arith)
+node-target (x ∷ sts) b zero from less = absurd (omega arith)
+node-target (x ∷ sts) b (suc i) from less = node-target sts b i (omega arith) (omega arith)
 
 pub within-at : (limit : ℕ) (ns : List ℕ) (i : ℕ) → AllWithin limit ns → get_or ns i 0 ≤ limit
 within-at limit [] i h = omega arith
@@ -118,14 +118,14 @@ module _ {O K : Type 0} where
   same-len lanes x is = subst (λ (l : Lane O K). length x.stages.items ≡ deque_len l.stages) is (omega arith)
 
   pub places : (lanes : List (Lane O K)) (x : Lane O K) → 0 < length lanes → x ≡ get_or lanes 0 x → length (nodes_in lanes) ≡ length x.stages.items + 1
-  places lanes x some is = ap length (first-nodes lanes x some is) ∙ length-nodes x.stages.items x.basin
+  places lanes x some is = ap length (first-nodes lanes x some is) ∙ length-nodes x.stages.items x.target
 
   -- what the sinks hold was counted
-  held-given : (held : K → List Row) (k : ℕ) (lanes : List (Lane O K)) → ((i : ℕ) (d : Lane O K) → i < length lanes → (length (get_or lanes i d).stages.items ≡ k) × (length (held (get_or lanes i d).basin.sink) ≤ (get_or lanes i d).basin.given)) → length (flat_map (held_in held) lanes) ≤ get_or (counts_in lanes) k 0
+  held-given : (held : K → List Row) (k : ℕ) (lanes : List (Lane O K)) → ((i : ℕ) (d : Lane O K) → i < length lanes → (length (get_or lanes i d).stages.items ≡ k) × (length (held (get_or lanes i d).target.sink) ≤ (get_or lanes i d).target.given)) → length (flat_map (held_in held) lanes) ≤ get_or (counts_in lanes) k 0
   held-given held k [] h = omega arith
   held-given held k (x ∷ lanes) h =
       let one = h 0 x (omega arith) in
-      let count = count-basin x.stages.items x.basin k (omega (arith, one.0)) (omega (arith, one.0, length-counts x.stages.items x.basin)) in
+      let count = count-target x.stages.items x.target k (omega (arith, one.0)) (omega (arith, one.0, length-counts x.stages.items x.target)) in
       omega (
         arith,
         one.1,
@@ -135,10 +135,10 @@ module _ {O K : Type 0} where
         get-plus (lane_counts x) (counts_in lanes) k,
       )
 
-  pub held-within : (held : K → List Row) (limit : ℕ) (nodes : List ℕ) (lanes : List (Lane O K)) → All (HasNodes nodes) lanes → ((i : ℕ) (d : Lane O K) → i < length lanes → length (held (get_or lanes i d).basin.sink) ≤ (get_or lanes i d).basin.given) → AllWithin limit (counts_in lanes) → length (flat_map (held_in held) lanes) ≤ limit
+  pub held-within : (held : K → List Row) (limit : ℕ) (nodes : List ℕ) (lanes : List (Lane O K)) → All (HasNodes nodes) lanes → ((i : ℕ) (d : Lane O K) → i < length lanes → length (held (get_or lanes i d).target.sink) ≤ (get_or lanes i d).target.given) → AllWithin limit (counts_in lanes) → length (flat_map (held_in held) lanes) ≤ limit
   held-within held limit nodes lanes same room within =
       let k = length nodes - 1 in
-      let sum = held-given held k lanes (λ i d less. ((let x = get_or lanes i d in omega (arith, length-nodes x.stages.items x.basin, ap length (same i d less))), room i d less)) in
+      let sum = held-given held k lanes (λ i d less. ((let x = get_or lanes i d in omega (arith, length-nodes x.stages.items x.target, ap length (same i d less))), room i d less)) in
       omega (arith, sum, within-at limit (counts_in lanes) k within)
 
 -- what one lane passes, all pass together
@@ -154,10 +154,10 @@ over-right limit (n ∷ ns) [] nodes node h = absurd h
 over-right limit (n ∷ ns) (m ∷ ms) [] node h = absurd h
 over-right limit (n ∷ ns) (m ∷ ms) (k ∷ nodes) node h = elim h [ inl p ↦ inl (p.0, omega (arith, p.1)) | inr q ↦ inr (over-right limit ns ms nodes node q) ]
 
-pub tells-left : (limit : ℕ) (ns ms nodes : List ℕ) (r : Refusal) → Tells limit ns nodes r → Tells limit (plus ns ms) nodes r
+pub tells-left : (limit : ℕ) (ns ms nodes : List ℕ) (r : LaneFault) → Tells limit ns nodes r → Tells limit (plus ns ms) nodes r
 tells-left limit ns ms nodes (TooMany node) h = over-left limit ns ms nodes node h
 tells-left limit ns ms nodes Memory h = tt
 
-pub tells-right : (limit : ℕ) (ns ms nodes : List ℕ) (r : Refusal) → Tells limit ms nodes r → Tells limit (plus ns ms) nodes r
+pub tells-right : (limit : ℕ) (ns ms nodes : List ℕ) (r : LaneFault) → Tells limit ms nodes r → Tells limit (plus ns ms) nodes r
 tells-right limit ns ms nodes (TooMany node) h = over-right limit ns ms nodes node h
 tells-right limit ns ms nodes Memory h = tt

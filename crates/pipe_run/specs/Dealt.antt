@@ -11,7 +11,7 @@ use Rattle.pipe_chain.specs.Counts.{AllWithin, plus, Went}
 use Rattle.pipe_chain.specs.declared.operator.Operator.{Ghosts as OperatorWords}
 use Rattle.pipe_run.specs.Stages.{IsOver}
 use Rattle.pipe_run.specs.declared.lane.Lane.{Lane}
-use Rattle.pipe_run.specs.declared.stage.Refusal.{Refusal}
+use Rattle.pipe_run.specs.declared.stage.LaneFault.{LaneFault}
 use Rattle.pipe_run.specs.Lanes.{lane_works, lane_acts, lane_counts, lane_nodes, held_in, IsCalm, SameLane}
 use Rattle.pipe_run.specs.Claimed.{Lot, Took, rows_in}
 
@@ -89,20 +89,20 @@ abbrev pub IsWithin : {O K : Type 0} → ℕ → Lane O K → Type 0
 IsWithin limit lane = AllWithin limit (lane_counts lane)
 
 -- the refusal of the least lane that was refused something
-abbrev pub first_of : Option Refusal → Option Refusal → Option Refusal
+abbrev pub first_of : Option LaneFault → Option LaneFault → Option LaneFault
 first_of None next = next
 first_of (Some r) next = Some r
 
-abbrev pub first_refused : {O K : Type 0} → List (Lane O K) → Option Refusal
+abbrev pub first_refused : {O K : Type 0} → List (Lane O K) → Option LaneFault
 first_refused [] = None
 first_refused (x ∷ lanes) = first_of x.refused (first_refused lanes)
 
 -- where a lane kept a refusal, that of the least lane is told
-abbrev pub IsTold : Option Refusal → Refusal → Type 0
+abbrev pub IsTold : Option LaneFault → LaneFault → Type 0
 IsTold None r = Unit {0}
 IsTold (Some kept) r = r ≡ kept
 
-abbrev pub TellsFirst : {O K : Type 0} → List (Lane O K) → Refusal → Type 0
+abbrev pub TellsFirst : {O K : Type 0} → List (Lane O K) → LaneFault → Type 0
 TellsFirst lanes r = IsTold (first_refused lanes) r
 
 -- lanes that do the same as before, into sinks of the same settings, one by one
@@ -131,7 +131,7 @@ WentAll op sink ss from rows old new =
 
 -- something was refused on their way, in a lane or in all lanes together
 abbrev pub IsOverIn : {O S K : Type 0} → OperatorWords O S → List S → ℕ → List Field →
-    List Row → (old new : List (Lane O K)) → Refusal → Type 0
+    List Row → (old new : List (Lane O K)) → LaneFault → Type 0
 IsOverIn op ss limit from rows old new r =
     IsOver limit (works_in op from ss old) (acts_in op old) (acts_in op new)
     (counts_in old) (nodes_in old) rows r

@@ -55,7 +55,7 @@ rows_of_parts parts part_of s = flat_map (part_of s) (range_with_len 0 (parts s)
 pub record IsPopped {O K : Type 0} (stage : Stage O) (old new : Lane O K) : Type 0 where
   pub stages : old.stages.items ≡ stage ∷ new.stages.items
   pub flushers : new.flushers.items ≡ old.flushers.items
-  pub basin : new.basin ≡ old.basin
+  pub target : new.target ≡ old.target
   pub seat : new.seat ≡ old.seat
   pub entries : new.entries.items ≡ old.entries.items
   pub refused : new.refused ≡ old.refused
@@ -65,7 +65,7 @@ pub record IsTakenOff {O K : Type 0} (old new : Lane O K) : Type 0 where
   pub stage : Stage O
   pub stages : old.stages.items ≡ stage ∷ new.stages.items
   pub flushers : new.flushers.items ≡ old.flushers.items ++ stage ∷ []
-  pub basin : new.basin ≡ old.basin
+  pub target : new.target ≡ old.target
   pub seat : new.seat ≡ old.seat
   pub entries : new.entries.items ≡ old.entries.items
   pub refused : new.refused ≡ old.refused

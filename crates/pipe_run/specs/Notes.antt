@@ -31,7 +31,7 @@ entries_in lane = lane.entries.items
 pub record IsKept {O K : Type 0} (old new : Lane O K) : Type 0 where
   pub stages : new.stages ≡ old.stages
   pub flushers : new.flushers ≡ old.flushers
-  pub basin : new.basin ≡ old.basin
+  pub target : new.target ≡ old.target
   pub seat : new.seat ≡ old.seat
   pub refused : new.refused ≡ old.refused
 

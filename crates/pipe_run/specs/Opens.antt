@@ -6,7 +6,7 @@ use Rattle.pipe_chain.specs.Flow.{no_acts}
 use Rattle.pipe_chain.specs.Chain.{AllSeated}
 use Rattle.pipe_chain.specs.declared.operator.Operator.{Ghosts as OperatorWords}
 use Rattle.pipe_run.specs.declared.lane.Lane.{Lane}
-use Rattle.pipe_run.specs.declared.stage.Basin.{Basin}
+use Rattle.pipe_run.specs.declared.stage.SinkStage.{SinkStage}
 use Rattle.pipe_run.specs.declared.stage.Stage.{Stage}
 use Rattle.pipe_run.specs.Lanes.{lane_operators, IsCalm, IsFit}
 
@@ -42,11 +42,11 @@ pub record IsSplit {K B C : Type 0} (sink : SinkWords K B C) (from made : K) : T
 
 -- a lane that has done nothing, over its own copies of some stages and a sink
 pub record IsOpened {O S K B C : Type 0} (op : OperatorWords O S) (sink : SinkWords K B C)
-    (stages : List (Stage O)) (basin : Basin K) (lane : Lane O K) : Type 0 where
+    (stages : List (Stage O)) (target : SinkStage K) (lane : Lane O K) : Type 0 where
   pub split : AreSplit op stages lane.stages.items
-  pub own : IsSplit sink basin.sink lane.basin.sink
-  pub node : lane.basin.node ≡ basin.node
-  pub given : lane.basin.given ≡ 0
+  pub own : IsSplit sink target.sink lane.target.sink
+  pub node : lane.target.node ≡ target.node
+  pub given : lane.target.given ≡ 0
   pub entries : lane.entries.items ≡ []
   pub calm : IsCalm lane
 

@@ -11,7 +11,7 @@ ghost use Rattle.pipe_run.specs.Lanes.{IsCalm};
 use crate::flushing::flush_parts;
 use crate::lane::Lane;
 use crate::seating::{seat_all, unseat_all};
-use crate::stage::Refusal;
+use crate::stage::LaneFault;
 use crate::telling::{check_counts, first_refusal};
 use pipe_chain::{Claims, FlushParts};
 use pipe_ops::{PExecutionContext, Sink};
@@ -79,7 +79,7 @@ fn deal_parts<R: Threads + Sync, O: FlushParts, K: Sink, G: Gate + Sync>(
     others: &[O::Shared],
     gate: &G,
     lanes: &mut [Lane<O, K>],
-) -> Result<(), Refusal>
+) -> Result<(), LaneFault>
     requires some { 0 < length lanes.old }
     requires lanes { length lanes.old ≤ 256 }
     requires few { O.parts own.now < 4294967295 }
@@ -90,10 +90,10 @@ fn deal_parts<R: Threads + Sync, O: FlushParts, K: Sink, G: Gate + Sync>(
         (flushed_in O.Operator lanes.old)) lanes.new }
     ensures drawn { IfOk result (λ _. Drawn O.Operator K.Sink others.now context.now.row_limit
         (parts_lot O.parts O.part_of (flushed_in O.Operator lanes.old) own.now) lanes.old lanes.new) }
-    ensures memory { IfErr result (λ r. (r ≡ Refusal.Memory) × (lanes.new ≡ lanes.old)) }
+    ensures memory { IfErr result (λ r. (r ≡ LaneFault.Memory) × (lanes.new ≡ lanes.old)) }
 {
     let Ok((claims, mut seats)) = Claims::new(alloc, lanes.len() as u32) else {
-        return Err(Refusal::Memory);
+        return Err(LaneFault::Memory);
     };
     seat_all(&claims, lanes, &mut seats);
     run_flushers(rt, alloc, context, own, others, &claims, gate, lanes);
@@ -113,7 +113,7 @@ pub fn flush_round<R: Threads + Sync, O: FlushParts, K: Sink, G: Gate + Sync>(
     others: &[O::Shared],
     gate: &G,
     lanes: &mut [Lane<O, K>],
-) -> Result<(), Refusal>
+) -> Result<(), LaneFault>
     requires some { 0 < length lanes.old }
     requires lanes { length lanes.old ≤ 256 }
     requires few { O.parts own.now < 4294967295 }
@@ -138,7 +138,7 @@ pub fn flush_round<R: Threads + Sync, O: FlushParts, K: Sink, G: Gate + Sync>(
         lanes.old lanes.new) }
 {
     let Ok(()) = deal_parts(rt, alloc, context, own, others, gate, lanes) else {
-        return Err(Refusal::Memory);
+        return Err(LaneFault::Memory);
     };
     match first_refusal(lanes) {
         Some(refusal) => Err(refusal),

@@ -11,7 +11,7 @@ ghost use Rattle.pipe_run.specs.Lanes.{IsFit, IsCalm};
 use crate::claiming::take_chunks;
 use crate::lane::Lane;
 use crate::seating::{seat_all, unseat_all};
-use crate::stage::Refusal;
+use crate::stage::LaneFault;
 use crate::telling::{check_counts, first_refusal};
 use pipe_chain::{Claims, Operator};
 use pipe_ops::{Morsel, PExecutionContext, Sink};
@@ -80,7 +80,7 @@ fn deal<R: Threads + Sync, O: Operator, K: Sink, G: Gate + Sync>(
     morsels: &[Morsel],
     gate: &G,
     lanes: &mut [Lane<O, K>],
-) -> Result<(), Refusal>
+) -> Result<(), LaneFault>
     requires some { 0 < length lanes.old }
     requires lanes { length lanes.old ≤ 256 }
     requires few { length morsels.now < 4294967295 }
@@ -92,10 +92,10 @@ fn deal<R: Threads + Sync, O: Operator, K: Sink, G: Gate + Sync>(
         (schema_in morsels.now)) lanes.new }
     ensures drawn { IfOk result (λ _. Drawn O.Operator K.Sink shared.now context.now.row_limit
         (chunks_lot morsels.now) lanes.old lanes.new) }
-    ensures memory { IfErr result (λ r. (r ≡ Refusal.Memory) × (lanes.new ≡ lanes.old)) }
+    ensures memory { IfErr result (λ r. (r ≡ LaneFault.Memory) × (lanes.new ≡ lanes.old)) }
 {
     let Ok((claims, mut seats)) = Claims::new(alloc, lanes.len() as u32) else {
-        return Err(Refusal::Memory);
+        return Err(LaneFault::Memory);
     };
     seat_all(&claims, lanes, &mut seats);
     run_lanes(rt, alloc, context, shared, &claims, morsels, gate, lanes);
@@ -116,7 +116,7 @@ pub fn round<R: Threads + Sync, O: Operator, K: Sink, G: Gate + Sync>(
     morsels: &[Morsel],
     gate: &G,
     lanes: &mut [Lane<O, K>],
-) -> Result<(), Refusal>
+) -> Result<(), LaneFault>
     requires some { 0 < length lanes.old }
     requires lanes { length lanes.old ≤ 256 }
     requires few { length morsels.now < 4294967295 }
@@ -140,7 +140,7 @@ pub fn round<R: Threads + Sync, O: Operator, K: Sink, G: Gate + Sync>(
         (schema_in morsels.now) (rows_of_all morsels.now) lanes.old lanes.new) }
 {
     let Ok(()) = deal(rt, alloc, context, shared, morsels, gate, lanes) else {
-        return Err(Refusal::Memory);
+        return Err(LaneFault::Memory);
     };
     match first_refusal(lanes) {
         Some(refusal) => Err(refusal),

@@ -15,7 +15,7 @@ use crate::halt::Halt;
 use crate::lane::Lane;
 use crate::note::Note;
 use crate::noting::noted_round;
-use crate::stage::Refusal;
+use crate::stage::LaneFault;
 use pipe_chain::Operator;
 use pipe_ops::{PExecutionContext, Sink, Source, SourceResult};
 use pipe_schema::{Gate, StopCheck};
@@ -77,7 +77,7 @@ pub fn run_rounds<R: Threads + Sync, O: Operator, K: Sink, I: Source, C: StopChe
 {
     loop {
         let Ok(answer) = source.get_batches(alloc, context, next_index) else {
-            return Err(Halt::Refused(Refusal::Memory));
+            return Err(Halt::Refused(LaneFault::Memory));
         };
         match answer {
             SourceResult::Finished => return Ok(()),

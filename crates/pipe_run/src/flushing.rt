@@ -13,7 +13,7 @@ use crate::claiming::{draw, make_room};
 use crate::draining::drain;
 use crate::entry::Entry;
 use crate::lane::Lane;
-use crate::stage::{Basin, Refusal, Stage};
+use crate::stage::{LaneFault, SinkStage, Stage};
 use pipe_chain::{Claims, FlushParts, Operator};
 use pipe_ops::{PExecutionContext, Sink};
 use pipe_schema::Gate;
@@ -61,41 +61,41 @@ pub fn drain_part<O: FlushParts, K: Sink>(
     others: &[O::Shared],
     operator: &mut O,
     rest: &mut [Stage<O>],
-    basin: &mut Basin<K>,
+    target: &mut SinkStage<K>,
     part: u32,
-) -> Result<(), Refusal>
+) -> Result<(), LaneFault>
     requires part { part < O.parts own.now }
     requires closed { O.closed operator.old own.now }
     requires begun { O.idle operator.old }
     requires idle { AllByRecursion O.idle (operators_of rest.old) }
     requires serves { AllServe O.Operator (operators_of rest.old) others.now }
     requires chain { IsChain O.Operator (O.flushed operator.old) (operators_of rest.old)
-        (K.schema basin.old.sink) }
-    requires within { AllWithin context.now.row_limit (counts rest.old basin.old) }
-    requires held { length (K.held basin.old.sink) ≤ basin.old.given }
+        (K.schema target.old.sink) }
+    requires within { AllWithin context.now.row_limit (counts rest.old target.old) }
+    requires held { length (K.held target.old.sink) ≤ target.old.given }
     ensures flushed { Flushed O.Operator own.now operator.old operator.new }
     ensures work { SameWork O.Operator (operators_of rest.old) (operators_of rest.new) }
-    ensures nodes { nodes_of rest.new basin.new ≡ nodes_of rest.old basin.old }
-    ensures setting { K.setting basin.new.sink ≡ K.setting basin.old.sink }
-    ensures schema { K.schema basin.new.sink ≡ K.schema basin.old.sink }
-    ensures gives { K.gives basin.new.sink ≡ K.gives basin.old.sink }
+    ensures nodes { nodes_of rest.new target.new ≡ nodes_of rest.old target.old }
+    ensures setting { K.setting target.new.sink ≡ K.setting target.old.sink }
+    ensures schema { K.schema target.new.sink ≡ K.schema target.old.sink }
+    ensures gives { K.gives target.new.sink ≡ K.gives target.old.sink }
     ensures over_now { IfOk result (λ _. O.idle operator.new) }
     ensures idle { IfOk result (λ _. AllByRecursion O.idle (operators_of rest.new)) }
     ensures within { IfOk result (λ _. AllWithin context.now.row_limit
-        (counts rest.new basin.new)) }
-    ensures room { IfOk result (λ _. length (K.held basin.new.sink) ≤ basin.new.given) }
+        (counts rest.new target.new)) }
+    ensures room { IfOk result (λ _. length (K.held target.new.sink) ≤ target.new.given) }
     ensures went { IfOk result (λ _. Went (works_of O.Operator (O.flushed operator.old)
         (operators_of rest.old) others.now)
         (acts_of O.Operator (operators_of rest.old)) (acts_of O.Operator (operators_of rest.new))
-        (counts rest.old basin.old) (counts rest.new basin.new) (O.part_of own.now part)
-        (K.held basin.old.sink) (K.held basin.new.sink)) }
+        (counts rest.old target.old) (counts rest.new target.new) (O.part_of own.now part)
+        (K.held target.old.sink) (K.held target.new.sink)) }
     ensures over { IfErr result (IsOver context.now.row_limit (works_of O.Operator
         (O.flushed operator.old) (operators_of rest.old) others.now)
         (acts_of O.Operator (operators_of rest.old)) (acts_of O.Operator (operators_of rest.new))
-        (counts rest.old basin.old) (nodes_of rest.old basin.old) (O.part_of own.now part)) }
+        (counts rest.old target.old) (nodes_of rest.old target.old) (O.part_of own.now part)) }
 {
     operator.begin_flush(part);
-    drain(alloc, context, own, others, operator, rest, basin)
+    drain(alloc, context, own, others, operator, rest, target)
 }
 
 /// Flushes a partition through the stages of a lane, which keeps what is refused.
@@ -132,7 +132,7 @@ fn flush_behind<O: FlushParts, K: Sink>(
         others,
         operator,
         stages,
-        &mut lane.basin,
+        &mut lane.target,
         part,
     ) {
         Ok(()) => {}

@@ -10,7 +10,7 @@ ghost use Rattle.pipe_run.specs.Lanes.{IsSet, held_in};
 
 use crate::halt::Halt;
 use crate::lane::Lane;
-use crate::stage::{Basin, Refusal};
+use crate::stage::{LaneFault, SinkStage};
 use pipe_chain::Operator;
 use pipe_ops::Sink;
 use pipe_schema::StopCheck;
@@ -48,7 +48,7 @@ pub fn gather<O: Operator + Drop, K: Sink + Drop, C: StopCheck>(
         let Lane {
             stages,
             flushers,
-            basin,
+            target,
             seat,
             entries,
             refused: _,
@@ -57,13 +57,13 @@ pub fn gather<O: Operator + Drop, K: Sink + Drop, C: StopCheck>(
         drop(flushers);
         drop(seat);
         drop(entries);
-        let Basin {
+        let SinkStage {
             sink: other,
             node: _,
             given: _,
-        } = basin;
+        } = target;
         let Ok(()) = sink.combine(alloc, other) else {
-            return Err(Halt::Refused(Refusal::Memory));
+            return Err(Halt::Refused(LaneFault::Memory));
         };
     }
     Ok(())

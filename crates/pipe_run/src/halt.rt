@@ -1,6 +1,6 @@
 //! Why lanes ended early.
 
-use crate::stage::Refusal;
+use crate::stage::LaneFault;
 
 /// Why lanes ended before all rows were through.
 #[derive(Clone, Copy, Debug, PartialEq, Eq, Drop)]
@@ -8,5 +8,5 @@ pub enum Halt {
     /// The stop check said yes.
     Stopped,
     /// A refusal.
-    Refused(Refusal),
+    Refused(LaneFault),
 }

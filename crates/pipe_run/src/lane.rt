@@ -5,7 +5,7 @@ ghost use Rattle.pipe_run.specs.Lanes.{IsFit, Ran, IsCalm};
 
 use crate::entry::Entry;
 use crate::pushing::push_shared;
-use crate::stage::{Basin, Refusal, Stage};
+use crate::stage::{LaneFault, SinkStage, Stage};
 use pipe_chain::{ClaimSeat, Operator};
 use pipe_frame::DataChunk;
 use pipe_ops::{PExecutionContext, Sink};
@@ -20,13 +20,13 @@ pub struct Lane<O, K> {
     /// The stages that were taken off, once nothing more comes into them; the last one is flushed through the others.
     pub flushers: Vec<Stage<O>>,
     /// Its sink.
-    pub basin: Basin<K>,
+    pub target: SinkStage<K>,
     /// Its seat at the claims of a round, during the round.
     pub seat: Option<ClaimSeat>,
     /// What it took, in order, each followed by its end.
     pub entries: Vec<Entry>,
     /// Why it stopped, if it did.
-    pub refused: Option<Refusal>,
+    pub refused: Option<LaneFault>,
 }
 
 /// Pushes a chunk through a lane, which keeps what is refused.
@@ -48,7 +48,7 @@ pub(crate) fn run_chunk<O: Operator, K: Sink>(
     ensures entries { lane.new.entries ≡ lane.old.entries }
 {
     let stages = lane.stages.make_contiguous();
-    match push_shared(alloc, context, shared, stages, chunk, &mut lane.basin) {
+    match push_shared(alloc, context, shared, stages, chunk, &mut lane.target) {
         Ok(()) => {}
         Err(refusal) => lane.refused = Some(refusal),
     }

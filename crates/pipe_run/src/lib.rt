@@ -44,6 +44,6 @@ pub use note_lists::drain_notes;
 pub use noting::{noted_flush, noted_round};
 pub use opening::{open_lane, open_lanes};
 pub use pushing::{push, push_shared};
-pub use stage::{Basin, Refusal, Stage};
+pub use stage::{LaneFault, SinkStage, Stage};
 pub use telling::rows_given;
 pub use writing::{write_flushes, write_takes};

@@ -16,7 +16,7 @@ use crate::all_lanes::round;
 use crate::lane::Lane;
 use crate::note::Note;
 use crate::note_lists::drain_notes;
-use crate::stage::Refusal;
+use crate::stage::LaneFault;
 use pipe_chain::{FlushParts, Operator};
 use pipe_ops::{Morsel, PExecutionContext, Sink};
 use pipe_schema::Gate;
@@ -34,7 +34,7 @@ pub fn noted_round<R: Threads + Sync, O: Operator, K: Sink, G: Gate + Sync>(
     gate: &G,
     lanes: &mut [Lane<O, K>],
     notes: &mut Vec<Note>,
-) -> Result<(), Refusal>
+) -> Result<(), LaneFault>
     requires some { 0 < length lanes.old }
     requires lanes { length lanes.old ≤ 256 }
     requires few { length morsels.now < 4294967295 }
@@ -65,7 +65,7 @@ pub fn noted_round<R: Threads + Sync, O: Operator, K: Sink, G: Gate + Sync>(
         return Err(refusal);
     }
     let Ok(()) = drain_notes(lanes, notes) else {
-        return Err(Refusal::Memory);
+        return Err(LaneFault::Memory);
     };
     Ok(())
 }
@@ -81,7 +81,7 @@ pub fn noted_flush<R: Threads + Sync, O: FlushParts, K: Sink, G: Gate + Sync>(
     gate: &G,
     lanes: &mut [Lane<O, K>],
     notes: &mut Vec<Note>,
-) -> Result<(), Refusal>
+) -> Result<(), LaneFault>
     requires some { 0 < length lanes.old }
     requires lanes { length lanes.old ≤ 256 }
     requires few { O.parts own.now < 4294967295 }
@@ -114,7 +114,7 @@ pub fn noted_flush<R: Threads + Sync, O: FlushParts, K: Sink, G: Gate + Sync>(
         return Err(refusal);
     }
     let Ok(()) = drain_notes(lanes, notes) else {
-        return Err(Refusal::Memory);
+        return Err(LaneFault::Memory);
     };
     Ok(())
 }

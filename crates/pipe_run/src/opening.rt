@@ -12,7 +12,7 @@ ghost use Rattle.pipe_run.specs.Opens.{AreSplit, IsOpened, IsStageOf, IsFitSeate
 ghost use Rattle.pipe_run.specs.Stages.{operators_of, nodes_of};
 
 use crate::lane::Lane;
-use crate::stage::{Basin, Stage};
+use crate::stage::{SinkStage, Stage};
 use pipe_chain::Operator;
 use pipe_ops::{PExecutionContext, Sink};
 use std::alloc::{AllocError, Global};
@@ -52,19 +52,19 @@ fn split_stages<O: Operator + Drop>(
 pub fn open_lane<O: Operator + Drop, K: Sink + Drop>(
     alloc: Global,
     stages: &[Stage<O>],
-    basin: &Basin<K>,
+    target: &SinkStage<K>,
     thread_no: usize,
 ) -> Result<Lane<O, K>, AllocError>
-    ensures { IfOk result (IsOpened O.Operator K.Sink stages.now basin.now) }
+    ensures { IfOk result (IsOpened O.Operator K.Sink stages.now target.now) }
 {
     let own = split_stages(alloc, stages, thread_no)?;
-    let sink = basin.sink.split(alloc, thread_no)?;
+    let sink = target.sink.split(alloc, thread_no)?;
     Ok(Lane {
         stages: VecDeque::from_vec(own),
         flushers: Vec::new(alloc),
-        basin: Basin {
+        target: SinkStage {
             sink,
-            node: basin.node,
+            node: target.node,
             given: 0,
         },
         seat: None,
@@ -79,35 +79,35 @@ pub fn open_lanes<O: Operator + Drop, K: Sink + Drop>(
     context: &PExecutionContext,
     shared: &[O::Shared],
     stages: &[Stage<O>],
-    basin: &Basin<K>,
+    target: &SinkStage<K>,
 ) -> Result<Vec<Lane<O, K>>, AllocError>
     requires suits { AllSuit O.Operator (operators_of stages.now) shared.now }
     ensures len { IfOk result (λ lanes. vec_len lanes ≡ context.now.workers) }
     ensures opened { IfOk result (λ lanes.
-        All (IsOpened O.Operator K.Sink stages.now basin.now) lanes.items) }
+        All (IsOpened O.Operator K.Sink stages.now target.now) lanes.items) }
     ensures calm { IfOk result (λ lanes. All IsCalm lanes.items) }
     ensures fit { IfOk result (λ lanes. (from : List Field) →
-        IsChain O.Operator from (operators_of stages.now) (K.schema basin.now.sink) →
+        IsChain O.Operator from (operators_of stages.now) (K.schema target.now.sink) →
         All (IsFitSeated O.Operator K.Sink shared.now context.now.row_limit from) lanes.items) }
     ensures alike { IfOk result (λ lanes. (from : List Field) →
         AreAlike O.Operator from shared.now lanes.items) }
     ensures works { IfOk result (λ lanes. (from : List Field) →
         works_in O.Operator from shared.now lanes.items
         ≡ works_of O.Operator from (operators_of stages.now) shared.now) }
-    ensures nodes { IfOk result (λ lanes. nodes_in lanes.items ≡ nodes_of stages.now basin.now) }
+    ensures nodes { IfOk result (λ lanes. nodes_in lanes.items ≡ nodes_of stages.now target.now) }
     ensures acts { IfOk result (λ lanes. acts_in O.Operator lanes.items ≡ nothing stages.now) }
     ensures within { IfOk result (λ lanes. AllWithin 0 (counts_in lanes.items)) }
     ensures empty { IfOk result (λ lanes. flat_map (held_in K.held) lanes.items ≡ []) }
     ensures settings { IfOk result (λ lanes.
-        All (IsSet K.setting (K.setting basin.now.sink)) lanes.items) }
+        All (IsSet K.setting (K.setting target.now.sink)) lanes.items) }
     ensures schemas { IfOk result (λ lanes.
-        All (IsSet K.schema (K.schema basin.now.sink)) lanes.items) }
+        All (IsSet K.schema (K.schema target.now.sink)) lanes.items) }
     ensures gives { IfOk result (λ lanes.
-        All (IsSet K.gives (K.gives basin.now.sink)) lanes.items) }
+        All (IsSet K.gives (K.gives target.now.sink)) lanes.items) }
 {
     let mut lanes = Vec::with_capacity(alloc, context.workers as usize)?;
     for thread_no in 0..context.workers {
-        lanes.push(open_lane(alloc, stages, basin, thread_no as usize)?)?;
+        lanes.push(open_lane(alloc, stages, target, thread_no as usize)?)?;
     }
     Ok(lanes)
 }

@@ -17,7 +17,7 @@ pub struct Stage<O> {
 
 /// A sink, and the node whose rows it is given.
 #[derive(Drop)]
-pub struct Basin<K> {
+pub struct SinkStage<K> {
     /// The sink.
     pub sink: K,
     /// The node of the plan whose rows it is given.
@@ -28,7 +28,7 @@ pub struct Basin<K> {
 
 /// Why a lane stopped.
 #[derive(Clone, Copy, Debug, PartialEq, Eq, Drop)]
-pub enum Refusal {
+pub enum LaneFault {
     /// The node has more rows than the limit.
     TooMany(u32),
     /// Memory ran out.

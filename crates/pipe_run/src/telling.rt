@@ -7,12 +7,12 @@ ghost use Rattle.pipe_run.specs.Dealt.{IsWithin, HasNodes, counts_in, nodes_in, 
 ghost use Rattle.pipe_run.specs.Lanes.{lane_counts, lane_nodes};
 
 use crate::lane::Lane;
-use crate::stage::{Basin, Refusal, Stage};
+use crate::stage::{LaneFault, SinkStage, Stage};
 use pipe_ops::PExecutionContext;
 use std::collections::VecDeque;
 
 /// The refusal of the first lane that kept one.
-pub(crate) fn first_refusal<O, K>(lanes: &[Lane<O, K>]) -> Option<Refusal>
+pub(crate) fn first_refusal<O, K>(lanes: &[Lane<O, K>]) -> Option<LaneFault>
     ensures { result ≡ first_refused lanes.now }
 {
     for lane in lanes {
@@ -24,25 +24,25 @@ pub(crate) fn first_refusal<O, K>(lanes: &[Lane<O, K>]) -> Option<Refusal>
 }
 
 /// How many rows were given at a place: at each operator, and last at the sink.
-fn given_at<O, K>(stages: &VecDeque<Stage<O>>, basin: &Basin<K>, place: usize) -> u64
-    requires { place < length (counts stages.now.items basin.now) }
-    ensures { result ≡ slice_index_or (counts stages.now.items basin.now) place 0 }
+fn given_at<O, K>(stages: &VecDeque<Stage<O>>, target: &SinkStage<K>, place: usize) -> u64
+    requires { place < length (counts stages.now.items target.now) }
+    ensures { result ≡ slice_index_or (counts stages.now.items target.now) place 0 }
 {
     if place < stages.len() {
         return stages[place].given;
     }
-    basin.given
+    target.given
 }
 
 /// The node at a place.
-fn node_at<O, K>(stages: &VecDeque<Stage<O>>, basin: &Basin<K>, place: usize) -> u32
-    requires { place < length (nodes_of stages.now.items basin.now) }
-    ensures { result ≡ slice_index_or (nodes_of stages.now.items basin.now) place 0 }
+fn node_at<O, K>(stages: &VecDeque<Stage<O>>, target: &SinkStage<K>, place: usize) -> u32
+    requires { place < length (nodes_of stages.now.items target.now) }
+    ensures { result ≡ slice_index_or (nodes_of stages.now.items target.now) place 0 }
 {
     if place < stages.len() {
         return stages[place].node;
     }
-    basin.node
+    target.node
 }
 
 /// How many rows a lane was given at a place.
@@ -50,7 +50,7 @@ fn lane_given<O, K>(lane: &Lane<O, K>, place: usize) -> u64
     requires { place < length (lane_counts lane.now) }
     ensures { result ≡ slice_index_or (lane_counts lane.now) place 0 }
 {
-    given_at(&lane.stages, &lane.basin, place)
+    given_at(&lane.stages, &lane.target, place)
 }
 
 /// The node of a lane at a place.
@@ -58,7 +58,7 @@ fn lane_node<O, K>(lane: &Lane<O, K>, place: usize) -> u32
     requires { place < length (lane_nodes lane.now) }
     ensures { result ≡ slice_index_or (lane_nodes lane.now) place 0 }
 {
-    node_at(&lane.stages, &lane.basin, place)
+    node_at(&lane.stages, &lane.target, place)
 }
 
 /// How many rows all lanes were given at a place.
@@ -80,7 +80,7 @@ pub fn rows_given<O, K>(context: &PExecutionContext, lanes: &[Lane<O, K>], place
 pub(crate) fn check_counts<O, K>(
     context: &PExecutionContext,
     lanes: &[Lane<O, K>],
-) -> Result<(), Refusal>
+) -> Result<(), LaneFault>
     requires some { 0 < length lanes.now }
     requires few { length lanes.now ≤ 256 }
     requires nodes { All (HasNodes (nodes_in lanes.now)) lanes.now }
@@ -92,7 +92,7 @@ pub(crate) fn check_counts<O, K>(
     let places = lanes[0].stages.len() + 1;
     for place in 0..places {
         if rows_given(context, lanes, place) > context.row_limit as u64 {
-            return Err(Refusal::TooMany(lane_node(&lanes[0], place)));
+            return Err(LaneFault::TooMany(lane_node(&lanes[0], place)));
         }
     }
     Ok(())

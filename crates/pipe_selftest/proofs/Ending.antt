@@ -2,9 +2,9 @@
 use Rattle.std.proofs.Common.{◌≡◌, ℕ, Result, Ok, Err, length, inl, inr, refl, ap, subst, ◌∙◌}
 use Rattle.std.specs.Prelude.{IfErr}
 use Rattle.std.specs.Result.{IsErrAnd}
-use Rattle.pipe_exec.specs.Evaluated.{EndsWith}
+use Rattle.pipe_exec.specs.Evaluated.{PlanEndsWith}
 use Rattle.pipe_exec.specs.Runs.{RunCauses}
-use Rattle.pipe_exec.specs.Sound.{IsSound}
+use Rattle.pipe_exec.specs.Sound.{IsSoundRun}
 use Rattle.pipe_exec.proofs.Complete.{sound_refused}
 use Rattle.pipe_plan.specs.Plan.{Plan}
 use Rattle.pipe_plan.specs.PlanRows.{rows_of}
@@ -15,14 +15,14 @@ use Rattle.pipe_selftest.specs.Ends.{Ends, IsJoin, IsWithin}
 use Rattle.pipe_selftest.specs.Joins.{config, inner_root}
 
 -- it isn't refused
-pub sound_ends : (plan : Plan) (root : ℕ) (config : PipeConfig) (e : PipeError) → IsSound plan root config → RunCauses plan root config e → EndsWith config.row_limit plan root e
+pub sound_ends : (plan : Plan) (root : ℕ) (config : PipeConfig) (e : PipeError) → IsSoundRun plan root config → RunCauses plan root config e → PlanEndsWith config.row_limit plan root e
 sound_ends plan root config e sound (inl (inl memory)) = rw memory tt
 sound_ends plan root config e sound (inl (inr refused)) = absurd (sound_refused plan root config e sound refused)
 sound_ends plan root config e sound (inr fails) = fails.ends
 
 -- ---- the three joins of a self-test
 
-pub ends_at : (plan : Plan) (root : ℕ) (e : PipeError) → IsJoin root → EndsWith config.row_limit plan root e → Ends plan e
+pub ends_at : (plan : Plan) (root : ℕ) (e : PipeError) → IsJoin root → PlanEndsWith config.row_limit plan root e → Ends plan e
 ends_at plan root e join ends = record { root = root; is_join = join; ends = ends }
 
 -- what is said of a plan is said of one that equals it

@@ -1,7 +1,7 @@
 -- Why a self-test gives no numbers.
 use Rattle.std.specs.Prelude.{ℕ, ◌≡◌, ◌⊎◌}
 use Rattle.pipe_driver.specs.Within.{AllWithin}
-use Rattle.pipe_exec.specs.Evaluated.{EndsWith}
+use Rattle.pipe_exec.specs.Evaluated.{PlanEndsWith}
 use Rattle.pipe_plan.specs.Plan.{Plan}
 use Rattle.pipe_plan.specs.declared.error.PipeError.{PipeError}
 use Rattle.pipe_selftest.specs.Joins.{config, full_root, inner_root, left_root}
@@ -20,4 +20,4 @@ IsJoin n = (n ≡ inner_root) ⊎ (n ≡ left_root) ⊎ (n ≡ full_root)
 pub record Ends (plan : Plan) (e : PipeError) : Type 0 where
   pub root : ℕ
   pub is_join : IsJoin root
-  pub ends : EndsWith config.row_limit plan root e
+  pub ends : PlanEndsWith config.row_limit plan root e

@@ -2,9 +2,9 @@
 
 ghost use Rattle.std.specs.Prelude.{◌≡◌, ◌≤◌, Err, IfOk, IfErr, OnOk, length, true};
 ghost use Rattle.pipe_driver.specs.Within.{AllWithin};
-ghost use Rattle.pipe_exec.specs.Evaluated.{EndsWith, stops};
+ghost use Rattle.pipe_exec.specs.Evaluated.{PlanEndsWith, stops};
 ghost use Rattle.pipe_exec.specs.Runs.{IsMemory, Stays};
-ghost use Rattle.pipe_exec.specs.Sound.{IsSound};
+ghost use Rattle.pipe_exec.specs.Sound.{IsSoundRun};
 ghost use Rattle.pipe_schema.specs.Counts.{Counts, Rises};
 ghost use Rattle.pipe_plan.specs.Plan.{plan_of};
 ghost use Rattle.pipe_plan.specs.PlanRows.{rows_of};
@@ -44,10 +44,10 @@ fn count_rows<R: Threads + Sync, C: StopCheck, G: Gate + Sync>(
     stop: &mut C,
     gate: &G,
 ) -> Result<usize, PipeError>
-    requires sound { IsSound (plan_of arena.now) root config }
+    requires sound { IsSoundRun (plan_of arena.now) root config }
     ensures rows { IfOk result (λ n. n ≡ length (rows_of (plan_of arena.now) root)) }
     ensures within { OnOk result (AllWithin config.row_limit (plan_of arena.now) root) }
-    ensures err { IfErr result (EndsWith config.row_limit (plan_of arena.now) root) }
+    ensures err { IfErr result (PlanEndsWith config.row_limit (plan_of arena.now) root) }
     ensures asked { OnOk result (Rises (C.asked stop.old) (C.asked stop.new)) }
     ensures yes { Counts (stops result) (C.yes stop.old) (C.yes stop.new) }
     ensures last { result ≡ Err PipeError.Stopped → C.last_answer stop.new ≡ true }
@@ -67,9 +67,9 @@ fn count_joins<R: Threads + Sync, C: StopCheck, G: Gate + Sync>(
     stop: &mut C,
     gate: &G,
 ) -> Result<JoinCounts, PipeError>
-    requires inner { IsSound (plan_of arena.now) inner_root config }
-    requires left { IsSound (plan_of arena.now) left_root config }
-    requires full { IsSound (plan_of arena.now) full_root config }
+    requires inner { IsSoundRun (plan_of arena.now) inner_root config }
+    requires left { IsSoundRun (plan_of arena.now) left_root config }
+    requires full { IsSoundRun (plan_of arena.now) full_root config }
     ensures inner { let plan = plan_of arena.now in
         IfOk result (λ counts. counts.inner ≡ length (rows_of plan inner_root)) }
     ensures left { let plan = plan_of arena.now in

@@ -8,7 +8,7 @@ use Rattle.pipe_stream.specs.Outside.{Appends, OutputSeen, Writes, WritesFront}
 use Rattle.pipe_stream.specs.Blocks.{blocks_from, is_of, IsBlockOrder, PutsFront}
 use Rattle.pipe_stream.specs.Messages.{Begins, block_of, last_of, script, is_planned}
 use Rattle.pipe_stream.specs.Hands.{MayTake, hand, taken}
-use Rattle.pipe_stream.specs.Desk.{AllFollow, Fails, Follows, Standing, Stands, Wrote, put_on, share, with_share}
+use Rattle.pipe_stream.specs.Desk.{AllFollow, OrderFails, Follows, Standing, Stands, Wrote, put_on, share, with_share}
 use Rattle.pipe_stream.specs.declared.message.Message.{Message}
 use Rattle.pipe_stream.specs.declared.message.News.{News}
 use Rattle.pipe_stream.specs.declared.message.News.TheVariants as news
@@ -148,7 +148,7 @@ wrote_later text a b c out mid now h k = (
   subst (λ l. Writes l out now) (sym (flat_map-append text h.0 k.0)) (appends_both (flat_map text h.0) (flat_map text k.0) out.written mid.written now.written h.2 k.2),
 )
 
-pub fails_later : (text : ℕ → List ℕ) (count : ℕ) (a b : List ℕ) (out mid now : OutputSeen) → Wrote text a b out mid → Fails text count b mid now → Fails text count a out now
+pub fails_later : (text : ℕ → List ℕ) (count : ℕ) (a b : List ℕ) (out mid now : OutputSeen) → Wrote text a b out mid → OrderFails text count b mid now → OrderFails text count a out now
 fails_later text count a b out mid now h k = (
   h.0 ++ k.0,
   subst (λ l. IsBlockOrder count l) (ap (λ l. l ++ k.0) h.1 ∙ append_assoc a h.0 k.0) k.1,
@@ -159,11 +159,11 @@ fails_later text count a b out mid now h k = (
   ),
 )
 
-pub fails_now : (text : ℕ → List ℕ) (count : ℕ) (p : Progress) (out : OutputSeen) → AllFollow count p → Fails text count p.order out out
+pub fails_now : (text : ℕ → List ℕ) (count : ℕ) (p : Progress) (out : OutputSeen) → AllFollow count p → OrderFails text count p.order out out
 fails_now text count p out f = (rest_of count p false ++ rest_of count p true, completes count p false f, (0, appends_none out.written))
 
 pub fails_put : (text : ℕ → List ℕ) (count : ℕ) (p : Progress) (o : Bool) (number : ℕ) (t : List ℕ) (out now : OutputSeen) → AllFollow count p
-    → blocks_from o (share o p).next count ≡ number ∷ blocks_from o (number + 1) count → t ≡ text number → WritesFront t out now → Fails text count p.order out now
+    → blocks_from o (share o p).next count ≡ number ∷ blocks_from o (number + 1) count → t ≡ text number → WritesFront t out now → OrderFails text count p.order out now
 fails_put text count p o number t out now f r e w = (
   rest_of count p o ++ rest_of count p (not o),
   completes count p o f,

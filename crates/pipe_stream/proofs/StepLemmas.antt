@@ -6,7 +6,7 @@ use Rattle.pipe_stream.proofs.WholeLemmas.{rises_later}
 use Rattle.pipe_stream.specs.Blocks.{block_text, blocks_from, is_of, Describes, IsBlockOrder}
 use Rattle.pipe_stream.specs.Messages.{Begins}
 use Rattle.pipe_stream.specs.Hands.{MayTake, Takes, hand, taken}
-use Rattle.pipe_stream.specs.Desk.{AllFollow, Fails, Puts, Reaches, Rests, Standing, Steps, Wrote, put_on, share, with_share}
+use Rattle.pipe_stream.specs.Desk.{AllFollow, OrderFails, Puts, Reaches, Rests, Standing, Steps, Wrote, put_on, share, with_share}
 use Rattle.pipe_stream.specs.declared.message.Message.{Message}
 use Rattle.pipe_stream.specs.declared.message.News.{News}
 use Rattle.pipe_stream.specs.declared.message.News.TheVariants as news

@@ -4,7 +4,7 @@ use Rattle.pipe_stream.specs.Outside.{OutputSeen, Writes}
 use Rattle.pipe_stream.specs.Blocks.{block_count, block_text, blocks_from, Describes, IsBlockOrder}
 use Rattle.pipe_stream.specs.Messages.{script}
 use Rattle.pipe_stream.specs.Hands.{MayTake, hand, taker, view_of}
-use Rattle.pipe_stream.specs.Desk.{AllFollow, Fails, Standing, Stands, Steps, Streamed}
+use Rattle.pipe_stream.specs.Desk.{AllFollow, OrderFails, Standing, Stands, Steps, Streamed}
 use Rattle.pipe_stream.specs.declared.hands.View.{View}
 use Rattle.pipe_stream.specs.declared.outcome.Report.{Report}
 use Rattle.pipe_stream.specs.declared.outcome.StreamError.{StreamError}
@@ -68,7 +68,7 @@ pub streamed_part : {X : Type 0} (text : ℕ → List ℕ) (count : ℕ) (p : Pr
 streamed_part text count p after even odd out now e is s = record {
   order = tt;
   put = tt;
-  front = subst (λ (q : Progress). Fails text count q.order out now) is s.fails;
+  front = subst (λ (q : Progress). OrderFails text count q.order out now) is s.fails;
   fault = λ q. s.cause (ap (λ x. Err x) (ap (error_in e) q));
   faults = s.faults;
 }

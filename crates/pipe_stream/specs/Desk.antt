@@ -55,8 +55,8 @@ abbrev pub Wrote : (ℕ → List ℕ) → List ℕ → List ℕ → OutputSeen �
 Wrote text before after out now = (more : List ℕ) × (after ≡ before ++ more) × Writes (flat_map text more) out now
 
 -- a front was put of what would have completed the order
-abbrev pub Fails : (ℕ → List ℕ) → ℕ → List ℕ → OutputSeen → OutputSeen → Type 0
-Fails text count before out now =
+abbrev pub OrderFails : (ℕ → List ℕ) → ℕ → List ℕ → OutputSeen → OutputSeen → Type 0
+OrderFails text count before out now =
     (more : List ℕ) × IsBlockOrder count (before ++ more) × WritesFront (flat_map text more) out now
 
 -- a text was put for a worker's block, or a front of it
@@ -70,7 +70,7 @@ pub record Puts {X : Type 0} (t : List ℕ) (odd : Bool) (number : ℕ) (p p' : 
 -- more blocks were put, or a front of what would have completed the order
 pub record Steps {X : Type 0} (text : ℕ → List ℕ) (count : ℕ) (before after : List ℕ) (out now : OutputSeen) (result : Result X StreamError) : Type 0 where
   pub wrote : OnOk result (Wrote text before after out now)
-  pub fails : OnErr result (Fails text count before out now)
+  pub fails : OnErr result (OrderFails text count before out now)
   pub cause : IsErrOf result error.PutFault → WriteFails out now
   pub faults : out.faults ≤ now.faults
 

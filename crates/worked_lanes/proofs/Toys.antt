@@ -12,7 +12,7 @@ use Rattle.pipe_run.specs.Lanes.{IsFit, IsSet, lane_operators}
 use Rattle.pipe_run.specs.Opens.{AreSplit, IsFitSeated, IsOpened}
 use Rattle.pipe_run.specs.Stages.{operators_of}
 use Rattle.pipe_run.specs.declared.lane.Lane.{Lane}
-use Rattle.pipe_run.specs.declared.stage.Basin.{Basin}
+use Rattle.pipe_run.specs.declared.stage.SinkStage.{SinkStage}
 use Rattle.pipe_run.specs.declared.stage.Stage.{Stage}
 use Rattle.pipe_run.specs.Notes.{HasNothing}
 
@@ -53,15 +53,15 @@ module _ {O S : Type 0} (op : OperatorWords O S) where
 
   module _ {K B C : Type 0} (sink : SinkWords K B C) where
     -- lanes are fit, since their operators want no seats
-    pub fit-unseated : ((o : O) (s : S) → op.seated o s) → (stages : List (Stage O)) (basin : Basin K) (ss : List S) (limit : ℕ) (from : List Field) (lanes : List (Lane O K)) → length stages ≡ length ss → All (IsOpened op sink stages basin) lanes → All (IsFitSeated op sink ss limit from) lanes → All (IsFit op sink ss limit from) lanes
-    fit-unseated all stages basin ss limit from lanes e opened fit = λ i d less.
+    pub fit-unseated : ((o : O) (s : S) → op.seated o s) → (stages : List (Stage O)) (target : SinkStage K) (ss : List S) (limit : ℕ) (from : List Field) (lanes : List (Lane O K)) → length stages ≡ length ss → All (IsOpened op sink stages target) lanes → All (IsFitSeated op sink ss limit from) lanes → All (IsFit op sink ss limit from) lanes
+    fit-unseated all stages target ss limit from lanes e opened fit = λ i d less.
         let lane = get_or lanes i d in
         fit i d less (seated all (lane_operators lane) ss (split-length stages lane.stages.items (opened i d less).split ∙ e))
 
     -- and have noted nothing
-    pub nothing-noted : (stages : List (Stage O)) (basin : Basin K) (lanes : List (Lane O K)) → All (IsOpened op sink stages basin) lanes → AllByRecursion HasNothing lanes
-    nothing-noted stages basin lanes opened =
-        recursion_from_All HasNothing lanes (All-weaker (IsOpened op sink stages basin) HasNothing (λ lane h. h.entries) lanes opened)
+    pub nothing-noted : (stages : List (Stage O)) (target : SinkStage K) (lanes : List (Lane O K)) → All (IsOpened op sink stages target) lanes → AllByRecursion HasNothing lanes
+    nothing-noted stages target lanes opened =
+        recursion_from_All HasNothing lanes (All-weaker (IsOpened op sink stages target) HasNothing (λ lane h. h.entries) lanes opened)
 
     -- what lanes do leaves their sinks' schemas as they were
     pub same-schemas : (schema : List Field) (old new : List (Lane O K)) → AllSame op sink old new → All (IsSet sink.schema schema) old → All (IsSet sink.schema schema) new

@@ -11,7 +11,7 @@ use crate::lanes::told::{entries_text, takes_kept, takes_noted};
 use pipe_chain::PlainOperator;
 use pipe_frame::DataFrame;
 use pipe_ops::{FinalizedSink, PExecutionContext, Sink};
-use pipe_run::{Basin, Halt, Lane, Note, Stage, gather, open_lanes, run_rounds};
+use pipe_run::{Halt, Lane, Note, SinkStage, Stage, gather, open_lanes, run_rounds};
 use pipe_schema::{Gate, NeverStop, StopCheck, TryClone};
 use pipe_source::{DataFrameSource, OrderedSink};
 use std::alloc::{AllocError, Global};
@@ -117,20 +117,20 @@ fn lanes_over<R: Threads + Sync, C: StopCheck, G: Gate + Sync>(
     alloc: Global,
     context: &PExecutionContext,
     stages: &[Stage<PlainOperator<Repeat>>],
-    basin: &Basin<OrderedSink>,
+    target: &SinkStage<OrderedSink>,
     mut source: DataFrameSource,
     stop: &mut C,
     gate: &G,
 ) -> Result<Ran, AllocError>
-    requires schema { source.schema ≡ basin.now.sink.schema }
+    requires schema { source.schema ≡ target.now.sink.schema }
     requires few { length source.rows ≤ 1000 }
-    ensures settings { IfOk result (λ r. All (IsSet schema_of basin.now.sink.schema) r.lanes.items) }
+    ensures settings { IfOk result (λ r. All (IsSet schema_of target.now.sink.schema) r.lanes.items) }
     ensures room { IfOk result (λ r. r.ending ≡ Ok tt →
         length (flat_map (in_lane held_in) r.lanes.items) ≤ 4294967294) }
 {
     let made = shared_of(alloc, stages)?;
     let shared = made.as_slice();
-    let mut lanes = open_lanes(alloc, context, shared, stages, basin)?;
+    let mut lanes = open_lanes(alloc, context, shared, stages, target)?;
     let mut notes = Vec::new(alloc);
     let mut next_index = 0;
     let ending = run_rounds(
@@ -197,7 +197,7 @@ pub(crate) fn run_all<R: Threads + Sync, C: StopCheck, G: Gate + Sync>(
     requires { length frame.now.rows ≤ 1000 }
 {
     let stages = stages_of(alloc, repeats)?;
-    let basin = Basin {
+    let target = SinkStage {
         sink: OrderedSink::new(alloc, frame.schema().try_clone()?),
         node: SINK,
         given: 0,
@@ -208,10 +208,10 @@ pub(crate) fn run_all<R: Threads + Sync, C: StopCheck, G: Gate + Sync>(
         alloc,
         context,
         stages.as_slice(),
-        &basin,
+        &target,
         source,
         stop,
         gate,
     )?;
-    outcome_of(alloc, context, ran, basin.sink)
+    outcome_of(alloc, context, ran, target.sink)
 }

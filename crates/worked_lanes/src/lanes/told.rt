@@ -1,7 +1,7 @@
 //! How outcomes are told.
 
 use pipe_frame::DataFrame;
-use pipe_run::{Entry, Halt, Note, Refusal};
+use pipe_run::{Entry, Halt, LaneFault, Note};
 use pipe_schema::AnyValue;
 use std::alloc::{AllocError, Global};
 
@@ -10,8 +10,8 @@ pub(crate) fn ending_text(alloc: Global, ending: &Result<(), Halt>) -> Result<St
     match ending {
         Ok(()) => String::from_str(alloc, "all rows"),
         Err(Halt::Stopped) => String::from_str(alloc, "stopped"),
-        Err(Halt::Refused(Refusal::Memory)) => String::from_str(alloc, "memory"),
-        Err(Halt::Refused(Refusal::TooMany(node))) => {
+        Err(Halt::Refused(LaneFault::Memory)) => String::from_str(alloc, "memory"),
+        Err(Halt::Refused(LaneFault::TooMany(node))) => {
             format!(in alloc; "too many rows of node {node}")
         }
     }

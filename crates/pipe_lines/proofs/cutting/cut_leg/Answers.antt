@@ -8,7 +8,7 @@ returns-clause-leg g c = record {
   count = refl;
   part_at = c.place_of-at.ensures;
   stages = c.in_ok-stages.ensures.stages;
-  basin = refl;
+  target = refl;
   given = c.last_node.ensures;
   scans = refl;
 }

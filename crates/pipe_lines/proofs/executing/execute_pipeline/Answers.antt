@@ -7,7 +7,7 @@ use Rattle.pipe_engine.specs.Paced.{rows_due_of}
 use Rattle.pipe_engine.proofs.Asked.{asked-memory}
 use Rattle.pipe_engine.proofs.Entry.{if_ok}
 use Rattle.pipe_engine.proofs.Limits.{on_ok}
-use Rattle.pipe_driver.specs.Within.{AllWithin, EndsWith}
+use Rattle.pipe_driver.specs.Within.{AllWithin, RunEndsWith}
 use Rattle.pipe_lines.proofs.Due.{paced_as}
 use Rattle.pipe_lines.proofs.Handed.{due_as, listed_as, staged_as}
 use Rattle.pipe_lines.proofs.Journaled.{kept_as}
@@ -36,7 +36,7 @@ pub returns-in-Ok-clause-err : goal.returns-in-Ok-clause-err
 returns-in-Ok-clause-err g c =
     IfErr-weaker c.execute_branches.result _ _
     (λ e has asked stand. (
-    let L : PExecutionContext → Type 0 = λ z. EndsWith z.row_limit asked.ask.plan asked.ask.root e in
+    let L : PExecutionContext → Type 0 = λ z. RunEndsWith z.row_limit asked.ask.plan asked.ask.root e in
     subst L c.in-Ok.ensures.context (has asked (c.in-Ok.ensures.stand asked stand))))
     c.execute_branches.ensures.err
 

@@ -6,7 +6,7 @@ use Rattle.pipe_convert.specs.Nodes.{plan_in}
 use Rattle.pipe_plan.specs.Plan.{plan_of}
 use Rattle.pipe_plan.specs.declared.arena.Arena.{Arena}
 use Rattle.pipe_events.specs.Fitting.{TablesFit}
-use Rattle.pipe_driver.specs.Within.{EndsWith}
+use Rattle.pipe_driver.specs.Within.{RunEndsWith}
 use Rattle.pipe_engine.proofs.Asked.{asked-memory}
 use Rattle.pipe_engine.proofs.Entry.{if_ok}
 use Rattle.pipe_engine.proofs.Limits.{on_ok}
@@ -82,7 +82,7 @@ pub returns-in-Ok-clause-complete : goal.returns-in-Ok-clause-complete
 returns-in-Ok-clause-complete g c = λ within stays.
     let stand = c.in-Ok.ensures in
     let root = c.args.plan.now.root in
-    let ends : IfErr c.execute_pipeline.result (EndsWith c.args.context.row_limit (plan_in c.args.plan.now) root) = IfErr-weaker c.execute_pipeline.result _ _
+    let ends : IfErr c.execute_pipeline.result (RunEndsWith c.args.context.row_limit (plan_in c.args.plan.now) root) = IfErr-weaker c.execute_pipeline.result _ _
     (λ e has. has (asked_in c.args.plan.now stand.settings) stand.stand)
     c.execute_pipeline.ensures.err in
     only_memory_of (plan_in c.args.plan.now) root c.args.context.row_limit _ _ c.execute_pipeline.result ends c.execute_pipeline.ensures.yes within stays

@@ -8,7 +8,7 @@ returns-clause-lane g c = record {
   stage = c.take_front-stage.result;
   stages = c.take_front-stage.ensures;
   flushers = c.in_ok-push.ensures.items ∙ ap (λ (o : _). c.args.lane.now.flushers.items ++ record c.take_front-stage.result { operator = o } ∷ []) c.detach.ensures.none;
-  basin = refl;
+  target = refl;
   entries = refl;
   refused = refl;
 }

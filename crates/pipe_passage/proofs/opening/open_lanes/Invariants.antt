@@ -5,6 +5,6 @@ use Rattle.pipe_passage.proofs.opening.open_lanes.Given as goal
 abbrev pub invariant-loop-thread_no : goal.invariant-loop-thread_no
 invariant-loop-thread_no g l = record {
   len : vec_len l.made ≡ l.thread_no;
-  opened : LanesOpened g.K.Sink l.shared l.initial.free l.free l.stages l.basin l.made.items;
+  opened : LanesOpened g.K.Sink l.shared l.initial.free l.free l.stages l.target l.made.items;
   rest : AllRest l.thread_no l.shared l.free;
 }

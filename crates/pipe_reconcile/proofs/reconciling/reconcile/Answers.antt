@@ -1,9 +1,9 @@
-use Rattle.pipe_recon.specs.Ends.{IsSound}
+use Rattle.pipe_recon.specs.Ends.{IsSoundReconciliation}
 use Rattle.pipe_reconcile.proofs.Causes.{always, causes_are, only_memory, recon_is, within_is}
 use Rattle.pipe_reconcile.proofs.reconciling.reconcile.Goals as goal
 
 pub returns-clause-sound : goal.returns-clause-sound
-returns-clause-sound g c = always c.recon_of_codes.result (IsSound c.args.left.now c.args.right.now c.args.spec.now c.args.config.now) (record { numbers = c.in_ok-lefts.ensures.numbers; good = c.in_ok-lefts.ensures.codes.good })
+returns-clause-sound g c = always c.recon_of_codes.result (IsSoundReconciliation c.args.left.now c.args.right.now c.args.spec.now c.args.config.now) (record { numbers = c.in_ok-lefts.ensures.numbers; good = c.in_ok-lefts.ensures.codes.good })
 
 pub returns-clause-recon : goal.returns-clause-recon
 returns-clause-recon g c = recon_is c.args.left.now c.args.right.now c.args.spec.now c.args.config.now c.in_ok-lefts.lefts c.in_ok-lefts.rights c.in_ok-lefts.ensures.codes c.recon_of_codes.result c.recon_of_codes.ensures.recon

@@ -1,6 +1,6 @@
 use Rattle.std.proofs.Common.{arith, sym, ◌∙◌}
 use Rattle.std.proofs.lemmas.Result.{IfErr-weaker}
-use Rattle.pipe_run.specs.declared.stage.Refusal.TheVariants.{Memory}
+use Rattle.pipe_run.specs.declared.stage.LaneFault.TheVariants.{Memory}
 use Rattle.pipe_run.specs.Claimed.{parts_lot}
 use Rattle.pipe_run.specs.Flushes.{flushed_in, rows_of_parts}
 use Rattle.pipe_run.proofs.FlushSteps.{flush-serves}

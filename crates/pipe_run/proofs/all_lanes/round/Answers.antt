@@ -1,6 +1,6 @@
 use Rattle.std.proofs.Common.{arith, sym, ◌∙◌}
 use Rattle.std.proofs.lemmas.Result.{IfErr-weaker}
-use Rattle.pipe_run.specs.declared.stage.Refusal.TheVariants.{Memory}
+use Rattle.pipe_run.specs.declared.stage.LaneFault.TheVariants.{Memory}
 use Rattle.pipe_run.specs.Claimed.{schema_in, chunks_lot}
 use Rattle.pipe_run.proofs.Dealing.{chunks-are}
 use Rattle.pipe_run.specs.Dealt.{rows_of_all}

@@ -1,5 +1,5 @@
 use Rattle.std.proofs.Common.{◌*◌, ◌∙◌, arith}
-use Rattle.pipe_run.specs.declared.stage.Refusal.TheVariants.{Memory}
+use Rattle.pipe_run.specs.declared.stage.LaneFault.TheVariants.{Memory}
 use Rattle.pipe_run.proofs.Asked.{counts-next}
 use Rattle.pipe_run.proofs.RoundSteps.{tells-none, same-lanes-length}
 use Rattle.pipe_run.proofs.BatchSteps.{got, index-got, got-none, index-same}

@@ -19,7 +19,7 @@ loop-answer-init g c = record {
   gives = refl;
   within = c.requires.within;
   room = c.requires.held;
-  drained = drained-start _ _ _ _ _ (acts-length g.O.Operator _ _ _ c.requires.serves) (counts-length g.O.Operator _ c.args.rest.now c.args.basin.now c.args.others.now c.requires.serves);
+  drained = drained-start _ _ _ _ _ (acts-length g.O.Operator _ _ _ c.requires.serves) (counts-length g.O.Operator _ c.args.rest.now c.args.target.now c.args.others.now c.requires.serves);
 }
 
 pub returns-in_default-clause-flushed : goal.returns-in_default-clause-flushed

@@ -14,13 +14,13 @@ invariant-loop-answer g l =
       begun : op.flushing l.operator ≡ true;
       others : SameWork op (operators_of l.initial.rest) (operators_of l.rest);
       idle : AllByRecursion op.idle (operators_of l.rest);
-      nodes : nodes_of l.rest l.basin ≡ nodes_of l.initial.rest l.initial.basin;
-      setting : g.K.Sink.setting l.basin.sink ≡ g.K.Sink.setting l.initial.basin.sink;
-      schema : g.K.Sink.schema l.basin.sink ≡ g.K.Sink.schema l.initial.basin.sink;
-      gives : g.K.Sink.gives l.basin.sink ≡ g.K.Sink.gives l.initial.basin.sink;
-      within : AllWithin l.context.row_limit (counts l.rest l.basin);
-      room : length (g.K.Sink.held l.basin.sink) ≤ l.basin.given;
-      drained : Drained (works_of op (op.flushed l.initial.operator) (operators_of l.initial.rest) l.others) (acts_of op (operators_of l.initial.rest)) (acts_of op (operators_of l.rest)) (counts l.initial.rest l.initial.basin) (counts l.rest l.basin) (op.owed l.operator l.own) (op.owed l.initial.operator l.own) (g.K.Sink.held l.initial.basin.sink) (g.K.Sink.held l.basin.sink);
+      nodes : nodes_of l.rest l.target ≡ nodes_of l.initial.rest l.initial.target;
+      setting : g.K.Sink.setting l.target.sink ≡ g.K.Sink.setting l.initial.target.sink;
+      schema : g.K.Sink.schema l.target.sink ≡ g.K.Sink.schema l.initial.target.sink;
+      gives : g.K.Sink.gives l.target.sink ≡ g.K.Sink.gives l.initial.target.sink;
+      within : AllWithin l.context.row_limit (counts l.rest l.target);
+      room : length (g.K.Sink.held l.target.sink) ≤ l.target.given;
+      drained : Drained (works_of op (op.flushed l.initial.operator) (operators_of l.initial.rest) l.others) (acts_of op (operators_of l.initial.rest)) (acts_of op (operators_of l.rest)) (counts l.initial.rest l.initial.target) (counts l.rest l.target) (op.owed l.operator l.own) (op.owed l.initial.operator l.own) (g.K.Sink.held l.initial.target.sink) (g.K.Sink.held l.target.sink);
     }
 
 abbrev pub decreases-loop-answer : goal.decreases-loop-answer

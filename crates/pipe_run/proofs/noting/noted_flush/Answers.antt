@@ -1,5 +1,5 @@
 use Rattle.std.proofs.Common.{arith, map}
-use Rattle.pipe_run.specs.declared.stage.Refusal.TheVariants.{Memory}
+use Rattle.pipe_run.specs.declared.stage.LaneFault.TheVariants.{Memory}
 use Rattle.pipe_run.specs.Claimed.{parts_lot}
 use Rattle.pipe_run.specs.Flushes.{flushed_in, rows_of_parts}
 use Rattle.pipe_run.proofs.RoundSteps.{tells-none, same-lanes-length}

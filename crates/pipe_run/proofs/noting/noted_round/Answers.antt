@@ -1,5 +1,5 @@
 use Rattle.std.proofs.Common.{arith, map}
-use Rattle.pipe_run.specs.declared.stage.Refusal.TheVariants.{Memory}
+use Rattle.pipe_run.specs.declared.stage.LaneFault.TheVariants.{Memory}
 use Rattle.pipe_run.specs.Claimed.{schema_in, chunks_lot}
 use Rattle.pipe_run.specs.Dealt.{rows_of_all}
 use Rattle.pipe_run.proofs.RoundSteps.{tells-none, same-lanes-length}

@@ -24,7 +24,7 @@ pump-loop-answer-init g t c =
       gives = refl;
       within = c.requires.within;
       room = c.requires.held;
-      going = going-start _ _ _ _ _ _ _ _ (acts-length g.O.Operator _ _ _ c.requires.serves.1) (counts-length g.O.Operator _ c.args.rest.now c.args.basin.now c.args.others.now c.requires.serves.1) (laws.owes op s frame c.requires.chain.0 idle) (laws.asks op s frame c.requires.chain.0 idle);
+      going = going-start _ _ _ _ _ _ _ _ (acts-length g.O.Operator _ _ _ c.requires.serves.1) (counts-length g.O.Operator _ c.args.rest.now c.args.target.now c.args.others.now c.requires.serves.1) (laws.owes op s frame c.requires.chain.0 idle) (laws.asks op s frame c.requires.chain.0 idle);
     }
 
 pub pump-execute-requires-clause-suits : goal.pump-execute-requires-clause-suits

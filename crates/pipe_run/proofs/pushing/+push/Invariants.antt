@@ -21,13 +21,13 @@ invariant-pump-loop-answer g l =
       ready : op.ready l.operator l.own frame;
       others : SameWork op (operators_of l.initial.rest) (operators_of l.rest);
       idle : AllByRecursion op.idle (operators_of l.rest);
-      nodes : nodes_of l.rest l.basin ≡ nodes_of l.initial.rest l.initial.basin;
-      setting : g.K.Sink.setting l.basin.sink ≡ g.K.Sink.setting l.initial.basin.sink;
-      schema : g.K.Sink.schema l.basin.sink ≡ g.K.Sink.schema l.initial.basin.sink;
-      gives : g.K.Sink.gives l.basin.sink ≡ g.K.Sink.gives l.initial.basin.sink;
-      within : AllWithin l.context.row_limit (counts l.rest l.basin);
-      room : length (g.K.Sink.held l.basin.sink) ≤ l.basin.given;
-      going : Going (op.work l.initial.operator frame.schema l.own) (works_of op (op.output l.initial.operator frame.schema) (operators_of l.initial.rest) l.others) (op.acts l.initial.operator) (op.acts l.operator) (acts_of op (operators_of l.initial.rest)) (acts_of op (operators_of l.rest)) (counts l.initial.rest l.initial.basin) (counts l.rest l.basin) frame.rows (op.rest l.operator l.own frame) (g.K.Sink.held l.initial.basin.sink) (g.K.Sink.held l.basin.sink);
+      nodes : nodes_of l.rest l.target ≡ nodes_of l.initial.rest l.initial.target;
+      setting : g.K.Sink.setting l.target.sink ≡ g.K.Sink.setting l.initial.target.sink;
+      schema : g.K.Sink.schema l.target.sink ≡ g.K.Sink.schema l.initial.target.sink;
+      gives : g.K.Sink.gives l.target.sink ≡ g.K.Sink.gives l.initial.target.sink;
+      within : AllWithin l.context.row_limit (counts l.rest l.target);
+      room : length (g.K.Sink.held l.target.sink) ≤ l.target.given;
+      going : Going (op.work l.initial.operator frame.schema l.own) (works_of op (op.output l.initial.operator frame.schema) (operators_of l.initial.rest) l.others) (op.acts l.initial.operator) (op.acts l.operator) (acts_of op (operators_of l.initial.rest)) (acts_of op (operators_of l.rest)) (counts l.initial.rest l.initial.target) (counts l.rest l.target) frame.rows (op.rest l.operator l.own frame) (g.K.Sink.held l.initial.target.sink) (g.K.Sink.held l.target.sink);
     }
 
 abbrev pub decreases-pump-loop-answer : goal.decreases-pump-loop-answer

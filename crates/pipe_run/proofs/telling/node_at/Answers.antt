@@ -1,10 +1,10 @@
 use Rattle.std.proofs.Common.{ap, arith, ◌∙◌}
-use Rattle.pipe_run.proofs.Sums.{node-at, node-basin}
+use Rattle.pipe_run.proofs.Sums.{node-at, node-target}
 use Rattle.pipe_run.proofs.telling.node_at.Goals as goal
 
 pub returns-then-place-len : goal.returns-then-place-len
 returns-then-place-len g c =
-    ap (λ st. st.node) c.index.ensures ∙ node-at c.args.stages.now.items c.args.basin.now c.args.place c.index.result.now (omega (arith, c.if-place-len.true, c.len.ensures, c.args.stages.now.ok.0))
+    ap (λ st. st.node) c.index.ensures ∙ node-at c.args.stages.now.items c.args.target.now c.args.place c.index.result.now (omega (arith, c.if-place-len.true, c.len.ensures, c.args.stages.now.ok.0))
 
 pub returns : goal.returns
-returns g c = node-basin c.args.stages.now.items c.args.basin.now c.args.place (omega (arith, c.if-place-len.false, c.len.ensures, c.args.stages.now.ok.0)) c.requires
+returns g c = node-target c.args.stages.now.items c.args.target.now c.args.place (omega (arith, c.if-place-len.false, c.len.ensures, c.args.stages.now.ok.0)) c.requires
