@@ -332,13 +332,13 @@ here_fits {H = H} x m w came more given node work s t u ss rest seats acts nothi
       gained = SameBag-append r.0.bare.gained none;
     })))
 
-loose_rest : {H : Type 0} (nothing : Bool) (t u : Slot H) (v : List SeatMarks) → (nothing ≡ true → t ≡ u) → (nothing ≡ false → t ≡ slot.Spent) → u ≡ slot.Empty → IsRest 0 t v
-loose_rest {H = H} true t u v same spends empty = let P : Slot H → Type 0 = λ z. IsRest 0 z v in subst P (sym (same refl ∙ empty)) tt
-loose_rest {H = H} false t u v same spends empty = let P : Slot H → Type 0 = λ z. IsRest 0 z v in subst P (sym (spends refl)) tt
+unjoined_rest : {H : Type 0} (nothing : Bool) (t u : Slot H) (v : List SeatMarks) → (nothing ≡ true → t ≡ u) → (nothing ≡ false → t ≡ slot.Spent) → u ≡ slot.Empty → IsRest 0 t v
+unjoined_rest {H = H} true t u v same spends empty = let P : Slot H → Type 0 = λ z. IsRest 0 z v in subst P (sym (same refl ∙ empty)) tt
+unjoined_rest {H = H} false t u v same spends empty = let P : Slot H → Type 0 = λ z. IsRest 0 z v in subst P (sym (spends refl)) tt
 
-loose_seats : {H : Type 0} (lanes : ℕ) (nothing : Bool) (t u : Slot H) → (nothing ≡ true → t ≡ u) → (nothing ≡ false → t ≡ slot.Spent) → u ≡ slot.Empty → HasSeats lanes t
-loose_seats {H = H} lanes true t u same spends empty = let P : Slot H → Type 0 = HasSeats lanes in subst P (sym (same refl ∙ empty)) tt
-loose_seats {H = H} lanes false t u same spends empty = let P : Slot H → Type 0 = HasSeats lanes in subst P (sym (spends refl)) tt
+unjoined_seats : {H : Type 0} (lanes : ℕ) (nothing : Bool) (t u : Slot H) → (nothing ≡ true → t ≡ u) → (nothing ≡ false → t ≡ slot.Spent) → u ≡ slot.Empty → HasSeats lanes t
+unjoined_seats {H = H} lanes true t u same spends empty = let P : Slot H → Type 0 = HasSeats lanes in subst P (sym (same refl ∙ empty)) tt
+unjoined_seats {H = H} lanes false t u same spends empty = let P : Slot H → Type 0 = HasSeats lanes in subst P (sym (spends refl)) tt
 
 more_into : (there kept held mid now out came : List Row) → SameBag there (kept ++ held) → mid ≡ held → SameBag now (mid ++ out) → SameBag out came → SameBag (there ++ came) (kept ++ now)
 more_into there kept held mid now out came h same k l = record {
@@ -445,11 +445,11 @@ settle_fits {H = H} hash_of x old leg p slots counts node nothing from parts not
               let F : List (List SeatMarks) → Type 0 = λ z. IsRest 0 (slot_at slots.slots.items k) (seats_at z k) in
               subst F (sym seats_are) (by_test (IsRest 0 (slot_at slots.slots.items k) (seats_at old.slots.seats.items k)) (k == node)
               (λ e. (let N : ℕ → Type 0 = λ z. IsRest 0 (slot_at slots.slots.items z) (seats_at old.slots.seats.items z) in
-              subst N (sym (eq-is k node e)) (loose_rest nothing (slot_at slots.slots.items node) (slot_at old.slots.slots.items node) (seats_at old.slots.seats.items node) spends.empty spends.spent (fits.taken node node_on))))
+              subst N (sym (eq-is k node e)) (unjoined_rest nothing (slot_at slots.slots.items node) (slot_at old.slots.slots.items node) (seats_at old.slots.seats.items node) spends.empty spends.spent (fits.taken node node_on))))
               (λ e. (let P : Slot H → Type 0 = λ z. IsRest 0 z (seats_at old.slots.seats.items k) in subst P (sym (spends.slots k (eq-not k node e))) (fits.rest k)))));
           enough = λ k. by_test (HasSeats old.context.workers (slot_at slots.slots.items k)) (k == node)
               (λ e. (let N : ℕ → Type 0 = λ z. HasSeats old.context.workers (slot_at slots.slots.items z) in
-              subst N (sym (eq-is k node e)) (loose_seats old.context.workers nothing (slot_at slots.slots.items node) (slot_at old.slots.slots.items node) spends.empty spends.spent (fits.taken node node_on))))
+              subst N (sym (eq-is k node e)) (unjoined_seats old.context.workers nothing (slot_at slots.slots.items node) (slot_at old.slots.slots.items node) spends.empty spends.spent (fits.taken node node_on))))
               (λ e. (let P : Slot H → Type 0 = HasSeats old.context.workers in subst P (sym (spends.slots k (eq-not k node e))) (fits.enough k)));
           taken = λ k some. (
               let still : 0 < occurs k now = (let e = ap (λ z. occurs k (behind z)) nodes1 in omega arith) in

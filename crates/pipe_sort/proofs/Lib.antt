@@ -1,7 +1,7 @@
 pub mod PrefixLaw
 pub mod Criteria
 pub mod EntryOrder
-pub mod SpotLaw
+pub mod DigitLaw
 pub mod Runs
 pub mod RowBytes
 pub mod RowOrder

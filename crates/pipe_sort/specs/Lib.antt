@@ -7,6 +7,6 @@ pub mod Prefix
 -- the places of encoded rows, in order
 pub mod Entries
 -- the bytes that tell rows apart
-pub mod Spots
+pub mod Digits
 -- a sort ends alike, in whatever order its rows came
 pub mod SortLaws

@@ -2,13 +2,13 @@
 #![tactic(auto)]
 
 mod columns;
+mod digits;
 mod entries;
 mod key;
 mod parts;
 mod prefix;
 mod sink;
 mod sorted;
-mod spots;
 mod taking;
 mod ties;
 
