@@ -7,6 +7,7 @@
 mod arithmetic;
 mod byte_strings;
 mod collect;
+mod column_types;
 mod comparison;
 mod constant;
 mod error;
@@ -26,6 +27,7 @@ mod physical;
 mod try_clone;
 mod typing;
 
+pub use column_types::ColumnTypes;
 pub use error::ExprError;
 pub use expr::{Expr, NamedExpr};
 pub use join_laws::shares_are_the_join;
@@ -33,4 +35,4 @@ pub use join_words::{FunctionIR, JoinCoalesce, JoinType, RenamePair};
 pub use laws::typed_names_are_known;
 pub use physical::{PhysicalExpr, PhysicalPipedExpr, to_physical};
 pub use try_clone::{copy_exprs, copy_named_exprs};
-pub use typing::{column_type, expr_type, type_of, unknown_name};
+pub use typing::{column_type, expr_type, type_of, type_over, unknown_name};

@@ -7,6 +7,7 @@ ghost use Rattle.pipe_expr.specs.Formula.{formula_of};
 ghost use Rattle.pipe_expr.specs.Types.{type_of as expr_type_of, type_of_column, unknown_column, is_integer, literal_type, arithmetic_type, comparison_type, not_type, logic_type, null_test_type};
 ghost use Rattle.pipe_expr.specs.Typing.{IsTold};
 
+use crate::column_types::ColumnTypes;
 use crate::error::ExprError;
 use crate::expr::Expr;
 use pipe_schema::{AnyValue, DataType, Field, Schema, Text};
@@ -126,15 +127,15 @@ fn null_test(inner: Option<DataType>) -> Option<DataType>
     }
 }
 
-/// The type of an expression over some fields, none where it has none.
-pub fn expr_type(expr: &Expr, schema: &[Field]) -> Option<DataType>
-    ensures { result ≡ expr_type_of (formula_of expr.now) schema.now }
+/// The type of an expression over columns that are found by their names, none where it has none.
+pub fn type_over<C: ColumnTypes>(expr: &Expr, columns: &C) -> Option<DataType>
+    ensures { result ≡ expr_type_of (formula_of expr.now) (C.fields columns.now) }
 {
     match expr {
-        Expr::Col(name) => column_type(name, schema),
+        Expr::Col(name) => columns.type_of_name(name),
         Expr::Lit { dtype, value } => literal(*dtype, value),
         Expr::Add(left, right) | Expr::Sub(left, right) | Expr::Mul(left, right) => {
-            arithmetic(expr_type(left, schema), expr_type(right, schema))
+            arithmetic(type_over(left, columns), type_over(right, columns))
         }
         Expr::Eq(left, right)
         | Expr::NotEq(left, right)
@@ -142,14 +143,35 @@ pub fn expr_type(expr: &Expr, schema: &[Field]) -> Option<DataType>
         | Expr::LtEq(left, right)
         | Expr::Gt(left, right)
         | Expr::GtEq(left, right) => {
-            comparison(expr_type(left, schema), expr_type(right, schema))
+            comparison(type_over(left, columns), type_over(right, columns))
         }
         Expr::And(left, right) | Expr::Or(left, right) => {
-            logic(expr_type(left, schema), expr_type(right, schema))
+            logic(type_over(left, columns), type_over(right, columns))
         }
-        Expr::Not(inner) => negation(expr_type(inner, schema)),
-        Expr::IsNull(inner) | Expr::IsNotNull(inner) => null_test(expr_type(inner, schema)),
+        Expr::Not(inner) => negation(type_over(inner, columns)),
+        Expr::IsNull(inner) | Expr::IsNotNull(inner) => null_test(type_over(inner, columns)),
     }
+}
+
+/// Fields, read one behind the other for a name.
+#[derive(Drop)]
+struct Fields<'a> {
+    fields: &'a [Field],
+}
+
+impl<'a> ColumnTypes for Fields<'a> {
+    ghost fields = { λ f. f.fields.now };
+
+    fn type_of_name(&self, name: &Text) -> Option<DataType> {
+        column_type(name, self.fields)
+    }
+}
+
+/// The type of an expression over some fields, none where it has none.
+pub fn expr_type(expr: &Expr, schema: &[Field]) -> Option<DataType>
+    ensures { result ≡ expr_type_of (formula_of expr.now) schema.now }
+{
+    type_over(expr, &Fields { fields: schema })
 }
 
 /// The first name of an expression, read left to right, that no field has.
