@@ -44,7 +44,7 @@ fn spec_of(alloc: Global, plan: &CheckedPlan, n: u32) -> Result<Option<Arc<JoinS
     }
 }
 
-/// The same where the node is under the root, and none of any other.
+/// The settings of the join at a node that is under the root; none of any other node.
 fn spec_under(
     alloc: Global,
     plan: &CheckedPlan,

@@ -58,7 +58,7 @@ fn node_sink<H: KeyHasher>(
     Ok(Some(sink))
 }
 
-/// The same of a node that is under the root, and none of any other.
+/// The sink of a node that is under the root, where it has one; none of any other node.
 fn sink_under<H: KeyHasher>(
     alloc: Global,
     plan: &CheckedPlan,

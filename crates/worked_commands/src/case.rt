@@ -53,7 +53,7 @@ pub(crate) const PLAIN: Case<'static> = Case {
 };
 
 impl Failing {
-    /// The same with a further setting.
+    /// With a further setting.
     fn with(self, name: &str, value: &str) -> Failing {
         let number = value.parse::<u64>().ok();
         match name {
@@ -79,7 +79,7 @@ impl Failing {
 }
 
 impl<'a> Case<'a> {
-    /// The same with a further setting.
+    /// With a further setting.
     fn with(self, name: &'a str, value: &'a str) -> Case<'a> {
         let failing = self.failing.with(name, value);
         match name {

@@ -74,7 +74,7 @@ fn tell_by<T: Threads + Wait + Sync>(
 /// The workers of these runs, and the rows of a chunk.
 const NUMBERS: &str = "1 4294967295|1 1|3 1|5 2|256 1";
 
-/// The same of one plan by one worker and by many.
+/// Tells of one plan, by one worker and by many, how the first run ends that no question stops.
 pub(crate) fn tell_to_each_question<T: Threads + Wait + Sync>(
     rt: &T,
     alloc: Global,

@@ -32,7 +32,7 @@ const FULL_RIGHT: WrittenJoin = WrittenJoin {
     ..INNER_ON_K
 };
 
-/// The same with one column for both keys.
+/// The full join whose right side is built, with one column for both keys.
 const COALESCED: WrittenJoin = WrittenJoin {
     coalesce: JoinCoalesce::CoalesceColumns,
     ..FULL_RIGHT

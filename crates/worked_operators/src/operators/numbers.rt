@@ -29,7 +29,7 @@ pub(crate) fn split_pieces(alloc: Global) -> Result<String, AllocError> {
     format!(in alloc; "# 10 rows in 3 pieces\n{text}")
 }
 
-/// The same pieces, joined two by two.
+/// Ten rows in three pieces, joined two by two.
 pub(crate) fn joined_pieces(alloc: Global) -> Result<String, AllocError> {
     let mut pieces = split_offsets(alloc, 10, 3)?;
     combine_offsets(&mut pieces);
