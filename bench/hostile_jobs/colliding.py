@@ -3,13 +3,14 @@
 
     bench/hostile_jobs/colliding.py [--rows N ..] [--rounds N] [--program FILE ..]
 
-The hash of a key is FNV-1a of its encoding, which anyone can compute. Here all keys of both sides agree in its low 22
-bits, so that they would stand behind one another in an index that begins its searches there, or in the whole of it.
-Each job is an inner join of two frames of one column: Int64, texts of six bytes, and texts of 60 bytes of one hash
-(each five of the blocks of one_hash.json, which lead the hash from one value to one value; they were found by short
-vectors of the lattice of what a block adds to it). The job beside it has as many random keys of the same kind. The
-jobs are run in turn; printed are the length of the job, the least seconds of all rounds, and their ratio. Without
---rows these are 400,000 rows a side, 250,000 of the long texts, and as many whole numbers as a job has room for.
+The hash of a key is FNV-1a of its encoding, which anyone can compute, and so is the word by which an index puts a key
+of one value of eight bytes. Here all keys of both sides agree in the low 22 bits of one of them, so that they would
+stand behind one another in an index that begins its searches there, or in the whole of the hash. Each job is an inner
+join of two frames of one column: Int64 by hash and by word, texts of six bytes, and texts of 60 bytes of one hash (each
+five of the blocks of one_hash.json, which lead the hash from one value to one value; they were found by short vectors
+of the lattice of what a block adds to it). The job beside it has as many random keys of the same kind. The jobs are run
+in turn; printed are the length of the job, the least seconds of all rounds, and their ratio. Without --rows these are
+400,000 rows a side, 250,000 of the long texts, and as many whole numbers as a job has room for.
 """
 
 import argparse
@@ -34,6 +35,9 @@ BITS = 22
 MASK = 2**BITS - 1
 BACK = pow(PRIME, -1, 2**BITS)
 TARGET = 0x155AA5
+# What values are multiplied by, and its inverse modulo 2^64.
+SPREAD = 1_459_730_039_949_522_579
+UNSPREAD = pow(SPREAD, -1, 2**64)
 
 
 def after(state, encoded):
@@ -81,6 +85,13 @@ def hostile_numbers(count):
     return [int.from_bytes(key, "little", signed=True) for key in keys]
 
 
+def numbers_of_one_word(count):
+    """Numbers whose words end in 22 zeros: a word is a number times SPREAD modulo 2^64, with its halves exchanged."""
+    words = [number << BITS for number in range(count)]
+    keys = [(word % 2**32 * 2**32 + word // 2**32) * UNSPREAD % 2**64 for word in words]
+    return [key - 2**64 if key >= 2**63 else key for key in keys]
+
+
 def random_numbers(count):
     drawn, numbers = random.Random(1), set()
     while len(numbers) < count:
@@ -115,6 +126,7 @@ def random_long_texts(count):
 # What collides, and what stands beside it, each with the type of its column.
 KINDS = {
     "Int64": ("Int64", hostile_numbers, random_numbers),
+    "Int64 by word": ("Int64", numbers_of_one_word, random_numbers),
     "texts of six": ("String", hostile_texts, random_texts),
     "texts of one hash": ("String", texts_of_one_hash, random_long_texts),
 }
@@ -162,7 +174,8 @@ def main():
             sys.exit(f"{program} isn't built: ./liskevar --version builds it")
     cases = [(kind, rows) for rows in given.rows or () for kind in KINDS]
     if not cases:
-        cases = [("Int64", 400_000), ("texts of six", 400_000), ("texts of one hash", ROWS_OF_LONG_TEXTS), ("Int64", ROWS_OF_A_JOB)]
+        cases = [(kind, 400_000) for kind in ("Int64", "Int64 by word", "texts of six")]
+        cases += [("texts of one hash", ROWS_OF_LONG_TEXTS), ("Int64", ROWS_OF_A_JOB), ("Int64 by word", ROWS_OF_A_JOB)]
     print("| program | keys | rows a side | MiB | workers | colliding s | random s | ratio |\n|---|---|---|---|---|---|---|---|")
     with tempfile.TemporaryDirectory() as folder:
         for kind, rows in cases:
