@@ -60,8 +60,8 @@ branch_lines job = flat_map ended (texts job.plan job.root)
 abbrev pub looks_at : (Task → List ℕ → Type 0) → Contract
 looks_at IsAnswer = record {
   kind = job_kind;
-  IsSoundRun = IsSoundJob;
-  IsRefusedRun = IsRefusedJob;
+  IsSound = IsSoundJob;
+  IsRefused = IsRefusedJob;
   HasMany = λ job n. ⊥;
   IsWithin = λ job. Unit {0};
   IsAnswer = IsAnswer;
@@ -95,8 +95,8 @@ jobs_of Holds = record {
 abbrev pub looks_at_those : (Task → Type 0) → (Task → List ℕ → Type 0) → Contract
 looks_at_those Holds IsAnswer = record {
   kind = jobs_of Holds;
-  IsSoundRun = IsSoundJob;
-  IsRefusedRun = IsRefusedJob;
+  IsSound = IsSoundJob;
+  IsRefused = IsRefusedJob;
   HasMany = λ job n. ⊥;
   IsWithin = λ job. Unit {0};
   IsAnswer = IsAnswer;
