@@ -138,16 +138,18 @@ pub(crate) fn append_columns(
     Ok(())
 }
 
-/// The places where truth values are true.
+/// The places where truth values are true: each place is written, and stays where its value is true, so that no branch
+/// hangs on the values.
 fn places_of_values(alloc: Global, values: &[bool]) -> Result<Vec<usize>, AllocError>
     ensures { IfOk result (λ places. places.items ≡ true_places 0 (map Some values.now)) }
 {
-    let mut places = Vec::new(alloc);
+    let mut places = vec![in alloc; 0; values.len()]?;
+    let mut count: usize = 0;
     for i in 0..values.len() {
-        if values[i] {
-            places.push(i)?;
-        }
+        places[count] = i;
+        count += usize::from(values[i]);
     }
+    places.truncate(count);
     Ok(places)
 }
 
