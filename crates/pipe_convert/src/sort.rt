@@ -5,7 +5,7 @@ ghost use Rattle.pipe_schema.specs.Rows.{Row};
 ghost use Rattle.pipe_plan.specs.Node as node;
 ghost use Rattle.pipe_plan.specs.PlanRows.{flag_at, sort_keys, slice_rows};
 ghost use Rattle.pipe_sort.specs.SortKeys.{AreWithin, by_key, by_keys, kept_by};
-ghost use Rattle.pipe_convert.specs.Converted.{IsNode, IsSinkOf, key_of};
+ghost use Rattle.pipe_convert.specs.Converted.{IsNode, IsSinkOf, sort_key};
 
 use pipe_check::CheckedPlan;
 use pipe_plan::{PlanSlice, SortOptions};
@@ -33,7 +33,7 @@ fn sort_key(
     options: &SortOptions,
     i: usize,
 ) -> Result<SortKey, AllocError>
-    ensures key { IfOk result (λ key. by_key key ≡ key_of schema.now name.now options.now i) }
+    ensures key { IfOk result (λ key. by_key key ≡ sort_key schema.now name.now options.now i) }
     ensures within { IfOk result (λ key. key.column < length schema.now) }
 {
     let _ = schema.len();

@@ -6,7 +6,7 @@ use Rattle.pipe_schema.proofs.Weights.{Same-from_bag}
 use Rattle.pipe_events.specs.Stages.{JoinStage, Stages, Joined, rows, reaches, IsStages, marks}
 use Rattle.pipe_events.specs.Worlds.{World, start, Event, is_sink, after}
 use Rattle.pipe_expr.specs.declared.join_words.JoinType.TheVariants as how
-use Rattle.pipe_events.specs.Schedules.{AllAllowed, run, IsComplete, FlagsAreMatches, marked_rows, ClosedSidesHaveTheirRows, ClosedProbesHaveTheirFlags, CompleteListsHaveTheirFlags, SemiJoinsKeepEachRowOnce, ListsJoin}
+use Rattle.pipe_events.specs.Schedules.{AllAllowed, run, IsComplete, FlagsAreMatches, flagged_rows, ClosedSidesHaveTheirRows, ClosedProbesHaveTheirFlags, CompleteListsHaveTheirFlags, SemiJoinsKeepEachRowOnce, ListsJoin}
 use Rattle.pipe_expr.specs.Shares.{matched_built}
 use Rattle.pipe_events.proofs.Every.{kept_run, kept_start}
 use Rattle.pipe_events.proofs.Facts.{all_flagged_rows, IsFlagged, Holds}
@@ -38,7 +38,7 @@ module _ (plan : Stages) (ok : IsStages plan) (events : List Event) (allowed : A
   complete_has_flags done k j lt e marking = as_matches k j (complete_flagged done k j lt e marking)
 
   pub semi_keeps : IsComplete plan end → (k : ℕ) (j : JoinStage) → k < plan.size → plan.stage k ≡ Joined j → j.join.how ≡ how.Semi → j.right_built ≡ false →
-      marked_rows plan end k j ≡ matched_built j.join j.right_built (rows plan j.probe) (rows plan j.build)
+      flagged_rows plan end k j ≡ matched_built j.join j.right_built (rows plan j.probe) (rows plan j.build)
   semi_keeps done k j lt e semi left = all_flagged_rows (rows plan) (end.flag k) j (complete_flagged done k j lt e (rw (semi, left) refl))
 
 pub closed_sides : ClosedSidesHaveTheirRows

@@ -74,8 +74,8 @@ CompleteListsHaveTheirFlags =
     FlagsAreMatches plan (run plan start events) k j
 
 -- the built rows whose key is flagged
-abbrev pub marked_rows : Stages → World → ℕ → JoinStage → List Row
-marked_rows plan w k j = filter (λ r. w.flag k (build_key j r)) (rows plan j.build)
+abbrev pub flagged_rows : Stages → World → ℕ → JoinStage → List Row
+flagged_rows plan w k j = filter (λ r. w.flag k (build_key j r)) (rows plan j.build)
 
 -- What the first marks of a semi join whose left side is built gave, each key's rows once, are the
 -- rows that it keeps; no flush is allowed there
@@ -85,7 +85,7 @@ SemiJoinsKeepEachRowOnce =
     IsComplete plan (run plan start events) →
     (k : ℕ) (j : JoinStage) → k < plan.size → plan.stage k ≡ Joined j → j.join.how ≡ how.Semi →
     j.right_built ≡ false →
-    marked_rows plan (run plan start events) k j ≡ matched_built j.join j.right_built
+    flagged_rows plan (run plan start events) k j ≡ matched_built j.join j.right_built
     (rows plan j.probe) (rows plan j.build)
 
 -- Lists may be joined, round by round

@@ -17,7 +17,7 @@ use Rattle.pipe_rows.specs.Encoded.{Encoded, equality_encoded, equality_rows}
 use Rattle.pipe_rows.specs.Encodings.{AreTypedRows}
 use Rattle.pipe_rows.specs.Equality.{IsRow, dtypes_of}
 use Rattle.pipe_recon.specs.Codes.{Code, HasTypedKey, codes_of, dtype_of, encoded_code, encoded_key, key_table, key_types}
-use Rattle.pipe_recon.specs.Reconciliation.{key_of}
+use Rattle.pipe_recon.specs.Reconciliation.{key_cells}
 use Rattle.pipe_recon.specs.declared.recon_spec.ReconSpec.{ReconSpec}
 
 -- ---- the frame of the key columns
@@ -50,7 +50,7 @@ rows_are keys columns some rows even = ap (column_rows columns) (height_is colum
 pub keys_encoded : (frame keys : Table) (on : List (List ℕ)) (columns : List Cells) (encoded : List Encoded) → encoded ≡ equality_rows columns → keys ≡ key_table on frame → 0 < length columns → keys.rows ≡ column_rows columns (length keys.rows) → AllOfHeight (length keys.rows) columns → encoded ≡ map (encoded_key frame.schema on) frame.rows
 keys_encoded frame keys on columns encoded e same some rows even =
     e ∙ ap (map equality_encoded) (rows_are keys columns some rows even ∙ ap (λ (t : Table). t.rows) same)
-    ∙ map_map equality_encoded (key_of frame.schema on) frame.rows
+    ∙ map_map equality_encoded (key_cells frame.schema on) frame.rows
 
 -- ---- their types
 
@@ -60,14 +60,14 @@ types_from i (field ∷ fields) rows = ap (λ ts. field.dtype ∷ ts) (types_fro
 
 pub keys_typed : (frame keys : Table) (on : List (List ℕ)) (columns : List Cells) → AreTypedRows columns (height_of columns) → columns ≡ columns_of keys → keys ≡ key_table on frame → 0 < length columns → keys.rows ≡ column_rows columns (length keys.rows) → AllOfHeight (length keys.rows) columns → All (HasTypedKey frame.schema on) frame.rows
 keys_typed frame keys on columns typed are same some rows even = λ k d lt.
-    let high : length keys.rows ≡ length frame.rows = ap (λ (t : Table). length t.rows) same ∙ length-map frame.rows (key_of frame.schema on) in
+    let high : length keys.rows ≡ length frame.rows = ap (λ (t : Table). length t.rows) same ∙ length-map frame.rows (key_cells frame.schema on) in
     let below : k < height_of columns = omega (arith, lt, high, height_is columns (length keys.rows) some even) in
     let types : dtypes_of columns ≡ key_types frame.schema on = ap dtypes_of are ∙ types_from 0 keys.schema keys.rows ∙ ap (λ (t : Table). map dtype_of t.schema) same in
-    let whole : column_rows columns (height_of columns) ≡ map (key_of frame.schema on) frame.rows = rows_are keys columns some rows even ∙ ap (λ (t : Table). t.rows) same in
-    let row : row_at columns k ≡ key_of frame.schema on (slice_index_or frame.rows k d) =
-    sym (get_or-map-range_with_len (row_at columns) 0 (height_of columns) k k (key_of frame.schema on d) below (omega arith))
-    ∙ ap (λ (l : List Row). slice_index_or l k (key_of frame.schema on d)) whole
-    ∙ get_or-map (key_of frame.schema on) frame.rows k d (key_of frame.schema on d) lt in
+    let whole : column_rows columns (height_of columns) ≡ map (key_cells frame.schema on) frame.rows = rows_are keys columns some rows even ∙ ap (λ (t : Table). t.rows) same in
+    let row : row_at columns k ≡ key_cells frame.schema on (slice_index_or frame.rows k d) =
+    sym (get_or-map-range_with_len (row_at columns) 0 (height_of columns) k k (key_cells frame.schema on d) below (omega arith))
+    ∙ ap (λ (l : List Row). slice_index_or l k (key_cells frame.schema on d)) whole
+    ∙ get_or-map (key_cells frame.schema on) frame.rows k d (key_cells frame.schema on d) lt in
     subst (λ (r : Row). IsRow (key_types frame.schema on) r) row (subst (λ (ts : List DataType). IsRow ts (row_at columns k)) types (typed k below))
 
 -- ---- codes

@@ -14,7 +14,7 @@ use Rattle.pipe_rows.specs.Equality.{IsRow, equality_row, has_null_cell}
 use Rattle.pipe_rows.proofs.EqualityLaw.{equal_rows, row_apart}
 use Rattle.pipe_expr.specs.Joins.{keys_match}
 use Rattle.pipe_recon.specs.Codes.{Code, code_of, encoded_code, key_types, same_code}
-use Rattle.pipe_recon.specs.Reconciliation.{key_of, meets}
+use Rattle.pipe_recon.specs.Reconciliation.{key_cells, meets}
 use Rattle.pipe_recon.specs.declared.recon_spec.ReconSpec.{ReconSpec}
 
 null_cells : (key : Row) → has_null_cell key ≡ list_any is_null_cell key
@@ -53,8 +53,8 @@ keys_tell dtypes a b nulls typed other =
     ∙ sym (codes_tell dtypes a b typed other nulls (has_null_cell a) (has_null_cell b) refl refl)
 
 -- rows whose keys have the same types
-pub met : (left right : Table) (spec : ReconSpec) (dtypes : List DataType) (l r : Row) → IsRow dtypes (key_of left.schema spec.on l) → IsRow dtypes (key_of right.schema spec.on r) → meets left right spec l r ≡ same_code (code_of left.schema spec l) (code_of right.schema spec r)
-met left right spec dtypes l r typed other = keys_tell dtypes (key_of left.schema spec.on l) (key_of right.schema spec.on r) spec.join_nulls typed other
+pub met : (left right : Table) (spec : ReconSpec) (dtypes : List DataType) (l r : Row) → IsRow dtypes (key_cells left.schema spec.on l) → IsRow dtypes (key_cells right.schema spec.on r) → meets left right spec l r ≡ same_code (code_of left.schema spec l) (code_of right.schema spec r)
+met left right spec dtypes l r typed other = keys_tell dtypes (key_cells left.schema spec.on l) (key_cells right.schema spec.on r) spec.join_nulls typed other
 
 -- codes the other way round
 bytes_turned : (a b : List ℕ) → bytes_eq a b ≡ bytes_eq b a

@@ -9,7 +9,7 @@ use Rattle.pipe_schema.specs.declared.data_type.DataType.{DataType}
 use Rattle.pipe_rows.specs.Equality.{IsRow}
 use Rattle.pipe_recon.specs.Codes.{Code, HasTypedKey, code_of, codes_of, key_types, partner_among, recon_by, same_code}
 use Rattle.pipe_recon.specs.Ends.{AreCodes}
-use Rattle.pipe_recon.specs.Reconciliation.{key_of, left_partner, met_by, meets, partner, reconciliation, right_partner}
+use Rattle.pipe_recon.specs.Reconciliation.{key_cells, left_partner, met_by, meets, partner, reconciliation, right_partner}
 use Rattle.pipe_recon.specs.declared.recon.Partner.{Partner}
 use Rattle.pipe_recon.specs.declared.recon.Recon.{Recon}
 use Rattle.pipe_recon.specs.declared.recon_spec.ReconSpec.{ReconSpec}
@@ -46,7 +46,7 @@ same_position p q c xs all = position_from-zero p xs ∙ same_from p q c 0 xs al
 module _ (left right : Table) (spec : ReconSpec) (same : key_types left.schema spec.on ≡ key_types right.schema spec.on) where
   -- a left and a right row whose keys have their types
   pub one_meets : (l r : Row) → HasTypedKey left.schema spec.on l → HasTypedKey right.schema spec.on r → meets left right spec l r ≡ same_code (code_of left.schema spec l) (code_of right.schema spec r)
-  one_meets l r typed other = met left right spec (key_types left.schema spec.on) l r typed (subst (λ (ts : List DataType). IsRow ts (key_of right.schema spec.on r)) (sym same) other)
+  one_meets l r typed other = met left right spec (key_types left.schema spec.on) l r typed (subst (λ (ts : List DataType). IsRow ts (key_cells right.schema spec.on r)) (sym same) other)
 
   left_by : (l : Row) → Each (HasTypedKey right.schema spec.on) right.rows → HasTypedKey left.schema spec.on l → left_partner left right spec l ≡ partner_among (codes_of right.schema spec right.rows) (code_of left.schema spec l)
   left_by l others typed = ap partner (same_position (meets left right spec l) (same_code (code_of left.schema spec l)) (code_of right.schema spec) right.rows (each_so (HasTypedKey right.schema spec.on) _ right.rows (λ r other. one_meets l r typed other) others))

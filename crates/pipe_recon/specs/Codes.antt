@@ -9,7 +9,7 @@ use Rattle.pipe_schema.specs.declared.field.Field.{Field}
 use Rattle.pipe_expr.specs.Projections.{fields_named}
 use Rattle.pipe_rows.specs.Encoded.{Encoded, equality_encoded}
 use Rattle.pipe_rows.specs.Equality.{IsRow}
-use Rattle.pipe_recon.specs.Reconciliation.{key_of, partner}
+use Rattle.pipe_recon.specs.Reconciliation.{key_cells, partner}
 use Rattle.pipe_recon.specs.declared.recon.Partner.{Partner}
 use Rattle.pipe_recon.specs.declared.recon.Recon.{Recon}
 use Rattle.pipe_recon.specs.declared.recon_spec.ReconSpec.{ReconSpec}
@@ -24,7 +24,7 @@ encoded_code join_nulls key =
 
 -- the encoded key of a row
 abbrev pub encoded_key : List Field → List (List ℕ) → Row → Encoded
-encoded_key schema on row = equality_encoded (key_of schema on row)
+encoded_key schema on row = equality_encoded (key_cells schema on row)
 
 -- the code of a row
 abbrev pub code_of : List Field → ReconSpec → Row → Code
@@ -59,11 +59,11 @@ recon_by left right = record {
 
 -- the cells of a row's key are of the key's types
 abbrev pub HasTypedKey : List Field → List (List ℕ) → Row → Type 0
-HasTypedKey schema on row = IsRow (key_types schema on) (key_of schema on row)
+HasTypedKey schema on row = IsRow (key_types schema on) (key_cells schema on row)
 
 -- the keys of a table's rows, as a table
 abbrev pub key_table : List (List ℕ) → Table → Table
 key_table on table = record {
   schema = fields_named table.schema on;
-  rows = map (key_of table.schema on) table.rows;
+  rows = map (key_cells table.schema on) table.rows;
 }

@@ -23,14 +23,14 @@ use Rattle.pipe_recon.specs.declared.recon.Recon.{Recon}
 use Rattle.pipe_recon.specs.declared.recon_spec.ReconSpec.{ReconSpec}
 
 -- the key of a row: its cells in the columns of these names
-abbrev pub key_of : List Field → List (List ℕ) → Row → Row
-key_of schema on row = row_named schema on row
+abbrev pub key_cells : List Field → List (List ℕ) → Row → Row
+key_cells schema on row = row_named schema on row
 
 -- whether a left and a right row meet: the cells of their keys are pairwise the same, null with null,
 -- and none of them is null unless nulls join
 abbrev pub meets : Table → Table → ReconSpec → Row → Row → Bool
 meets left right spec l r =
-    keys_match spec.join_nulls (key_of left.schema spec.on l) (key_of right.schema spec.on r)
+    keys_match spec.join_nulls (key_cells left.schema spec.on l) (key_cells right.schema spec.on r)
 
 abbrev pub met_by : Table → Table → ReconSpec → Row → Row → Bool
 met_by left right spec r l = meets left right spec l r

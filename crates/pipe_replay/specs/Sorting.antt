@@ -7,8 +7,8 @@ use Rattle.pipe_plan.specs.PlanRows.{flag_at}
 use Rattle.pipe_plan.specs.declared.ir.SortOptions.{SortOptions}
 
 -- the key of a name, the i-th of a sort
-abbrev pub key_of : List Field → List ℕ → SortOptions → ℕ → SortBy
-key_of schema name options i = record {
+abbrev pub sort_key : List Field → List ℕ → SortOptions → ℕ → SortBy
+sort_key schema name options i = record {
   column = unwrap_or (place_of name schema) 0;
   descending = flag_at options.descending i;
   nulls_last = flag_at options.nulls_last i;

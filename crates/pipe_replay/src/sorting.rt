@@ -4,7 +4,7 @@ ghost use Rattle.std.specs.Prelude.{◌≡◌, ◌<◌, ◌^◌, length, IfOk};
 ghost use Rattle.pipe_rows.specs.SortOrder.{sorted};
 ghost use Rattle.pipe_plan.specs.PlanRows.{flag_at, sort_keys, slice_rows};
 ghost use Rattle.pipe_sort.specs.SortKeys.{AreWithin, by_key, by_keys};
-ghost use Rattle.pipe_replay.specs.Sorting.{key_of};
+ghost use Rattle.pipe_replay.specs.Sorting.{sort_key};
 
 use crate::framing::framed;
 use pipe_frame::{DataFrame, Row};
@@ -34,7 +34,7 @@ fn sort_key(
     options: &SortOptions,
     i: usize,
 ) -> Result<SortKey, AllocError>
-    ensures key { IfOk result (λ key. by_key key ≡ key_of schema.now name.now options.now i) }
+    ensures key { IfOk result (λ key. by_key key ≡ sort_key schema.now name.now options.now i) }
     ensures within { IfOk result (λ key. key.column < length schema.now) }
 {
     let _ = schema.len();

@@ -15,7 +15,7 @@ use Rattle.pipe_run.specs.declared.entry.Entry.{Entry}
 use Rattle.pipe_run.specs.declared.stage.LaneFault.{LaneFault}
 use Rattle.pipe_run.specs.declared.stage.LaneFault.TheVariants.{Memory}
 use Rattle.pipe_run.specs.declared.lane.Lane.{Lane}
-use Rattle.pipe_run.specs.Claimed.{rows_in, rows_at, entries_for, entries_at, schema_in, IsOfSchema, drawn_at, drawn_in, past, Lot, Took}
+use Rattle.pipe_run.specs.Claimed.{rows_in, morsel_rows, entries_for, entries_at, schema_in, IsOfSchema, drawn_at, drawn_in, past, Lot, Took}
 use Rattle.std.specs.Option.{is_some}
 use Rattle.pipe_run.proofs.LaneSteps.{ran-none, ran-on}
 use Rattle.pipe_chain.specs.Chain.{AllServe}
@@ -23,13 +23,13 @@ use Rattle.pipe_run.specs.Lanes.{lane_operators, IsCalm, IsFit, SameLane, Ran}
 use Rattle.pipe_run.proofs.Limits.{over-whole}
 
 -- the rows of a chunk that is there
-pub rows-there : (ms : List Morsel) (n : ℕ) (m : Morsel) → n < length ms → m ≡ get_or ms n m → rows_at ms n ≡ rows_in m
+pub rows-there : (ms : List Morsel) (n : ℕ) (m : Morsel) → n < length ms → m ≡ get_or ms n m → morsel_rows ms n ≡ rows_in m
 rows-there [] n m less is = absurd (omega arith)
 rows-there (x ∷ ms) zero m less is = ap rows_in (sym is)
 rows-there (x ∷ ms) (suc n) m less is = rows-there ms n m (omega arith) is
 
 -- no row past the chunks
-pub rows-past : (ms : List Morsel) (n : ℕ) → length ms ≤ n → rows_at ms n ≡ []
+pub rows-past : (ms : List Morsel) (n : ℕ) → length ms ≤ n → morsel_rows ms n ≡ []
 rows-past [] n h = refl
 rows-past (x ∷ ms) zero h = absurd (omega arith)
 rows-past (x ∷ ms) (suc n) h = rows-past ms n (omega arith)

@@ -10,7 +10,7 @@ use Rattle.pipe_ops.specs.declared.source.Morsel.{Morsel}
 use Rattle.pipe_chain.specs.Sums.{total, SameItems}
 use Rattle.pipe_chain.proofs.SumLemmas.{total-append}
 use Rattle.pipe_schema.specs.declared.field.Field.{Field}
-use Rattle.pipe_run.specs.Claimed.{rows_at, past, Lot, chunks_lot, parts_lot, entries_for_part, rows_of_lot}
+use Rattle.pipe_run.specs.Claimed.{morsel_rows, past, Lot, chunks_lot, parts_lot, entries_for_part, rows_of_lot}
 use Rattle.pipe_run.specs.Dealt.{in_all, rows_of_all}
 use Rattle.pipe_run.specs.Flushes.{rows_of_parts}
 use Rattle.pipe_chain.proofs.Weighing.{within-by}
@@ -98,18 +98,18 @@ module _ {A : Type 0} (f g : ℕ → List A) (step : (n : ℕ) → f (n + 1) ≡
   flat-shift zero a = refl
   flat-shift (suc k) a = rw (step a, flat-shift k (a + 1)) refl
 
-rows-next : (m : Morsel) (ms : List Morsel) (n : ℕ) → rows_at (m ∷ ms) (n + 1) ≡ rows_at ms n
+rows-next : (m : Morsel) (ms : List Morsel) (n : ℕ) → morsel_rows (m ∷ ms) (n + 1) ≡ morsel_rows ms n
 rows-next m ms n = let e : n + 1 ≡ suc n = omega arith in rw e refl
 
-rows-none : (ns : List ℕ) → flat_map (rows_at []) ns ≡ []
+rows-none : (ns : List ℕ) → flat_map (morsel_rows []) ns ≡ []
 rows-none [] = refl
 rows-none (n ∷ ns) = rows-none ns
 
 -- those of the first so many chunks
-pub rows-first : (ms : List Morsel) (n : ℕ) → flat_map (rows_at ms) (range_with_len 0 n) ≡ rows_of_all (take n ms)
+pub rows-first : (ms : List Morsel) (n : ℕ) → flat_map (morsel_rows ms) (range_with_len 0 n) ≡ rows_of_all (take n ms)
 rows-first ms zero = refl
 rows-first [] (suc n) = rows-none (range_with_len 0 (suc n))
-rows-first (m ∷ ms) (suc n) = rw (flat-shift (rows_at (m ∷ ms)) (rows_at ms) (rows-next m ms) n 0, rows-first ms n) refl
+rows-first (m ∷ ms) (suc n) = rw (flat-shift (morsel_rows (m ∷ ms)) (morsel_rows ms) (rows-next m ms) n 0, rows-first ms n) refl
 
 one-total : (w : ℕ → ℕ) (xs : List ℕ) → total w xs ≡ rows_total w xs
 one-total w [] = refl

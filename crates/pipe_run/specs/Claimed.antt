@@ -18,10 +18,10 @@ use Rattle.pipe_run.specs.Lanes.{IsCalm, Ran}
 abbrev pub rows_in : Morsel → List Row
 rows_in morsel = morsel.chunk.frame.rows
 
-abbrev pub rows_at : List Morsel → ℕ → List Row
-rows_at [] n = []
-rows_at (m ∷ ms) zero = rows_in m
-rows_at (m ∷ ms) (suc n) = rows_at ms n
+abbrev pub morsel_rows : List Morsel → ℕ → List Row
+morsel_rows [] n = []
+morsel_rows (m ∷ ms) zero = rows_in m
+morsel_rows (m ∷ ms) (suc n) = morsel_rows ms n
 
 -- what a lane notes of a chunk, and of that of a number, nothing past the last
 abbrev pub entries_for : Morsel → List Entry
@@ -65,7 +65,7 @@ abbrev pub chunks_lot : List Morsel → Lot
 chunks_lot ms = record {
   count = length ms;
   from = schema_in ms;
-  rows = rows_at ms;
+  rows = morsel_rows ms;
   entries = entries_at ms;
 }
 

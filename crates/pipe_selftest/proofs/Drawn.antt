@@ -13,7 +13,7 @@ use Rattle.pipe_column.specs.Series.{Cells, cell_at, named_cells}
 use Rattle.pipe_schema.specs.declared.any_value.AnyValue.TheVariants as cell
 use Rattle.pipe_schema.specs.declared.data_type.DataType.TheVariants as dtype
 use Rattle.pipe_schema.specs.declared.field.Field.{Field}
-use Rattle.pipe_selftest.specs.Frames.{columns_from, frame_from, key_at, key_of, next, number_at, row_of, state_after}
+use Rattle.pipe_selftest.specs.Frames.{columns_from, frame_from, key_at, drawn_key, next, number_at, row_of, state_after}
 
 -- ---- keys
 
@@ -24,9 +24,9 @@ pub state_more : (start i state : ℕ) → state ≡ state_after start i → nex
 state_more start i state e = rw add-one (ap next e)
 
 -- one key more
-pub key_more : (start rows i state : ℕ) (keys : List (Option ℤ)) (x : Option ℤ) → map int64_cell keys ≡ map (key_at start rows) (range_with_len 0 i) → state ≡ state_after start i → int64_cell x ≡ key_of rows i (next state) → map int64_cell (keys ++ x ∷ []) ≡ map (key_at start rows) (range_with_len 0 (i + 1))
+pub key_more : (start rows i state : ℕ) (keys : List (Option ℤ)) (x : Option ℤ) → map int64_cell keys ≡ map (key_at start rows) (range_with_len 0 i) → state ≡ state_after start i → int64_cell x ≡ drawn_key rows i (next state) → map int64_cell (keys ++ x ∷ []) ≡ map (key_at start rows) (range_with_len 0 (i + 1))
 key_more start rows i state keys x h e k =
-    let key : int64_cell x ≡ key_at start rows i = k ∙ ap (λ s. key_of rows i (next s)) e in
+    let key : int64_cell x ≡ key_at start rows i = k ∙ ap (λ s. drawn_key rows i (next s)) e in
     map-append int64_cell keys (x ∷ [])
     ∙ ap (λ l. l ++ int64_cell x ∷ []) h
     ∙ ap (λ c. map (key_at start rows) (range_with_len 0 i) ++ c ∷ []) key

@@ -32,13 +32,13 @@ abbrev pub key_count : ℕ → ℕ
 key_count rows = rows / 2 + 1
 
 -- the key of a row, by the state that is drawn for it: each sixteenth key is null
-abbrev pub key_of : (rows i state : ℕ) → AnyValue
-key_of rows i state =
+abbrev pub drawn_key : (rows i state : ℕ) → AnyValue
+drawn_key rows i state =
     if i % 16 == 15 then cell.Null else cell.Int64 (pos (state / 2 ^ 33 % key_count rows))
 
 -- the key of a row, where the states are drawn from this one on
 abbrev pub key_at : (start rows i : ℕ) → AnyValue
-key_at start rows i = key_of rows i (state_after start (suc i))
+key_at start rows i = drawn_key rows i (state_after start (suc i))
 
 -- the number of a row
 abbrev pub number_at : (i : ℕ) → AnyValue

@@ -18,11 +18,11 @@ lines inner left full =
     line (codes "inner") inner ++ line (codes "left") left ++ line (codes "full") full
 
 -- how many rows a join has
-abbrev pub rows_at : (root start rows : ℕ) → ℕ
-rows_at root start rows = length (rows_of (plan_from start rows) root)
+abbrev pub row_count : (root start rows : ℕ) → ℕ
+row_count root start rows = length (rows_of (plan_from start rows) root)
 
 -- the lines of a self-test
 abbrev pub selftest_lines : (start rows : ℕ) → List ℕ
 selftest_lines start rows =
-    lines (rows_at inner_root start rows) (rows_at left_root start rows)
-    (rows_at full_root start rows)
+    lines (row_count inner_root start rows) (row_count left_root start rows)
+    (row_count full_root start rows)

@@ -3,7 +3,7 @@
 ghost use Rattle.std.specs.Prelude.{◌≡◌, ◌∷◌, [], map, IfOk};
 ghost use Rattle.std.specs.List.{range_with_len};
 ghost use Rattle.pipe_schema.specs.Cell.{int64_cell};
-ghost use Rattle.pipe_selftest.specs.Frames.{columns_from, frame_from, key_at, key_of, left_frame, next, number_at, right_frame, state_after};
+ghost use Rattle.pipe_selftest.specs.Frames.{columns_from, frame_from, key_at, drawn_key, left_frame, next, number_at, right_frame, state_after};
 
 use pipe_column::{Column, Series};
 use pipe_frame::DataFrame;
@@ -25,8 +25,8 @@ fn next(state: u64) -> u64
 
 /// The key of a row, by the state that is drawn for it; none where it is null.
 #[tactic(auto, using(crate::proofs::Drawn::few_keys))]
-fn key_of(rows: u32, i: u32, state: u64) -> Option<i64>
-    ensures { int64_cell result ≡ key_of rows i state }
+fn drawn_key(rows: u32, i: u32, state: u64) -> Option<i64>
+    ensures { int64_cell result ≡ drawn_key rows i state }
 {
     if i % 16 == 15 {
         return None;
@@ -46,7 +46,7 @@ fn keys_from(alloc: Global, start: u64, rows: u32) -> Result<(Column<i64>, u64),
     let mut state = start;
     for i in 0..rows {
         state = next(state);
-        keys.push_option(key_of(rows, i, state), 0)?;
+        keys.push_option(drawn_key(rows, i, state), 0)?;
     }
     Ok((keys, state))
 }

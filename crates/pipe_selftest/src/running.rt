@@ -10,7 +10,7 @@ ghost use Rattle.pipe_plan.specs.Plan.{plan_of};
 ghost use Rattle.pipe_plan.specs.PlanRows.{rows_of};
 ghost use Rattle.pipe_selftest.specs.Ends.{Ends, IsWithin};
 ghost use Rattle.pipe_selftest.specs.Joins.{config, full_root, inner_root, left_root, plan_from};
-ghost use Rattle.pipe_selftest.specs.Lines.{rows_at};
+ghost use Rattle.pipe_selftest.specs.Lines.{row_count};
 
 use crate::arena::selftest_arena;
 use pipe_exec::run_plan;
@@ -103,9 +103,9 @@ pub fn selftest<R: Threads + Sync, C: StopCheck, G: Gate + Sync>(
 ) -> Result<JoinCounts, PipeError>
     requires some { 1 ≤ rows }
     requires few { rows ≤ 1000000 }
-    ensures inner { IfOk result (λ counts. counts.inner ≡ rows_at inner_root start rows) }
-    ensures left { IfOk result (λ counts. counts.left ≡ rows_at left_root start rows) }
-    ensures full { IfOk result (λ counts. counts.full ≡ rows_at full_root start rows) }
+    ensures inner { IfOk result (λ counts. counts.inner ≡ row_count inner_root start rows) }
+    ensures left { IfOk result (λ counts. counts.left ≡ row_count left_root start rows) }
+    ensures full { IfOk result (λ counts. counts.full ≡ row_count full_root start rows) }
     ensures within { OnOk result (IsWithin (plan_from start rows)) }
     ensures err { IfErr result (Ends (plan_from start rows)) }
     ensures asked { OnOk result (Rises (C.asked stop.old) (C.asked stop.new)) }

@@ -4,7 +4,7 @@ ghost use Rattle.std.specs.Prelude.{◌≡◌, ◌≤◌, ℕ, List, true, IfOk,
 ghost use Rattle.pipe_schema.specs.Counts.{Counts, Rises};
 ghost use Rattle.pipe_selftest.specs.Ends.{IsWithin};
 ghost use Rattle.pipe_selftest.specs.Joins.{full_root, inner_root, left_root, plan_from};
-ghost use Rattle.pipe_selftest.specs.Lines.{rows_at};
+ghost use Rattle.pipe_selftest.specs.Lines.{row_count};
 ghost use Rattle.pipe_cli.specs.Answers.{text_of};
 ghost use Rattle.pipe_cli.specs.Contract.{Answered, Causes};
 ghost use Rattle.pipe_cli.specs.Commands.SelfTestCommand.{selftest};
@@ -30,9 +30,9 @@ fn rows_of<T: Threads + Sync, C: StopCheck, G: Gate + Sync>(
 ) -> Result<JoinCounts, Refusal>
     requires some { 1 ≤ rows }
     requires few { rows ≤ 1000000 }
-    ensures inner { IfOk result (λ counts. counts.inner ≡ rows_at inner_root start rows) }
-    ensures left { IfOk result (λ counts. counts.left ≡ rows_at left_root start rows) }
-    ensures full { IfOk result (λ counts. counts.full ≡ rows_at full_root start rows) }
+    ensures inner { IfOk result (λ counts. counts.inner ≡ row_count inner_root start rows) }
+    ensures left { IfOk result (λ counts. counts.left ≡ row_count left_root start rows) }
+    ensures full { IfOk result (λ counts. counts.full ≡ row_count full_root start rows) }
     ensures within { OnOk result (IsWithin (plan_from start rows)) }
     ensures err { (bytes : List ℕ) → IfErr result (λ r. Causes (selftest start rows) r bytes) }
     ensures only { IfErr result (λ r. OneOf (selftest start rows).statuses (status_of r)) }
