@@ -6,14 +6,14 @@ use Rattle.std.specs.List.Sorted.{IsNonDecreasingBy}
 use Rattle.std.proofs.lemmas.List.{take_all, append-nil, at_drop_more, take-append-le, drop-append-le, take-append-drop}
 use Rattle.std.proofs.lemmas.List.Sums.{sum_by-cons, sum_by-append}
 use Rattle.std.proofs.lemmas.List.Elements.{All-append}
-use Rattle.std.proofs.lemmas.List.Sorted.{IsNonDecreasingBy-push, IsNonDecreasingBy-short, IsPermutation-refl}
+use Rattle.std.proofs.lemmas.List.Sorted.{IsNonDecreasingBy-push, IsNonDecreasingBy-short}
 use Rattle.pipe_frame.specs.Chunks.{HasSchema, chunk_rows}
 use Rattle.pipe_frame.specs.Frame.{Table}
 use Rattle.pipe_schema.specs.Rows.{Row}
 use Rattle.pipe_frame.specs.declared.chunk.DataChunk.{DataChunk}
 use Rattle.pipe_schema.specs.declared.field.Field.{Field}
-use Rattle.pipe_source.specs.Ordered.{index_in, IsByIndex, AreRowsByIndex}
-use Rattle.pipe_source.specs.Runs.{Run, IsRun, IsUpTo, IsFrom, BeginsFrom, HasRunSchema, height_in, cut_rows, chunks_in, chunks_of, run_of}
+use Rattle.pipe_source.specs.Ordered.{index_in}
+use Rattle.pipe_source.specs.Runs.{IsRun, IsUpTo, IsFrom, BeginsFrom, height_in, cut_rows}
 use Rattle.pipe_source.specs.declared.chunk_run.Piece.{Piece}
 
 -- one piece more

@@ -3,7 +3,7 @@
 ghost use Rattle.std.specs.Prelude.{◌≡◌, ◌≤◌, true, [], ◌∷◌, ◌++◌, All, length, IfOk, OnOk, OnErr};
 ghost use Rattle.std.specs.List.{flat_map, sum_by};
 ghost use Rattle.std.specs.List.Sorted.{IsNonDecreasingBy};
-ghost use Rattle.pipe_frame.specs.Chunks.{HasSchema, chunk_rows, chunks_table};
+ghost use Rattle.pipe_frame.specs.Chunks.{HasSchema, chunk_rows};
 ghost use Rattle.pipe_frame.specs.declared.chunk.DataChunk.{DataChunk};
 ghost use Rattle.pipe_source.specs.Ordered.{index_in};
 ghost use Rattle.pipe_source.specs.Runs.{cut_rows, height_in, BeginsFrom, IsFrom, IsUpTo};
@@ -114,16 +114,6 @@ impl ChunkRun {
         self.pieces.push_reserved(piece);
         self.all.chunk_index = piece.chunk_index;
         Ok(())
-    }
-
-    /// The frame of all rows, without a copy.
-    pub(crate) fn into_frame(self, alloc: Global) -> Result<DataFrame, AllocError>
-        ensures frame { IfOk result (λ frame. frame ≡ chunks_table self.schema self.chunks) }
-        ensures rises { OnOk result (IsNonDecreasingBy index_in self.chunks) }
-    {
-        let ChunkRun { all, pieces } = self;
-        drop(pieces);
-        Ok(frame_of(alloc, all)?)
     }
 
     /// All rows as one chunk, without a copy.

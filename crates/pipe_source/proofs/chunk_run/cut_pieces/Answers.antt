@@ -1,4 +1,4 @@
-use Rattle.std.proofs.Common.{rules, ◌≡◌, ◌∙◌, ◌++◌, ◌≤◌, ◌+◌, List, ap, refl, length, drop, slice_index_or}
+use Rattle.std.proofs.Common.{rules, ◌∙◌, ◌++◌, ◌≤◌, ◌+◌, List, ap, refl, length, drop, slice_index_or}
 use Rattle.std.proofs.lemmas.List.{drop_all}
 use Rattle.pipe_frame.specs.Frame.{Table}
 use Rattle.pipe_source.specs.Runs.{cut_rows}

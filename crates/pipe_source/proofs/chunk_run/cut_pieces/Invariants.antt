@@ -1,6 +1,5 @@
-use Rattle.std.proofs.Common.{◌≡◌, ◌++◌, drop, length}
-use Rattle.std.specs.List.{sum_by}
-use Rattle.pipe_source.specs.Runs.{cut_rows, height_in}
+use Rattle.std.proofs.Common.{◌++◌, drop}
+use Rattle.pipe_source.specs.Runs.{cut_rows}
 use Rattle.pipe_source.proofs.RunLemmas.{IsCutSoFar}
 use Rattle.pipe_source.proofs.chunk_run.cut_pieces.Given as goal
 

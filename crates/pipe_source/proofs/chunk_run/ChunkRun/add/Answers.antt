@@ -1,6 +1,5 @@
-use Rattle.std.proofs.Common.{◌≡◌, ◌∙◌, ◌++◌, ◌∷◌, ◌≤◌, [], List, ap, sym, subst, refl}
+use Rattle.std.proofs.Common.{◌∙◌, ◌++◌, ◌∷◌, ◌≤◌, [], List, ap, sym, subst, refl}
 use Rattle.pipe_frame.specs.Frame.{Table}
-use Rattle.pipe_frame.specs.declared.chunk.DataChunk.{DataChunk}
 use Rattle.pipe_source.specs.Runs.{Run, IsRun}
 use Rattle.pipe_source.specs.declared.chunk_run.Piece.{Piece}
 use Rattle.pipe_source.proofs.RunLemmas.{is_run_of_more}
