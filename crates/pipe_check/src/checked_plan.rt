@@ -67,6 +67,14 @@ impl<'a> CheckedPlan<'a> {
         self.root
     }
 
+    /// Tells what was checked, for the proof of a caller that only borrows the plan: that it is well-formed. It does
+    /// nothing when it runs.
+    pub fn known_well_formed(&self)
+        ensures { IsWellFormed (plan_of self.now.arena) self.now.root }
+    {
+        let _ = self.root();
+    }
+
     /// The output schema of a node under the root.
     pub fn schema(&self, n: u32) -> &Schema
         requires { is_under (plan_of self.now.arena).nodes self.now.root n ≡ true }

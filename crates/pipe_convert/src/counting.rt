@@ -132,7 +132,7 @@ pub fn branch_counts(
         IfOk result (λ c. (n : ℕ) → number_at c.probers.left.items n
         ≡ passes n (ways_of checked root)) }
 {
-    let _ = plan.root();
+    plan.known_well_formed();
     let counts = counts_of(alloc, branches)?;
     Ok(counts)
 }

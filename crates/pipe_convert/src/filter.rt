@@ -24,7 +24,7 @@ pub fn filter_operator(
     requires { IsNode plan.now n (node.Filter input (formula_of predicate.now)) }
     ensures { IfOk result (⟦<Filter as RowByRow>⟧.is_of plan.now n input) }
 {
-    let _ = plan.root();
+    plan.known_well_formed();
     let named = NamedExpr {
         name: Text::from_str(alloc, "predicate")?,
         expr: predicate.try_clone()?,

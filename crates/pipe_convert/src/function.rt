@@ -24,7 +24,7 @@ pub fn function_operator(
     requires workers { 1 ≤ workers }
     ensures { IfOk result (⟦<FunctionOperator as RowByRow>⟧.is_of plan.now n input) }
 {
-    let _ = plan.root();
+    plan.known_well_formed();
     let _ = plan.schema(n).fields();
     Ok(FunctionOperator::new(alloc, function.try_clone()?, workers))
 }

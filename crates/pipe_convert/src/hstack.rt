@@ -24,7 +24,7 @@ pub fn hstack_operator(
     requires { IsNode plan.now n (node.HStack input (named_formulas_of exprs.now)) }
     ensures { IfOk result (⟦<Hstack as RowByRow>⟧.is_of plan.now n input) }
 {
-    let _ = plan.root();
+    plan.known_well_formed();
     let _ = plan.schema(n).fields();
     let schema = plan.schema(input);
     let made = physical_exprs(alloc, exprs, schema)?;

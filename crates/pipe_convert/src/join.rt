@@ -70,7 +70,7 @@ pub fn join_spec(
         ≡ join_over left_schema right_schema left_keys right_keys options.now) }
     ensures side { IfOk result (λ spec. spec.swapped ≡ swaps options.now) }
 {
-    let _ = plan.root();
+    plan.known_well_formed();
     let _ = plan.schema(n).fields();
     let left_schema = plan.schema(left);
     let right_schema = plan.schema(right);

@@ -19,7 +19,7 @@ fn spec_of(alloc: Global, plan: &CheckedPlan, n: u32) -> Result<Option<Arc<JoinS
     requires { IsUnder plan.now n }
     ensures { IfOk result (IsOfJoin plan.now n) }
 {
-    let _ = plan.root();
+    plan.known_well_formed();
     match numbered(plan, n) {
         IR::Join {
             left,
@@ -71,7 +71,7 @@ fn specs_under(
     requires sized { length under.now ≡ length (nodes_in plan.now) }
     ensures { IfOk result (λ specs. AreSpecs plan.now specs.items) }
 {
-    let _ = plan.root();
+    plan.known_well_formed();
     let nodes = node_count(plan);
     let mut specs = Vec::new(alloc);
     for n in 0..nodes {

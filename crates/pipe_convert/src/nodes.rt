@@ -15,7 +15,7 @@ pub fn numbered<'a>(plan: &CheckedPlan<'a>, n: u32) -> &'a IR
     requires { IsUnder plan.now n }
     ensures { node_of result.now ≡ node_at (nodes_in plan.now) n }
 {
-    let _ = plan.root();
+    plan.known_well_formed();
     &plan.arena().nodes.as_slice()[n as usize]
 }
 
@@ -23,7 +23,7 @@ pub fn numbered<'a>(plan: &CheckedPlan<'a>, n: u32) -> &'a IR
 pub fn node_count(plan: &CheckedPlan) -> u32
     ensures { result ≡ length (nodes_in plan.now) }
 {
-    let _ = plan.root();
+    plan.known_well_formed();
     plan.arena().nodes.as_slice().len() as u32
 }
 

@@ -23,7 +23,7 @@ pub fn projection_operator(
     requires { IsNode plan.now n (node.Select input (named_formulas_of exprs.now)) }
     ensures { IfOk result (⟦<Projection as RowByRow>⟧.is_of plan.now n input) }
 {
-    let _ = plan.root();
+    plan.known_well_formed();
     let _ = plan.schema(n).fields();
     let made = physical_exprs(alloc, exprs, plan.schema(input))?;
     Ok(ProjectionOperator::new(made))

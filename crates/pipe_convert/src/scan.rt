@@ -44,7 +44,7 @@ pub fn scan_frame(
     requires { IsNode plan.now n (node.DataFrameScan frame columns.now) }
     ensures { IfOk result (IsScanOf plan.now n) }
 {
-    let _ = plan.root();
+    plan.known_well_formed();
     let _ = plan.schema(n).fields();
     let frame = numbered(plan.arena().frames.as_slice(), frame);
     match columns {

@@ -20,7 +20,7 @@ pub fn simple_projection_operator(
     requires { IsNode plan.now n (node.SimpleProjection input columns.now) }
     ensures { IfOk result (⟦<SimpleProjectionOperator as RowByRow>⟧.is_of plan.now n input) }
 {
-    let _ = plan.root();
+    plan.known_well_formed();
     let _ = plan.schema(n).fields();
     let input_schema = plan.schema(input).try_clone()?;
     Ok(SimpleProjectionOperator::new(columns.try_clone()?, input_schema))

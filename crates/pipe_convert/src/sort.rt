@@ -92,7 +92,7 @@ pub fn sort_sink(
     requires { IsNode plan.now n (node.Sort input by.now options.now) }
     ensures { IfOk result (IsSinkOf plan.now n input) }
 {
-    let _ = plan.root();
+    plan.known_well_formed();
     let schema = plan.schema(input);
     let keys = keys_of(alloc, schema, by.as_slice(), options)?;
     let slice = slice_of(options.slice);

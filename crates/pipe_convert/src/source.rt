@@ -67,7 +67,7 @@ fn union_source(
     ensures union { IfOk result (IsUnionOf plan.now inputs.now) }
     ensures few { IfOk result (λ source. HasFewRows source.left) }
 {
-    let _ = plan.root();
+    plan.known_well_formed();
     if inputs.len() > u32::MAX as usize {
         return Err(AllocError);
     }
@@ -92,7 +92,7 @@ fn node_source(
     requires begins { kind_of (nodes_in plan.now) (node_of node.now) ≡ Begins }
     ensures { IfOk result (IsSourceAt plan.now n) }
 {
-    let _ = plan.root();
+    plan.known_well_formed();
     match node {
         IR::DataFrameScan { .. } => {
             let mut rows_left = MOST_ROWS;

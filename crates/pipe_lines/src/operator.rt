@@ -32,7 +32,7 @@ fn place_at(
     requires join { (meaning_in plan.now).is_join n ≡ true }
     ensures { IfOk result (IsPlaceAt plan.now specs.now n) }
 {
-    let _ = plan.root();
+    plan.known_well_formed();
     match settings_of(specs, n) {
         Some(spec) => Ok(get_dummy_operator(n, spec.clone()?)),
         None => unreachable!(),
@@ -55,7 +55,7 @@ fn node_operator<H: KeyHasher>(
     requires workers { 1 ≤ workers }
     ensures { IfOk result (IsOperatorAt plan.now specs.now n) }
 {
-    let _ = plan.root();
+    plan.known_well_formed();
     match node {
         IR::Filter { input, predicate } => {
             let operator = filter_operator(alloc, plan, n, *input, predicate)?;
@@ -100,6 +100,6 @@ pub fn get_operator<H: KeyHasher>(
     requires workers { 1 ≤ workers }
     ensures { IfOk result (IsOperatorAt plan.now specs.now n) }
 {
-    let _ = plan.root();
+    plan.known_well_formed();
     node_operator(alloc, plan, specs, n, numbered(plan, n), workers)
 }

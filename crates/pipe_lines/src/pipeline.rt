@@ -38,7 +38,7 @@ pub fn create_pipeline<H: KeyHasher>(
         layout.now.sinks.items layout.now.hasher layout.now.parts branch.now line.way) }
     ensures workers { IfOk result (IsLineFor workers) }
 {
-    let _ = plan.root();
+    plan.known_well_formed();
     let source = get_source(alloc, plan, branch.source)?;
     let nodes = pipe_nodes(alloc, plan, branch)?;
     let specs = layout.specs.as_slice();
@@ -64,7 +64,7 @@ pub fn create_pipelines<H: KeyHasher>(
         (map way_in lines.items)) }
     ensures workers { IfOk result (λ lines. AllByRecursion (IsLineFor workers) lines.items) }
 {
-    let _ = plan.root();
+    plan.known_well_formed();
     let mut lines = Vec::new(alloc);
     for branch in branches {
         lines.push(create_pipeline(alloc, branch, plan, layout, workers)?)?;

@@ -41,7 +41,7 @@ pub fn create_run<H: KeyHasher>(
 ) -> Result<(Vec<PipeLine<H>>, Slots<H>, SinkCounts), AllocError>
     ensures { IfOk result (λ r. IsRunFor H.hash_of plan.now context r.0.items r.1 r.2) }
 {
-    let _ = plan.root();
+    plan.known_well_formed();
     let workers = context.workers;
     let branches = cut(alloc, plan)?;
     let all = branches.as_slice();

@@ -39,7 +39,7 @@ fn build_sink<H: KeyHasher>(
     requires parts { 0 < parts }
     ensures { IfOk result (IsSinkAt plan.now specs.now hasher parts (at.Build n)) }
 {
-    let _ = plan.root();
+    plan.known_well_formed();
     let Some(spec) = settings_of(specs, n) else {
         unreachable!()
     };
@@ -62,7 +62,7 @@ fn sort_at(alloc: Global, plan: &CheckedPlan, n: u32, node: &IR) -> Result<SortS
     requires sorts { sorts_rows (node_of node.now) ≡ true }
     ensures { IfOk result (IsSortAt plan.now n) }
 {
-    let _ = plan.root();
+    plan.known_well_formed();
     match node {
         IR::Sort { input, by, options } => { Ok(sort_sink(alloc, plan, n, *input, by, options)?) }
         IR::DataFrameScan { .. }

@@ -50,7 +50,7 @@ fn node_sink<H: KeyHasher>(
     requires parts { 0 < parts }
     ensures { IfOk result (IsNodeSink plan.now specs.now hasher parts n) }
 {
-    let _ = plan.root();
+    plan.known_well_formed();
     let Some(at) = node_place(numbered(plan, n), n) else {
         return Ok(None);
     };
@@ -116,7 +116,7 @@ pub fn plan_sinks<H: KeyHasher>(
     requires parts { 0 < parts }
     ensures { IfOk result (λ sinks. AreSinks plan.now specs.now hasher parts sinks.items) }
 {
-    let _ = plan.root();
+    plan.known_well_formed();
     let under = marked_nodes(alloc, plan)?;
     let mut sinks = sinks_under(alloc, plan, under.as_slice(), specs, parts, hasher)?;
     let last = get_sink(alloc, plan, specs, SinkAt::Ordered, parts, hasher)?;

@@ -359,7 +359,7 @@ pub fn least_choice(
     ensures { let given = plan_of plan.now.arena in
         IfOk result (IsBest given sizes.now (choices_of given (root_of_parts given plan.now.root) Split)) }
 {
-    let _ = plan.arena();
+    plan.known_well_formed();
     least(alloc, plan, sizes, parts_root(plan), &Wish::Split)
 }
 

@@ -120,7 +120,7 @@ pub fn parts_line(alloc: Global, plan: &CheckedPlan, sizes: &[u64]) -> Result<Ve
     ensures { IfOk result (λ line.
         IsPartsLine (plan_of plan.now.arena) plan.now.root sizes.now line.items) }
 {
-    let _ = plan.arena();
+    plan.known_well_formed();
     match least_choice(alloc, plan, sizes)? {
         Some(found) => line_in_parts(alloc, plan, &found),
         None => match find_obstacle(alloc, plan)? {

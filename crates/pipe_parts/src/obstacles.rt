@@ -173,6 +173,6 @@ pub fn find_obstacle(alloc: Global, plan: &CheckedPlan) -> Result<Option<Obstacl
           wish = Split;
         })) }
 {
-    let _ = plan.arena();
+    plan.known_well_formed();
     obstacle_at(alloc, plan, parts_root(plan), &Wish::Split)
 }

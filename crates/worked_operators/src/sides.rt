@@ -34,7 +34,7 @@ fn numbered<'a>(plan: &CheckedPlan<'a>, n: u32) -> &'a IR
     requires { is_under (plan_of plan.now.arena).nodes plan.now.root n ≡ true }
     ensures { node_of result.now ≡ node_at (plan_of plan.now.arena).nodes n }
 {
-    let _ = plan.root();
+    plan.known_well_formed();
     &plan.arena().nodes.as_slice()[n as usize]
 }
 
@@ -92,7 +92,7 @@ fn join_of(
         IsNode plan.now n (node.Join left right left_on right_on options.now) }
     ensures { IfOk result AreSidesOrNone }
 {
-    let _ = plan.root();
+    plan.known_well_formed();
     let spec = join_spec(alloc, plan, n, left, right, left_on, right_on, options)?;
     let lefts = scanned(plan, left)?;
     let rights = scanned(plan, right)?;

@@ -36,7 +36,7 @@ fn numbered<'a>(plan: &CheckedPlan<'a>, n: u32) -> &'a IR
     requires { is_under (plan_of plan.now.arena).nodes plan.now.root n ≡ true }
     ensures { node_of result.now ≡ node_at (plan_of plan.now.arena).nodes n }
 {
-    let _ = plan.root();
+    plan.known_well_formed();
     &plan.arena().nodes.as_slice()[n as usize]
 }
 
@@ -75,7 +75,7 @@ fn extended(
 ) -> Result<String, AllocError>
     requires { IsNode plan.now n (node.HStack input (named_formulas_of exprs.now)) }
 {
-    let _ = plan.root();
+    plan.known_well_formed();
     let mut operator = hstack_operator(alloc, plan, n, input, exprs)?;
     let scan = scanned(plan, input)?;
     let Some(chunk) = scan else {
@@ -95,7 +95,7 @@ fn mapped(
 ) -> Result<String, AllocError>
     requires { IsNode plan.now n (node.MapFunction input function.now) }
 {
-    let _ = plan.root();
+    plan.known_well_formed();
     let mut operator = function_operator(alloc, plan, n, input, function, 1)?;
     let scan = scanned(plan, input)?;
     let Some(chunk) = scan else {

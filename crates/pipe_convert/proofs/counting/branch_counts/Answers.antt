@@ -13,7 +13,7 @@ pub returns-clause-sinks : goal.returns-clause-sinks
 returns-clause-sinks c = λ s.
     let plan = plan_of c.args.plan.now.arena in
     let root = c.args.plan.now.root in
-    c.in_ok-counts.ensures.sinks (sink_number plan root s) ∙ ap (numbered (sink_number plan root s)) c.requires.cut ∙ feeds_are plan root s c.root.ensures.good
+    c.in_ok-counts.ensures.sinks (sink_number plan root s) ∙ ap (numbered (sink_number plan root s)) c.requires.cut ∙ feeds_are plan root s c.known_well_formed.ensures
 
 pub returns-clause-probers : goal.returns-clause-probers
 returns-clause-probers c = λ n.

@@ -6,4 +6,4 @@ use Rattle.pipe_convert.proofs.function.function_operator.Goals as goal
 pub returns : goal.returns
 returns c =
     let whole = subst IsSchema c.schema.ensures c.fields.ensures.good in
-    rw (c.new.ensures.function, c.in_ok-try_clone.ensures) (function_of c.args.plan.now c.args.n c.args.input c.args.function.now c.new.ensures.pieces c.root.ensures.good c.requires.node whole)
+    rw (c.new.ensures.function, c.in_ok-try_clone.ensures) (function_of c.args.plan.now c.args.n c.args.input c.args.function.now c.new.ensures.pieces c.known_well_formed.ensures c.requires.node whole)

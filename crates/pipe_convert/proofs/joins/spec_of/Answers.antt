@@ -12,4 +12,4 @@ returns-in_ok-new-in-Join c = λ join.
     let made = c.in_ok-spec-in-Join in
     let at_n : IsNode c.args.plan.now c.args.n (node.Join x.left x.right (formulas_of x.left_on) (formulas_of x.right_on) x.options) = record { under = c.requires; is = sym c.numbered.ensures ∙ ap node_of x.is } in
     rw c.in_ok-new-in-Join.ensures.ok
-    (spec_is c.args.plan.now c.args.n x.left x.right (formulas_of x.left_on) (formulas_of x.right_on) x.options c.root.ensures.good at_n made.spec made.ensures.good (rw (c.as_slice-left_on.ensures, c.as_slice-right_on.ensures) at made.ensures.settings) made.ensures.side)
+    (spec_is c.args.plan.now c.args.n x.left x.right (formulas_of x.left_on) (formulas_of x.right_on) x.options c.known_well_formed.ensures at_n made.spec made.ensures.good (rw (c.as_slice-left_on.ensures, c.as_slice-right_on.ensures) at made.ensures.settings) made.ensures.side)

@@ -19,5 +19,5 @@ loop-n-preserved c =
 
 pub returns : goal.returns
 returns c =
-    specs_done c.args.plan.now c.loop-n.n c.loop-n.specs.items c.root.ensures.good
+    specs_done c.args.plan.now c.loop-n.n c.loop-n.specs.items c.known_well_formed.ensures
     (omega (arith, c.loop-n-test.false, c.loop-n.auto.n-end, c.node_count-nodes.ensures)) c.loop-n.invariant.sized c.loop-n.invariant.each

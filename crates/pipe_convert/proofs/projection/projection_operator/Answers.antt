@@ -8,10 +8,10 @@ use Rattle.pipe_convert.proofs.Operators.{input_under, exprs_typed, projection_o
 use Rattle.pipe_convert.proofs.projection.projection_operator.Goals as goal
 
 pub schema-requires-2 : goal.schema-requires-2
-schema-requires-2 c = input_under c.args.plan.now c.args.n c.args.input (node.Select c.args.input (named_formulas_of c.args.exprs.now)) refl c.root.ensures.good c.requires
+schema-requires-2 c = input_under c.args.plan.now c.args.n c.args.input (node.Select c.args.input (named_formulas_of c.args.exprs.now)) refl c.known_well_formed.ensures c.requires
 
 pub physical_exprs-requires : goal.physical_exprs-requires
-physical_exprs-requires c = rw c.schema-2.ensures (exprs_typed c.args.plan.now c.args.n c.args.input (named_formulas_of c.args.exprs.now) c.root.ensures.good c.requires)
+physical_exprs-requires c = rw c.schema-2.ensures (exprs_typed c.args.plan.now c.args.n c.args.input (named_formulas_of c.args.exprs.now) c.known_well_formed.ensures c.requires)
 
 pub returns : goal.returns
 returns c =
@@ -19,4 +19,4 @@ returns c =
     let e = c.in_ok-made.ensures in
     let P : List Field → Type 0 = λ s. AreMadeFor (λ p. p.schema) s c.in_ok-made.made in
     let made = subst P c.schema-2.ensures e.made in
-    rw c.new.ensures (projection_of c.args.plan.now c.args.n c.args.input (named_formulas_of c.args.exprs.now) (λ p. p.schema) (λ p. named_formula_of p.expr) c.in_ok-made.made c.root.ensures.good c.requires whole made e.same)
+    rw c.new.ensures (projection_of c.args.plan.now c.args.n c.args.input (named_formulas_of c.args.exprs.now) (λ p. p.schema) (λ p. named_formula_of p.expr) c.in_ok-made.made c.known_well_formed.ensures c.requires whole made e.same)

@@ -10,7 +10,7 @@ pub node_operator-requires-clause-under : goal.node_operator-requires-clause-und
 node_operator-requires-clause-under g c = λ κs lives. c.requires.through.1.under
 
 pub node_operator-requires-clause-through : goal.node_operator-requires-clause-through
-node_operator-requires-clause-through g c = λ κs lives. (ap lets_through c.numbered.ensures ∙ lets c.args.plan.now c.args.n c.requires.through.0 c.root.ensures.good c.requires.through.1)
+node_operator-requires-clause-through g c = λ κs lives. (ap lets_through c.numbered.ensures ∙ lets c.args.plan.now c.args.n c.requires.through.0 c.known_well_formed.ensures c.requires.through.1)
 
 pub node_operator-requires-clause-specs : goal.node_operator-requires-clause-specs
 node_operator-requires-clause-specs g c = λ κs lives. c.requires.specs

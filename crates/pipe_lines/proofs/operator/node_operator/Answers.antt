@@ -50,7 +50,7 @@ returns-in_ok-operator-in-MapFunction g c =
 
 pub returns-in-Union : goal.returns-in-Union
 returns-in-Union g c =
-    pass_at c.args.plan.now c.args.specs.now c.args.n c.in-Union.inputs (op.Pass c.new.result) c.root.ensures.good (record { under = c.requires.under; is = sym c.requires.is ∙ ap node_of c.in-Union.is })
+    pass_at c.args.plan.now c.args.specs.now c.args.n c.in-Union.inputs (op.Pass c.new.result) c.known_well_formed.ensures (record { under = c.requires.under; is = sym c.requires.is ∙ ap node_of c.in-Union.is })
     (λ s. tt) (λ s. refl) (λ schema s. refl) c.new.ensures (λ y given row. row)
 
 pub place_at-requires-clause-join : goal.place_at-requires-clause-join
@@ -62,4 +62,4 @@ pub returns-in_ok-place-in-Join : goal.returns-in_ok-place-in-Join
 returns-in_ok-place-in-Join g c =
     let x = c.in-Join in
     let at_n : IsNode c.args.plan.now c.args.n (node.Join x.left x.right (formulas_of x.left_on) (formulas_of x.right_on) x.options) = record { under = c.requires.under; is = sym c.requires.is ∙ ap node_of x.is } in
-    place_stands c.args.plan.now c.args.specs.now c.args.n c.in_ok-place-in-Join.place c.root.ensures.good (joins c.args.plan.now c.args.n x.left x.right (formulas_of x.left_on) (formulas_of x.right_on) x.options at_n) c.in_ok-place-in-Join.ensures
+    place_stands c.args.plan.now c.args.specs.now c.args.n c.in_ok-place-in-Join.place c.known_well_formed.ensures (joins c.args.plan.now c.args.n x.left x.right (formulas_of x.left_on) (formulas_of x.right_on) x.options at_n) c.in_ok-place-in-Join.ensures

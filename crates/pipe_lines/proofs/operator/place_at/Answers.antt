@@ -6,7 +6,7 @@ use Rattle.pipe_lines.proofs.SpecAt.{spec_some, spec_is}
 use Rattle.pipe_lines.proofs.operator.place_at.Goals as goal
 
 pub settings_of-requires : goal.settings_of-requires
-settings_of-requires c = spec_there c.args.plan.now c.args.specs.now c.args.n c.root.ensures.good c.requires.specs c.requires.join
+settings_of-requires c = spec_there c.args.plan.now c.args.specs.now c.args.n c.known_well_formed.ensures c.requires.specs c.requires.join
 
 pub unreachable-requires : goal.unreachable-requires
 unreachable-requires c = spec_some c.args.plan.now c.args.specs.now c.args.n c.settings_of.result.now c.requires.specs c.requires.join c.settings_of.ensures c.in-None.is

@@ -28,7 +28,7 @@ pub create_operators-requires-clause-through : goal.create_operators-requires-cl
 create_operators-requires-clause-through g c = λ κs lives. (
     let plan = c.args.plan.now in
     let branch = c.args.branch.now in
-    rw c.as_slice.ensures (through_from plan c.root.ensures.good branch.source branch.operators 0 branch.sinks (rest_first plan branch c.requires.branch) c.requires.ends))
+    rw c.as_slice.ensures (through_from plan c.known_well_formed.ensures branch.source branch.operators 0 branch.sinks (rest_first plan branch c.requires.branch) c.requires.ends))
 
 pub create_sinks-requires-clause-layout : goal.create_sinks-requires-clause-layout
 create_sinks-requires-clause-layout g c = λ κs lives. c.requires.layout
@@ -37,7 +37,7 @@ pub create_sinks-requires-clause-there : goal.create_sinks-requires-clause-there
 create_sinks-requires-clause-there g c = λ κs lives. (
     let plan = c.args.plan.now in
     let branch = c.args.branch.now in
-    rw c.as_slice-2.ensures (all_there plan c.root.ensures.good branch.source branch.operators 0 branch.sinks (rest_first plan branch c.requires.branch)))
+    rw c.as_slice-2.ensures (all_there plan c.known_well_formed.ensures branch.source branch.operators 0 branch.sinks (rest_first plan branch c.requires.branch)))
 
 pub new-requires-clause-made : goal.new-requires-clause-made
 new-requires-clause-made g c = λ κs lives. (
@@ -83,7 +83,7 @@ returns-clause-line g c =
     let made = rw c.as_slice-2.ensures at c.in_ok-sinks.ensures in
     let are = rw (c.as_slice-specs.ensures.value, c.as_slice.ensures) at c.in_ok-operators.ensures in
     let cut = rw (nodes.operators, nodes.sinks) at line.legs in
-    let begins = begins_first plan c.root.ensures.good branch.source _ _ branch.sinks nodes.source nodes.scans in
+    let begins = begins_first plan c.known_well_formed.ensures branch.source _ _ branch.sinks nodes.source nodes.scans in
     line_is plan layout.specs.items layout.sinks.items layout.hasher layout.parts branch c.in_ok-line.line.way c.in_ok-source.source (line.start ∙ nodes.source) line.source c.in_ok-source.ensures
-    (legs_cut plan layout.specs.items layout.sinks.items layout.hasher layout.parts c.args.workers c.root.ensures.good branch.source branch.operators 0 _ _ c.in_ok-operators.operators.items branch.sinks c.in_ok-sinks.sinks.items c.in_ok-line.line.way.legs.items
+    (legs_cut plan layout.specs.items layout.sinks.items layout.hasher layout.parts c.args.workers c.known_well_formed.ensures branch.source branch.operators 0 _ _ c.in_ok-operators.operators.items branch.sinks c.in_ok-sinks.sinks.items c.in_ok-line.line.way.legs.items
     (rest_first plan branch c.requires.branch) are made begins cut)

@@ -20,8 +20,8 @@ loop-branch-init g c =
     let A : List Branch → Type 0 = AllByRecursion (IsBranch plan) in
     let E : List Branch → Type 0 = AllByRecursion HasEnds in
     record {
-      are = subst A (sym c.requires.cut) (all_branches plan c.root.ensures.good);
-      ends = subst E (sym c.requires.cut) (all_ends plan c.root.ensures.good);
+      are = subst A (sym c.requires.cut) (all_branches plan c.known_well_formed.ensures);
+      ends = subst E (sym c.requires.cut) (all_ends plan c.known_well_formed.ensures);
       behind = lines_first plan layout.specs.items layout.sinks.items layout.hasher layout.parts c.args.branches.now _ (ap (map way_in) c.new-lines.ensures.items);
       made_for = (let S : List (PipeLine g.row.H.Denot) → Type 0 = AllByRecursion (IsLineFor c.args.workers) in subst S (sym c.new-lines.ensures.items) tt);
     }

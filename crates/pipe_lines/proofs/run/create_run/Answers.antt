@@ -21,6 +21,6 @@ returns g c =
     let slots = c.in_ok-slots.ensures in
     let made = c.in_ok-pipelines.ensures in
     let nodes = c.node_count.ensures in
-    run_stands g.H.KeyHasher.hash_of c.args.plan.now c.in_ok-layout.layout c.args.context _ _ _ _ c.root.ensures.good layout.is layout.parts (c.as_slice-all.ensures ∙ c.in_ok-branches.ensures) made.lines made.workers
+    run_stands g.H.KeyHasher.hash_of c.args.plan.now c.in_ok-layout.layout c.args.context _ _ _ _ c.known_well_formed.ensures layout.is layout.parts (c.as_slice-all.ensures ∙ c.in_ok-branches.ensures) made.lines made.workers
     (record { long = slots.slots ∙ nodes; seated = slots.seats ∙ nodes; made_for = slots.workers; empty = slots.empty; given = slots.given ∙ nodes; none = slots.no_rows })
     (record { many = counts.many; each = counts.sinks })

@@ -30,4 +30,4 @@ pub returns : goal.returns
 returns g c =
     let x = node_at (nodes_in c.args.plan.now) c.args.n in
     let e : own_sink x c.args.n ≡ Some c.in-Some.at = ap (λ y. own_sink y c.args.n) (sym c.numbered.ensures) ∙ sym c.node_place.ensures ∙ c.in-Some.is in
-    sink_made c.args.plan.now c.args.specs.now c.args.hasher c.args.parts c.args.n x c.in-Some.at c.in_ok-sink.sink c.root.ensures.good c.requires.under refl e c.in_ok-sink.ensures
+    sink_made c.args.plan.now c.args.specs.now c.args.hasher c.args.parts c.args.n x c.in-Some.at c.in_ok-sink.sink c.known_well_formed.ensures c.requires.under refl e c.in_ok-sink.ensures

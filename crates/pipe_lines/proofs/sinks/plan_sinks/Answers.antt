@@ -20,4 +20,4 @@ pub get_sink-requires-clause-parts : goal.get_sink-requires-clause-parts
 get_sink-requires-clause-parts g c = λ κs lives. c.requires.parts
 
 pub returns : goal.returns
-returns g c = sinks_done c.args.plan.now c.args.specs.now c.args.hasher c.args.parts c.in_ok-sinks.sinks.items _ c.in_ok-last.last c.root.ensures.good c.in_ok-sinks.ensures c.in_ok-push.ensures.items c.in_ok-last.ensures
+returns g c = sinks_done c.args.plan.now c.args.specs.now c.args.hasher c.args.parts c.in_ok-sinks.sinks.items _ c.in_ok-last.last c.known_well_formed.ensures c.in_ok-sinks.ensures c.in_ok-push.ensures.items c.in_ok-last.ensures

@@ -5,4 +5,4 @@ use Rattle.pipe_convert.proofs.Operators.{input_under}
 use Rattle.worked_operators.proofs.operators.planned.extended.Goals as goal
 
 pub scanned-requires : goal.scanned-requires
-scanned-requires c = input_under c.args.plan.now c.args.n c.args.input (node.HStack c.args.input (named_formulas_of c.args.exprs.now)) refl c.root.ensures.good c.requires
+scanned-requires c = input_under c.args.plan.now c.args.n c.args.input (node.HStack c.args.input (named_formulas_of c.args.exprs.now)) refl c.known_well_formed.ensures c.requires

@@ -11,7 +11,7 @@ pub bounds-as_slice-n : goal.bounds-as_slice-n
 bounds-as_slice-n c =
     let checked = c.args.plan.now in
     let plan = plan_of checked.arena in
-    let g = granted plan checked.root c.args.n (node_at plan.nodes c.args.n) c.root.ensures.good c.requires refl in
+    let g = granted plan checked.root c.args.n (node_at plan.nodes c.args.n) c.known_well_formed.ensures c.requires refl in
     rw (c.as_slice.ensures, c.arena.ensures.arena) (omega (arith, length-map checked.arena.nodes node_of, g.there))
 
 pub returns : goal.returns
@@ -19,6 +19,6 @@ returns c =
     let checked = c.args.plan.now in
     let plan = plan_of checked.arena in
     let n = c.args.n in
-    let g = granted plan checked.root n (node_at plan.nodes n) c.root.ensures.good c.requires refl in
+    let g = granted plan checked.root n (node_at plan.nodes n) c.known_well_formed.ensures c.requires refl in
     let there : n < length checked.arena.nodes = omega (arith, length-map checked.arena.nodes node_of, g.there) in
     sym (node-there checked.arena.nodes n c.index-as_slice-n.result there (rw (c.as_slice.ensures, c.arena.ensures.arena) at c.index-as_slice-n.is))
