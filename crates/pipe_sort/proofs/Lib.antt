@@ -2,6 +2,7 @@ pub mod PrefixLaw
 pub mod Criteria
 pub mod EntryOrder
 pub mod DigitLaw
+pub mod WordLaw
 pub mod Runs
 pub mod RowBytes
 pub mod RowOrder

@@ -8,5 +8,7 @@ pub mod Prefix
 pub mod Entries
 -- the bytes that tell rows apart
 pub mod Digits
+-- rows of whole numbers as one number each
+pub mod Words
 -- a sort ends alike, in whatever order its rows came
 pub mod SortLaws

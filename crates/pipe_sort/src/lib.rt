@@ -11,6 +11,7 @@ mod sink;
 mod sorted;
 mod taking;
 mod ties;
+mod words;
 
 pub use key::{SortKey, SortSlice};
 pub use sink::SortSink;
