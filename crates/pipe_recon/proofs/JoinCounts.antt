@@ -97,7 +97,7 @@ module _ (j : Join) (P Q : Row → Type 0) (c d : Row → Code) (coded : AreCode
 
 column_keys : (left right : Table) (spec : ReconSpec) (l r : Row) → matches (full_join left right spec) l r ≡ meets left right spec l r
 column_keys left right spec l r =
-    ap (λ (k : Row). keys_match spec.join_nulls k (joins.key_cells right.schema (map Column spec.on) r)) (map_map (key_cell left.schema l) Column spec.on)
+    ap (λ (k : Row). keys_match spec.join_nulls k (joins.key_of right.schema (map Column spec.on) r)) (map_map (key_cell left.schema l) Column spec.on)
     ∙ ap (λ (k : Row). keys_match spec.join_nulls (key_cells left.schema spec.on l) k) (map_map (key_cell right.schema r) Column spec.on)
 
 tables_coded : (left right : Table) (spec : ReconSpec) → key_types left.schema spec.on ≡ key_types right.schema spec.on → AreCoded (full_join left right spec) (HasTypedKey left.schema spec.on) (HasTypedKey right.schema spec.on) (code_of left.schema spec) (code_of right.schema spec)
@@ -125,10 +125,10 @@ abbrev HasCode : (Row → Row) → Row → Type 0
 HasCode key row = key row ≡ binary_cell (row_code row) ∷ []
 
 abbrev left_key : Row → Row
-left_key row = joins.key_cells code_join.left code_join.left_on row
+left_key row = joins.key_of code_join.left code_join.left_on row
 
 abbrev right_key : Row → Row
-right_key row = joins.key_cells code_join.right code_join.right_on row
+right_key row = joins.key_of code_join.right code_join.right_on row
 
 rows_coded : AreCoded code_join (HasCode left_key) (HasCode right_key) row_code row_code
 rows_coded = record { agree = λ l r p q. ap (λ (k : Row). keys_match false k (right_key r)) p ∙ ap (λ (k : Row). keys_match false (binary_cell (row_code l) ∷ []) k) q ∙ one_key (row_code l) (row_code r) }
